@@ -1,0 +1,74 @@
+-- The shape of a field: its limits, the refusals 1 and 2, and its number of cells.
+use Prim.Native.Nat.{ℕ, _*_, _<_}
+use mathlib.Core.Bool.{Bool, cond, _&&_}
+use mathlib.Core.List.{List, [], _∷_}
+use mathlib.Core.Logic.{_⊎_}
+use mathlib.Core.Path.{_≡_}
+use lib.Dec.{leb, eqb}
+use Rattle.lattice.specs.Refusal.{Refusal, refusal, unless}
+use Rattle.lattice.specs.declared.shape.Shape.{Shape}
+
+-- the limits: W and H from 1 to 256, D from 1 to 16, W × H × D at most 65,536
+abbrev pub maxSide : ℕ
+maxSide = 256
+
+abbrev pub maxPlanes : ℕ
+maxPlanes = 16
+
+abbrev pub maxCells : ℕ
+maxCells = 65536
+
+-- the strength is 1 to 32 for a flat field, D = 1, and 1 to 8 for a stack
+abbrev pub maxFlatStrength : ℕ
+maxFlatStrength = 32
+
+abbrev pub maxStackStrength : ℕ
+maxStackStrength = 8
+
+-- no accepted shape has more classes: 32²/2
+abbrev pub maxClasses : ℕ
+maxClasses = 512
+
+unfoldable pub maxStrength : ℕ → ℕ
+maxStrength d = cond (eqb d 1) maxFlatStrength maxStackStrength
+
+-- x is at least `low` and at most `high`
+unfoldable pub inRange : ℕ → ℕ → ℕ → Bool
+inRange low high x = leb low x && leb x high
+
+unfoldable pub sizeOk : ℕ → ℕ → ℕ → Bool
+sizeOk w h d = inRange 1 maxSide w && inRange 1 maxSide h && inRange 1 maxPlanes d && leb (w * h * d) maxCells
+
+unfoldable pub strengthOk : ℕ → ℕ → Bool
+strengthOk d t = inRange 1 (maxStrength d) t
+
+-- the number for a shape: 1, then 2
+unfoldable pub shapeNumber : ℕ → ℕ → ℕ → ℕ → ℕ
+shapeNumber w h d t = unless (sizeOk w h d) 1 (unless (strengthOk d t) 2 0)
+
+abbrev pub numberOf : Shape → ℕ
+numberOf s = shapeNumber (s .columns) (s .rows) (s .planes) (s .strength)
+
+-- the constructor accepts these four numbers
+abbrev pub Accepted : Shape → Type 0
+Accepted s = numberOf s ≡ 0
+
+-- W × H × D
+abbrev pub cellsOf : Shape → ℕ
+cellsOf s = s .columns * s .rows * s .planes
+
+-- each refusal's condition by itself
+abbrev pub Outside : ℕ → ℕ → ℕ → Type 0
+Outside low high x = (x < low) ⊎ (high < x)
+
+-- 1: W, H, D or their product outside the limits
+unfoldable pub BadSize : ℕ → ℕ → ℕ → Type 0
+BadSize w h d = Outside 1 maxSide w ⊎ (Outside 1 maxSide h ⊎ (Outside 1 maxPlanes d ⊎ (maxCells < w * h * d)))
+
+-- 2: a strength outside the limits for that D
+unfoldable pub BadStrength : ℕ → ℕ → Type 0
+BadStrength d t = Outside 1 (maxStrength d) t
+
+-- the shape's refusals, in the listed order
+abbrev pub shapeRefusals : ℕ → ℕ → ℕ → ℕ → List Refusal
+shapeRefusals w h d t = refusal 1 (BadSize w h d) ∷ refusal 2 (BadStrength d t) ∷ []

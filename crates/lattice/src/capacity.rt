@@ -1,0 +1,77 @@
+// The capacity of a field: the sizes of its classes, and the cells of each that hold no check.
+ghost use mathlib.Core.Path.{_≡_};
+ghost use Prim.Native.Nat.{ℕ, _+_, _<_};
+ghost use lib.ListN.{length, getD};
+ghost use Rattle.lattice.specs.Refusal.{figure};
+ghost use Rattle.lattice.specs.Shape.{maxClasses, numberOf, cellsOf};
+ghost use Rattle.lattice.specs.Class.{classAt};
+ghost use Rattle.lattice.specs.Position.{size, checks, dataCells, capacity};
+use crate::class::class_at;
+use crate::shape::Shape;
+
+// The number of checks of a class of n cells: the bit length of n.
+pub fn checks(n: u32) -> u32
+    ensures { λ r. ⌜ r ≡ checks n ⌝ }
+{
+    32 - u32::leading_zeros(n)
+}
+
+// The number of cells of a class of n cells that hold no check.
+pub fn data_cells(n: u32) -> u32
+    ensures { λ r. ⌜ r ≡ dataCells n ⌝ }
+{
+    n - checks(n)
+}
+
+// Sets every entry to 0.
+fn clear(sizes: &mut [u32])
+    ensures { λ r. ⌜ ((a : ℕ) → getD (now (sizes .exit)) a 0 ≡ 0) ⌝ }
+{
+    let mut a = 0;
+    while a < sizes.len() {
+        sizes[a] = 0;
+        a += 1;
+    }
+}
+
+// Adds 1 to entry a, and leaves the others.
+fn count_one(sizes: &mut [u32], a: usize)
+    requires { ⌜ a < length (now sizes) ⌝ }
+    requires { ⌜ getD (now sizes) a 0 < 4294967295 ⌝ }
+    ensures { λ r. ⌜ getD (now (sizes .exit)) a 0 ≡ getD (now (sizes .entry)) a 0 + 1 ⌝ }
+    ensures others { λ r. ⌜ ((b : ℕ) → (b ≡ a → ⊥) → getD (now (sizes .exit)) b 0 ≡ getD (now (sizes .entry)) b 0) ⌝ }
+{
+    sizes[a] += 1;
+}
+
+// The size of each class; all 0 for a shape that the constructor refuses.
+pub fn class_sizes(shape: Shape, sizes: &mut [u32; Shape::MAX_CLASSES])
+    ensures { λ r. ⌜ ((a : ℕ) → a < maxClasses → getD (now (sizes .exit)) a 0 ≡ size (classAt shape) a (figure (numberOf shape) (cellsOf shape))) ⌝ }
+{
+    clear(sizes);
+    let settings = shape.settings();
+    let cells = shape.cells();
+    let mut i = 0;
+    while i < cells {
+        count_one(sizes, class_at(shape, settings, i as u32));
+        i += 1;
+    }
+}
+
+impl Shape {
+    // The number of cells that hold no check; 0 for a shape that the constructor refuses.
+    pub fn capacity(self) -> usize
+        ensures { λ r. ⌜ r ≡ figure (numberOf self) (capacity (classAt self) (cellsOf self)) ⌝ }
+    {
+        let mut sizes = [0u32; Shape::MAX_CLASSES];
+        class_sizes(self, &mut sizes);
+        let classes = self.classes();
+        let mut sum: usize = 0;
+        let mut a = 0;
+        while a < classes {
+            sum += data_cells(sizes[a]) as usize;
+            a += 1;
+        }
+        sum
+    }
+}

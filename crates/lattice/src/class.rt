@@ -1,0 +1,90 @@
+// The class of a cell.
+ghost use mathlib.Core.Path.{_≡_};
+ghost use Prim.Native.Nat.{_/_, _%_};
+ghost use Rattle.lattice.specs.Cell.{cell, cellAt};
+ghost use Rattle.lattice.specs.Class.{classWith, inside};
+ghost use Rattle.lattice.specs.Answer.{IsCellClass};
+use crate::settings::Settings;
+use crate::shape::Shape;
+
+pub enum CellClass {
+    Class(usize),
+    BadSize,
+    BadStrength,
+    OutsideShape,
+}
+
+// The quotient, 0 where b is 0.
+fn quotient(a: u32, b: u32) -> u32
+    ensures { λ r. ⌜ r ≡ a / b ⌝ }
+{
+    if b == 0 {
+        return 0;
+    }
+    a / b
+}
+
+// The remainder, a where b is 0.
+fn remainder(a: u32, b: u32) -> u32
+    ensures { λ r. ⌜ r ≡ a % b ⌝ }
+{
+    if b == 0 {
+        return a;
+    }
+    a % b
+}
+
+// (column − b × row − c × plane) mod m; the column where m is 0.
+pub fn class_with(settings: Settings, row: u32, plane: u32, column: u32) -> usize
+    ensures { λ r. ⌜ r ≡ classWith settings (cell row plane column) ⌝ }
+{
+    let m = settings.m as usize;
+    if m == 0 {
+        return column as usize;
+    }
+    let z = settings.b as usize * row as usize + settings.c as usize * plane as usize;
+    (column as usize + (m - z % m)) % m
+}
+
+// The class of the cell with a byte number, by the settings given.
+pub fn class_at(shape: Shape, settings: Settings, cell: u32) -> usize
+    ensures { λ r. ⌜ r ≡ classWith settings (cellAt shape cell) ⌝ }
+{
+    let line = quotient(cell, shape.columns as u32);
+    let row = remainder(line, shape.rows as u32);
+    let plane = quotient(line, shape.rows as u32);
+    let column = remainder(cell, shape.columns as u32);
+    class_with(settings, row, plane, column)
+}
+
+impl Shape {
+    // Does the cell lie in the field?
+    fn contains(self, row: usize, plane: usize, column: usize) -> bool
+        ensures { λ r. ⌜ r ≡ inside self (cell row plane column) ⌝ }
+    {
+        if row >= self.rows as usize {
+            return false;
+        }
+        if plane >= self.planes as usize {
+            return false;
+        }
+        column < self.columns as usize
+    }
+
+    // The class of the cell, or the refusal 1, 2 or 4.
+    pub fn class_of(self, row: usize, plane: usize, column: usize) -> CellClass
+        ensures { λ r. ⌜ IsCellClass self (cell row plane column) r ⌝ }
+    {
+        let number = self.refusal();
+        if number == 1 {
+            return CellClass::BadSize;
+        }
+        if number == 2 {
+            return CellClass::BadStrength;
+        }
+        if !self.contains(row, plane, column) {
+            return CellClass::OutsideShape;
+        }
+        CellClass::Class(class_with(self.settings(), row as u32, plane as u32, column as u32))
+    }
+}

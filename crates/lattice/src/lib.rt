@@ -1,0 +1,6 @@
+// Placing: the shape of a field, the interleaving class of a cell, the capacity, and the distance test.
+pub mod capacity;
+pub mod class;
+pub mod distance;
+pub mod settings;
+pub mod shape;
