@@ -1,0 +1,48 @@
+-- The stack settings: one test of the table, and the rule that it gives for each strength.
+use Prim.Native.Nat.{ℕ, zero, suc, _+_, _<_, _≤_}
+use mathlib.Core.Bool.{Bool, true}
+use mathlib.Core.Logic.{⊎-elim}
+use mathlib.Core.Path.{_≡_, refl, sym, subst}
+use native.Mathlib.Nat.{not-suc-le-zero, le-of-suc-le-suc, eq-or-lt-of-le}
+use borrow.Author.Tests.{eqb-true}
+use Rattle.lattice.specs.declared.settings.Settings.{Settings}
+use Rattle.lattice.specs.Shape.{inRange}
+use Rattle.lattice.specs.Settings.{stackSettings, stackTable}
+use Rattle.lattice.specs.Placing.{StackDistance}
+use Rattle.lattice.specs.Position.{allBelow}
+use Rattle.lattice.specs.Order.{order}
+use Rattle.lattice.specs.DistanceTest.{failsAt, outcome, testNumber, testStrengthOk, testSettingsOk, verdict}
+use Rattle.lattice.proofs.Bools.{and-left, and-right}
+use Rattle.lattice.proofs.TestMeaning.{testMeaning}
+
+-- the distance test holds for the settings at strength t
+abbrev holdsFor : ℕ → Settings → Bool
+holdsFor t k = verdict (k .m) (k .b) (k .c) t
+
+-- the one test of the table
+table-holds : allBelow (λ i. holdsFor (suc i) (stackSettings (suc i))) 8 ≡ true
+unfolding verdict outcome testNumber testStrengthOk testSettingsOk inRange failsAt order stackSettings stackTable
+table-holds = refl
+
+-- what passes at each number below n passes at each of them
+passes : (f : ℕ → Bool) (n : ℕ) → allBelow f n ≡ true → (i : ℕ) → i < n → f i ≡ true
+passes f zero e i l = absurd (not-suc-le-zero l)
+passes f (suc n) e i l =
+    ⊎-elim (λ h. subst (λ (k : ℕ). f k ≡ true) (sym h) (and-left (f n) (allBelow f n) e)) (λ h. passes f n (and-right (f n) (allBelow f n) e) i h)
+    (eq-or-lt-of-le (le-of-suc-le-suc l))
+
+row-holds : (t : ℕ) → 1 ≤ t → t ≤ 8 → holdsFor t (stackSettings t) ≡ true
+row-holds zero some most = absurd (not-suc-le-zero some)
+row-holds (suc i) some most = passes (λ j. holdsFor (suc j) (stackSettings (suc j))) 8 table-holds i most
+
+row-accepted : (t : ℕ) (k : Settings) → holdsFor t k ≡ true → testNumber (k .m) (k .b) (k .c) t ≡ 0
+unfolding verdict
+row-accepted t k e = eqb-true _ 0 (and-left _ _ e)
+
+-- Theorem. The stack settings keep different cells of one class at least t apart in the endless stack, for every strength of the table.
+pub stackDistance : StackDistance
+stackDistance t some most =
+    testMeaning (stackSettings t .m) (stackSettings t .b) (stackSettings t .c) t (row-accepted t (stackSettings t) holds) .0 holds
+  where
+    holds : holdsFor t (stackSettings t) ≡ true
+    holds = row-holds t some most

@@ -1,0 +1,76 @@
+-- `class_with` meets its contract: with settings of 16 bits and coordinates of 32 bits no product or sum wraps.
+use mathlib.Core.Path.{refl, sym}
+use native.Mathlib.Nat.{le-of-lt, le-trans, mod-lt, add-le-add, sub-le}
+use native.Mathlib.Omega.{arith}
+use borrow.Author.Needs.{needs}
+use mir.Facts.{fits-below}
+use Rattle.lattice.specs.Class.{classWith, minusMod}
+use Rattle.lattice.proofs.ClassBelow.{class-none}
+use Rattle.lattice.proofs.Widths.{most-16, most-32, product-16-32}
+use Rattle.lattice.proofs.class.class_with.Statement.{statement}
+use Rattle.lattice.proofs.class.class_with.Tie as tie
+
+cast-m : tie.Need-cast-m
+cast-m c = search needs
+
+returns : tie.Need-returns
+returns c = sym (class-none _ _ (c .if1 .taken))
+
+cast-z : tie.Need-cast-z
+cast-z c = search needs
+
+mul-z : tie.Need-mul-z
+mul-z c = fits-below tt (product-16-32 (c .struct-known2 .given .1 .0) (c .before .before .before .fits .row))
+
+cast-z-2 : tie.Need-cast-z-2
+cast-z-2 c = search needs
+
+mul-z-2 : tie.Need-mul-z-2
+mul-z-2 c =
+    fits-below tt (product-16-32 (c .struct-known3 .given .1 .1 .0) (c .before .before .before .before .fits .plane))
+
+add-z : tie.Need-add-z
+add-z c =
+    fits-below
+    tt
+    (add-le-add
+    (product-16-32 (c .struct-known3 .given .1 .0) (c .before .before .before .before .fits .row))
+    (product-16-32 (c .struct-known3 .given .1 .1 .0) (c .before .before .before .before .fits .plane)))
+
+rem-result : tie.Need-rem-result
+rem-result c = omega arith
+
+sub-result : tie.Need-sub-result
+sub-result c = le-of-lt (mod-lt _ (rem-result c))
+
+add-result : tie.Need-add-result
+add-result c =
+    fits-below
+    tt
+    (add-le-add
+    (most-32 (c .before .before .before .before .fits .column))
+    (le-trans (sub-le _ _) (most-16 (c .struct-known3 .given .0))))
+
+rem-result-2 : tie.Need-rem-result-2
+rem-result-2 c = rem-result c
+
+returns-2 : tie.Need-returns-2
+unfolding classWith minusMod
+returns-2 c = refl
+
+pub class-with-spec : {M : Type 1} → statement M
+class-with-spec =
+    tie.close
+    (tie.spec
+    cast-m
+    returns
+    cast-z
+    mul-z
+    cast-z-2
+    mul-z-2
+    add-z
+    rem-result
+    sub-result
+    add-result
+    rem-result-2
+    returns-2)
