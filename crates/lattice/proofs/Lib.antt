@@ -1,5 +1,5 @@
 -- Laws and theorems that belong to no one function.
-pub mod TestAtOne
+pub mod AtStrengthOne
 pub mod BitLength
 pub mod Blocks
 pub mod Bools

@@ -1,8 +1,8 @@
 // The class of a cell.
 ghost use mathlib.Core.Path.{_≡_};
-ghost use Prim.Native.Nat.{_/_, _%_};
+ghost use Prim.Native.Nat.{_/_, _%_, _<_};
 ghost use Rattle.lattice.specs.Cell.{cell, cellAt};
-ghost use Rattle.lattice.specs.Class.{classWith, inside};
+ghost use Rattle.lattice.specs.Class.{minusMod, classWith, inside};
 ghost use Rattle.lattice.specs.Answer.{IsCellClass};
 use crate::settings::Settings;
 use crate::shape::Shape;
@@ -34,6 +34,14 @@ fn remainder(a: u32, b: u32) -> u32
     a % b
 }
 
+// (a − z) mod m, from 0 to m − 1 also where z is above a.
+fn minus_mod(a: usize, z: usize, m: usize) -> usize
+    requires { ⌜ (0 < m) × (m < 65536) × (a < 1152921504606846976) ⌝ }
+    ensures { λ r. ⌜ r ≡ minusMod a z m ⌝ }
+{
+    (a + (m - z % m)) % m
+}
+
 // (column − b × row − c × plane) mod m; the column where m is 0.
 pub fn class_with(settings: Settings, row: u32, plane: u32, column: u32) -> usize
     ensures { λ r. ⌜ r ≡ classWith settings (cell row plane column) ⌝ }
@@ -43,7 +51,7 @@ pub fn class_with(settings: Settings, row: u32, plane: u32, column: u32) -> usiz
         return column as usize;
     }
     let z = settings.b as usize * row as usize + settings.c as usize * plane as usize;
-    (column as usize + (m - z % m)) % m
+    minus_mod(column as usize, z, m)
 }
 
 // The class of the cell with a byte number, by the settings given.

@@ -1,4 +1,5 @@
 -- `checks` meets its contract.
+use native.Mathlib.Omega.{arith}
 use lib.Count.{leading-le}
 use mir.Facts.{fits-lt-pow}
 use Rattle.lattice.proofs.BitLength.{checks-leading}
@@ -6,7 +7,7 @@ use Rattle.lattice.proofs.capacity.checks.Statement.{statement}
 use Rattle.lattice.proofs.capacity.checks.Tie as tie
 
 sub-result : tie.Need-sub-result
-sub-result c = leading-le 32 _
+sub-result c = omega (arith, leading-le 32 (c .args .n))
 
 returns : tie.Need-returns
 returns c = checks-leading _ (fits-lt-pow (c .fits .n))

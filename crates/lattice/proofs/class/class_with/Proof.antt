@@ -1,10 +1,10 @@
 -- `class_with` meets its contract: with settings of 16 bits and coordinates of 32 bits no product or sum wraps.
-use mathlib.Core.Path.{refl, sym}
-use native.Mathlib.Nat.{le-of-lt, le-trans, mod-lt, add-le-add, sub-le}
+use mathlib.Core.Path.{sym}
+use native.Mathlib.Nat.{add-le-add}
 use native.Mathlib.Omega.{arith}
 use borrow.Author.Needs.{needs}
 use mir.Facts.{fits-below}
-use Rattle.lattice.specs.Class.{classWith, minusMod}
+use Rattle.lattice.specs.Class.{classWith}
 use Rattle.lattice.proofs.ClassBelow.{class-none}
 use Rattle.lattice.proofs.Widths.{most-16, most-32, product-16-32}
 use Rattle.lattice.proofs.class.class_with.Statement.{statement}
@@ -37,40 +37,21 @@ add-z c =
     (product-16-32 (c .struct-known3 .given .1 .0) (c .before .before .before .before .fits .row))
     (product-16-32 (c .struct-known3 .given .1 .1 .0) (c .before .before .before .before .fits .plane)))
 
-rem-result : tie.Need-rem-result
-rem-result c = omega arith
-
-sub-result : tie.Need-sub-result
-sub-result c = le-of-lt (mod-lt _ (rem-result c))
-
-add-result : tie.Need-add-result
-add-result c =
-    fits-below
-    tt
-    (add-le-add
-    (most-32 (c .before .before .before .before .fits .column))
-    (le-trans (sub-le _ _) (most-16 (c .struct-known3 .given .0))))
-
-rem-result-2 : tie.Need-rem-result-2
-rem-result-2 c = rem-result c
+minus-mod-requires : tie.Need-minus-mod-requires
+minus-mod-requires c κs =
+    omega (
+      arith,
+      most-16 (c .struct-known3 .given .0),
+      most-32 (c .before .before .before .before .fits .column),
+      product-16-32 (c .struct-known3 .given .1 .0) (c .before .before .before .before .fits .row),
+      product-16-32 (c .struct-known3 .given .1 .1 .0) (c .before .before .before .before .fits .plane),
+    )
 
 returns-2 : tie.Need-returns-2
-unfolding classWith minusMod
-returns-2 c = refl
+unfolding classWith
+returns-2 c = c .minus-mod .ensures
 
 pub class-with-spec : {M : Type 1} → statement M
 class-with-spec =
     tie.close
-    (tie.spec
-    cast-m
-    returns
-    cast-z
-    mul-z
-    cast-z-2
-    mul-z-2
-    add-z
-    rem-result
-    sub-result
-    add-result
-    rem-result-2
-    returns-2)
+    (tie.spec cast-m returns cast-z mul-z cast-z-2 mul-z-2 add-z minus-mod-requires returns-2)
