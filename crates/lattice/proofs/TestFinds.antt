@@ -9,7 +9,7 @@ use Rattle.lattice.specs.DistanceTest.{outcome, testNumber, verdict, fou
 use Rattle.lattice.specs.Testing.{TestRefusedFigures, TestFinds, TestHolds}
 use Rattle.lattice.proofs.ScanMeaning.{found, missed}
 use Rattle.lattice.proofs.TestAnswer.{accepted-verdict, accepted-triple, accepted-tried, refused-verdict, refused-triple, refused-tried}
-use Rattle.lattice.proofs.TripleCount.{tripleCount}
+use Rattle.lattice.proofs.TripleCount.{orderLength}
 
 -- Beside any number but 0 the figures are no, (0, 0, 0) and 0.
 pub testRefusedFigures : TestRefusedFigures
@@ -37,4 +37,4 @@ pub testHolds : TestHolds
 unfolding outcome
 testHolds m b c t ok yes-verdict =
     let f = missed (settings m b c) (order t) (not-true (outcome m b c t .found) (sym (accepted-verdict m b c t ok) ∙ yes-verdict)) in
-    (accepted-tried m b c t ok ∙ f .tried ∙ tripleCount t, accepted-triple m b c t ok ∙ f .triple, f .each)
+    (accepted-tried m b c t ok ∙ f .tried ∙ orderLength t, accepted-triple m b c t ok ∙ f .triple, f .each)

@@ -7,6 +7,7 @@ use native.Mathlib.Omega.{arith}
 use lib.IntN.{ℤ, pos, negsuc, negℤ, natAbs, sucℤ}
 use lib.ListN.{length, length-append, length-map}
 use Rattle.lattice.specs.Order.{triple, run, span, columnsAt, planesAt, rowsAt, order}
+use Rattle.lattice.specs.Testing.{OrderLength}
 use Rattle.lattice.proofs.ScanOrder.{firstColumns, firstPlanes, allRows}
 
 length-run : (z : ℤ) (n : ℕ) → length (run z n) ≡ n
@@ -97,10 +98,10 @@ third : (x y : ℕ) → 3 * x ≡ y → x ≡ y / 3
 third x y e = omega arith
 
 -- Theorem. For every t the order has (t − 1)(2t² − t + 3)/3 triples.
-pub tripleCount : (t : ℕ) → length (order t) ≡ (t - 1) * (2 * (t * t) - t + 3) / 3
+pub orderLength : OrderLength
 unfolding order
-tripleCount zero = refl
-tripleCount (suc n) =
+orderLength zero = refl
+orderLength (suc n) =
     third (length (order (suc n))) (n * (2 * (n * n) + 3 * n + 4))
     (ap (λ i. 3 * length (firstColumns i ++ (firstPlanes i ++ allRows i))) before ∙ count-parts n)
     ∙ ap₂ (λ x y. x * y / 3) (sym before) factor

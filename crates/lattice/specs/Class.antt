@@ -1,5 +1,5 @@
 -- The interleaving class of a cell, and its refusals.
-use Prim.Native.Nat.{ℕ, _+_, _-_, _*_, _%_, _<_, _≤_}
+use Prim.Native.Nat.{ℕ, _+_, _-_, _*_, _%_, _≤_}
 use mathlib.Core.Bool.{Bool, _&&_}
 use mathlib.Core.List.{List, [], _∷_}
 use mathlib.Core.Logic.{_⊎_}
@@ -26,10 +26,11 @@ classOf s x = classWith (settingsOf s) x
 abbrev pub classAt : Shape → ℕ → ℕ
 classAt s i = classOf s (cellAt s i)
 
--- the number for the class of a cell: 1, 2, then 4 for a row, plane or column outside the shape
+-- the cell lies in the shape
 unfoldable pub inside : Shape → Cell → Bool
 inside s x = ltb (x .row) (s .rows) && ltb (x .plane) (s .planes) && ltb (x .column) (s .columns)
 
+-- the number for the class of a cell: 1, 2, then 4 for a row, plane or column outside the shape
 unfoldable pub classNumber : Shape → Cell → ℕ
 classNumber s x =
     unless (sizeOk (s .columns) (s .rows) (s .planes)) 1

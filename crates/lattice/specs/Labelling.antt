@@ -1,6 +1,6 @@
 -- Labellings: a label for each cell of a field, by any rule or none, and the number of labels used.
 use Prim.Native.Nat.{ℕ, zero, suc, _+_}
-use mathlib.Core.Bool.{Bool, true, false, cond, _||_}
+use mathlib.Core.Bool.{Bool, false, cond, _||_}
 use mathlib.Core.Path.{_≡_}
 use lib.Dec.{eqb}
 use Rattle.lattice.specs.declared.shape.Shape.{Shape}

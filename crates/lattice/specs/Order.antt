@@ -1,7 +1,7 @@
 -- The order in which the distance test tries difference triples (row, plane, column): rising by row, then plane, then column.
-use Prim.Native.Nat.{ℕ, zero, suc, _+_, _-_, _*_, _<_, _≤_}
+use Prim.Native.Nat.{ℕ, zero, suc, _+_, _-_, _<_, _≤_}
 use mathlib.Core.List.{List, [], _∷_, _++_, map}
-use mathlib.Core.Logic.{_⊎_, _↔_}
+use mathlib.Core.Logic.{_⊎_}
 use mathlib.Core.Path.{_≡_}
 use lib.IntN.{ℤ, pos, negℤ, sucℤ, natAbs, _-ℤ_}
 use lib.ListN.{length, getD}

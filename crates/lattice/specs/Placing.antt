@@ -1,7 +1,7 @@
 -- The theorems on placing: refusals, classes, clusters, the lower bound and the capacity. Each statement has one proof, of exactly
 -- this type, in proofs/.
-use Prim.Native.Nat.{ℕ, _+_, _-_, _*_, _^_, _<_, _≤_}
-use mathlib.Core.Logic.{_≢_, _⊎_}
+use Prim.Native.Nat.{ℕ, _-_, _^_, _<_, _≤_}
+use mathlib.Core.Logic.{_≢_}
 use mathlib.Core.Path.{_≡_}
 use Rattle.lattice.specs.declared.settings.Settings.{Settings}
 use Rattle.lattice.specs.declared.shape.Shape.{Shape}
@@ -9,11 +9,11 @@ use Rattle.lattice.specs.Refusal.{Settled}
 use Rattle.lattice.specs.Shape.{shapeNumber, shapeRefusals, Accepted, cellsOf, maxClasses, maxStackStrength}
 use Rattle.lattice.specs.Settings.{flatSettings, stackSettings, settingsOf}
 use Rattle.lattice.specs.Cell.{Cell, InField}
-use Rattle.lattice.specs.Cluster.{Cluster, AtMost, distance}
+use Rattle.lattice.specs.Cluster.{distance}
 use Rattle.lattice.specs.Labelling.{labels, Separates, differentValues}
 use Rattle.lattice.specs.Class.{classWith, classOf, classAt, classNumber, classGiven, classRefusals}
 use Rattle.lattice.specs.Endless.{pointOf, HasClass, Apart, ApartOnPlane}
-use Rattle.lattice.specs.Position.{size, checks, dataCells, capacity, sumBelow}
+use Rattle.lattice.specs.Position.{size, checks, capacity, sumBelow}
 
 -- Theorem (demand 1). The constructor's number is settled by its refusals in the listed order.
 abbrev pub ShapeRefused : Type 0

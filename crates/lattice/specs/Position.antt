@@ -1,7 +1,6 @@
 -- Positions in a class, check cells and the capacity, for any placement of cells in classes: `cls i` is the class of cell i.
 use Prim.Native.Nat.{ℕ, zero, suc, _+_, _^_}
 use mathlib.Core.Bool.{Bool, true, false, cond, not, _&&_, _||_}
-use mathlib.Core.Path.{_≡_}
 use lib.Dec.{eqb}
 
 -- how many of the numbers below n pass the test

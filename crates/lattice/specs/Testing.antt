@@ -1,6 +1,6 @@
 -- The theorems on the distance test. Each statement has one proof, of exactly this type, in proofs/.
-use Prim.Native.Nat.{ℕ, _+_, _-_, _*_, _/_, _<_, _≤_}
-use mathlib.Core.Bool.{Bool, true, false}
+use Prim.Native.Nat.{ℕ, _+_, _-_, _*_, _/_, _<_}
+use mathlib.Core.Bool.{true, false}
 use mathlib.Core.Logic.{_↔_}
 use mathlib.Core.Path.{_≡_}
 use lib.ListN.{length, getD}
@@ -20,7 +20,11 @@ TestRefusedFigures =
     (m b c t : ℕ) → ¬ (testNumber m b c t ≡ 0)
     → (verdict m b c t ≡ false) × (foundTriple m b c t ≡ origin) × (triplesTried m b c t ≡ 0)
 
--- Theorem. No settings are condemned with no triple tried: at t = 1, where there is none, accepted settings hold with the counter 0.
+-- Theorem. For every t the order has (t − 1)(2t² − t + 3)/3 triples.
+abbrev pub OrderLength : Type 0
+OrderLength = (t : ℕ) → length (order t) ≡ (t - 1) * (2 * (t * t) - t + 3) / 3
+
+-- Theorem. At t = 1, where there is no triple to try, no settings are condemned: accepted ones hold with the counter 0.
 abbrev pub TestAtOne : Type 0
 TestAtOne =
     (m b c : ℕ) → testNumber m b c 1 ≡ 0 → (verdict m b c 1 ≡ true) × (triplesTried m b c 1 ≡ 0)

@@ -129,14 +129,15 @@ fn scan_columns(k: Settings, row: i32, plane: i32, first: i32, count: u32) -> Sc
             plane: plane,
             column: column,
         };
-        tried += 1;
+        let place = tried + 1;
         if fails(k, triple) {
             return Scan {
                 found: true,
                 triple: triple,
-                tried: tried,
+                tried: place,
             };
         }
+        tried = place;
     }
     Scan::nothing(tried)
 }

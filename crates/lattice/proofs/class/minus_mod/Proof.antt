@@ -1,6 +1,6 @@
 -- `minus_mod` meets its contract.
 use mathlib.Core.Path.{refl}
-use native.Mathlib.Nat.{le-of-lt, mod-lt}
+use native.Mathlib.Nat.{mod-lt, mod-self}
 use native.Mathlib.Omega.{arith}
 use borrow.Author.Needs.{needs}
 use Rattle.lattice.specs.Class.{minusMod}
@@ -11,7 +11,7 @@ rem-result : tie.Need-rem-result
 rem-result c = search needs
 
 sub-result : tie.Need-sub-result
-sub-result c = le-of-lt (mod-lt _ (rem-result c))
+sub-result c = omega (arith, mod-lt (c .args .z) (c .pre .0), mod-self (c .args .m))
 
 add-result : tie.Need-add-result
 add-result c = search needs

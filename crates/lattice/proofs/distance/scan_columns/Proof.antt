@@ -31,8 +31,8 @@ loop-holds c =
 shifted-requires : tie.Need-shifted-requires Inv-loop μ-loop
 shifted-requires c κs = (omega (arith, upright-size (c .before .before .args .first) (omega arith)), omega arith)
 
-add-tried : tie.Need-add-tried Inv-loop μ-loop
-add-tried c = omega arith
+add-place : tie.Need-add-place Inv-loop μ-loop
+add-place c = omega arith
 
 fails-requires : tie.Need-fails-requires Inv-loop μ-loop
 fails-requires c κs =
@@ -111,7 +111,7 @@ scan-columns-spec =
     μ-loop
     loop-holds
     shifted-requires
-    add-tried
+    add-place
     fails-requires
     returns
     loop-less
