@@ -1,0 +1,49 @@
+-- Decoding, the papers' reading: its number, its count, and what it leaves in the lent payload.
+use Prim.Native.Nat.{ℕ}
+use mathlib.Core.Bool.{cond}
+use mathlib.Core.List.{List}
+use lib.Dec.{eqb}
+use lib.ListN.{length}
+use Rattle.lattice.specs.declared.shape.Shape.{Shape}
+use Rattle.lattice.specs.Refusal.{unless, figure}
+use Rattle.lattice.specs.Shape.{sizeOk, strengthOk, cellsOf}
+use Rattle.lattice.specs.Settings.{settingsOf}
+use Rattle.lattice.specs.Class.{classAt}
+use Rattle.codec.specs.Field.{Field, fieldOf, cellsOk, differences}
+use Rattle.codec.specs.Hamming.{allInReach, corrected}
+use Rattle.codec.specs.Payload.{paddingOk, heldPayload}
+use Rattle.codec.specs.Plan.{planBytes, planCells}
+
+-- the mended field
+abbrev pub mended : Shape → List ℕ → Field
+mended s field = corrected (classAt s) (cellsOf s) (fieldOf field)
+
+-- the tests of the field itself: 5 for a cell above 1, 6 for a class with no codeword in reach, 7 for wrong padding after mending
+unfoldable pub fieldNumber : Shape → List ℕ → ℕ
+fieldNumber s field =
+    unless (cellsOk (fieldOf field) (cellsOf s)) 5
+    (unless (allInReach (classAt s) (cellsOf s) (settingsOf s .m) (fieldOf field)) 6
+    (unless (paddingOk (classAt s) (cellsOf s) (mended s field)) 7
+    0))
+
+-- the number: 1, 2, then 3 for a payload buffer and 4 for a field whose length isn't the plan's, then the field's own
+unfoldable pub decodeNumber : Shape → List ℕ → List ℕ → ℕ
+decodeNumber s payload field =
+    unless (sizeOk (s .columns) (s .rows) (s .planes)) 1
+    (unless (strengthOk (s .planes) (s .strength)) 2
+    (unless (eqb (length payload) (planBytes s)) 3
+    (unless (eqb (length field) (planCells s)) 4
+    (fieldNumber s field))))
+
+-- the count of cells that mending turns over
+unfoldable pub mendedCount : Shape → List ℕ → ℕ
+mendedCount s field = differences (fieldOf field) (mended s field) (cellsOf s)
+
+-- the count that decoding gives
+unfoldable pub decodeCount : Shape → List ℕ → List ℕ → ℕ
+decodeCount s payload field = figure (decodeNumber s payload field) (mendedCount s field)
+
+-- what decoding leaves in the lent payload: the payload that the mended field holds, or beside a refusal its bytes
+unfoldable pub decodeLeaves : Shape → List ℕ → List ℕ → List ℕ
+decodeLeaves s payload field =
+    cond (eqb (decodeNumber s payload field) 0) (heldPayload (classAt s) (cellsOf s) (mended s field)) payload

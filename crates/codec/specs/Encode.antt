@@ -1,0 +1,30 @@
+-- Encoding, the papers' writing: its number, the field written from a payload, and what it leaves in the lent field.
+use Prim.Native.Nat.{ℕ}
+use mathlib.Core.Bool.{cond}
+use mathlib.Core.List.{List}
+use lib.Dec.{eqb}
+use lib.ListN.{length}
+use Rattle.lattice.specs.declared.shape.Shape.{Shape}
+use Rattle.lattice.specs.Refusal.{unless}
+use Rattle.lattice.specs.Shape.{sizeOk, strengthOk, cellsOf}
+use Rattle.lattice.specs.Class.{classAt}
+use Rattle.codec.specs.Field.{listOf}
+use Rattle.codec.specs.Payload.{encoded}
+use Rattle.codec.specs.Plan.{planBytes, planCells}
+
+-- the number: 1, 2, then 3 for a payload and 4 for a field whose length isn't the plan's
+unfoldable pub encodeNumber : Shape → List ℕ → List ℕ → ℕ
+encodeNumber s p field =
+    unless (sizeOk (s .columns) (s .rows) (s .planes)) 1
+    (unless (strengthOk (s .planes) (s .strength)) 2
+    (unless (eqb (length p) (planBytes s)) 3
+    (unless (eqb (length field) (planCells s)) 4
+    0)))
+
+-- the field written from a payload
+unfoldable pub fieldWritten : Shape → List ℕ → List ℕ
+fieldWritten s p = listOf (encoded (classAt s) (cellsOf s) p) (cellsOf s)
+
+-- what encoding leaves in the lent field: the field written, or beside a refusal its bytes
+unfoldable pub encodeLeaves : Shape → List ℕ → List ℕ → List ℕ
+encodeLeaves s p field = cond (eqb (encodeNumber s p field) 0) (fieldWritten s p) field

@@ -1,0 +1,43 @@
+-- A field as a function: the value of each cell by its byte number.
+use Prim.Native.Nat.{ℕ, zero, suc, _-_, _<_, _≤_}
+use mathlib.Core.Bool.{Bool, not}
+use mathlib.Core.List.{List, [], _∷_, _++_}
+use mathlib.Core.Path.{_≡_}
+use lib.Dec.{leb, eqb}
+use lib.ListN.{getD}
+use Rattle.lattice.specs.Position.{count, allBelow}
+
+abbrev pub Field : Type 0
+Field = ℕ → ℕ
+
+-- the field that a buffer holds
+abbrev pub fieldOf : List ℕ → Field
+fieldOf bytes i = getD bytes i 0
+
+-- the first n cells of a field, as a buffer holds them
+abbrev pub listOf : Field → ℕ → List ℕ
+listOf f zero = []
+listOf f (suc n) = listOf f n ++ (f n ∷ [])
+
+-- a cell is 0 for white or 1 for black
+abbrev pub isCell : ℕ → Bool
+isCell v = leb v 1
+
+unfoldable pub cellsOk : Field → ℕ → Bool
+cellsOk f n = allBelow (λ i. isCell (f i)) n
+
+-- every cell of the first n is 0 or 1
+abbrev pub Cells : Field → ℕ → Type 0
+Cells f n = (i : ℕ) → i < n → f i ≤ 1
+
+-- to turn a cell over is to make 0 of 1 or 1 of 0
+abbrev pub flip : ℕ → ℕ
+flip v = 1 - v
+
+-- two fields are the same in their first n cells
+abbrev pub Same : Field → Field → ℕ → Type 0
+Same f g n = (i : ℕ) → i < n → f i ≡ g i
+
+-- the number of cells in which two fields differ
+unfoldable pub differences : Field → Field → ℕ → ℕ
+differences f g n = count (λ i. not (eqb (f i) (g i))) n

@@ -1,0 +1,27 @@
+-- The plan of a field: its classes, capacity, payload bytes and cells, each 0 where the shape is refused.
+use Prim.Native.Nat.{ℕ, _/_}
+use Rattle.lattice.specs.declared.shape.Shape.{Shape}
+use Rattle.lattice.specs.Refusal.{figure}
+use Rattle.lattice.specs.Shape.{numberOf, cellsOf}
+use Rattle.lattice.specs.Settings.{settingsOf}
+use Rattle.lattice.specs.Class.{classAt}
+use Rattle.lattice.specs.Position.{capacity}
+
+-- the number: 0, 1 or 2
+abbrev pub planNumber : Shape → ℕ
+planNumber s = numberOf s
+
+-- m
+unfoldable pub planClasses : Shape → ℕ
+planClasses s = figure (planNumber s) (settingsOf s .m)
+
+-- K, the number of cells that hold no check
+unfoldable pub planCapacity : Shape → ℕ
+planCapacity s = figure (planNumber s) (capacity (classAt s) (cellsOf s))
+
+-- the payload: K divided by 8, rounded down, in bytes
+unfoldable pub planBytes : Shape → ℕ
+planBytes s = planCapacity s / 8
+
+unfoldable pub planCells : Shape → ℕ
+planCells s = figure (planNumber s) (cellsOf s)

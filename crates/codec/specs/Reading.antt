@@ -1,0 +1,78 @@
+-- Demand 2, reading: decoding and correcting find the one lawful field that differs in at most one cell of each class.
+use Prim.Native.Nat.{ℕ, _<_}
+use mathlib.Core.List.{List}
+use mathlib.Core.Logic.{_↔_}
+use mathlib.Core.Path.{_≡_}
+use lib.ListN.{length}
+use Rattle.lattice.specs.declared.shape.Shape.{Shape}
+use Rattle.lattice.specs.Shape.{cellsOf}
+use Rattle.lattice.specs.Class.{classAt}
+use Rattle.lattice.specs.Position.{size}
+use Rattle.codec.specs.Field.{Field, fieldOf, Cells, Same, differences}
+use Rattle.codec.specs.Hamming.{syndrome, Codeword, Near, Nearest}
+use Rattle.codec.specs.Payload.{Bytes, Carries, PaddingRight}
+use Rattle.codec.specs.Plan.{planNumber, planBytes}
+use Rattle.codec.specs.Decode.{decodeNumber, decodeCount, decodeLeaves}
+use Rattle.codec.specs.Correct.{correctNumber, correctCount, correctLeaves}
+
+-- Theorem. Of one class, for any placement: at most one codeword differs in at most one cell, and none does where the syndrome is above the
+-- class's size.
+pub record OneCodeword : Type 0 where
+  pub one : (cls : ℕ → ℕ) (n : ℕ) (f g h : Field) (a : ℕ) → Cells f n → Cells g n → Cells h n
+    → Near cls n f g a → Codeword cls n g a → Near cls n f h a → Codeword cls n h a
+    → (i : ℕ) → i < n → cls i ≡ a → g i ≡ h i
+  pub none : (cls : ℕ → ℕ) (n : ℕ) (f g : Field) (a : ℕ) → Cells f n → Cells g n → size cls a n < syndrome cls f a n
+    → Near cls n f g a → ¬ Codeword cls n g a
+
+-- what is asked of a reading of a field: an accepted shape, a field of the plan's length, and cells that are all 0 or 1
+pub record Readable (s : Shape) (field : List ℕ) : Type 0 where
+  pub accepted : planNumber s ≡ 0
+  pub long : length field ≡ cellsOf s
+  pub cells : Cells (fieldOf field) (cellsOf s)
+
+-- g is a lawful field that differs from the buffer's field in at most one cell of each class
+abbrev pub NearestTo : Shape → List ℕ → Field → Type 0
+NearestTo s field g = Nearest (classAt s) (cellsOf s) (fieldOf field) g
+
+-- a lawful field in reach with right padding, and one with wrong padding
+abbrev pub RightField : Shape → List ℕ → Type 0
+RightField s field = (g : Field) × NearestTo s field g × PaddingRight (classAt s) (cellsOf s) g
+
+abbrev pub WrongFieldNear : Shape → List ℕ → Type 0
+WrongFieldNear s field = (g : Field) × NearestTo s field g × (¬ PaddingRight (classAt s) (cellsOf s) g)
+
+-- Theorem (demand 2). There is at most one lawful field that differs in at most one cell of each class.
+abbrev pub OneNearest : Type 0
+OneNearest =
+    (s : Shape) (field : List ℕ) → Readable s field → (g h : Field) → NearestTo s field g → NearestTo s field h → Same g h (cellsOf s)
+
+-- Theorem (demand 2). Decoding gives 0 exactly when there is one with right padding, and then leaves the payload that it carries and the number
+-- of cells where it differs; 6 exactly when there is none; 7 exactly when there is one with wrong padding.
+pub record DecodingMeans (s : Shape) (payload field : List ℕ) : Type 0 where
+  pub success : (decodeNumber s payload field ≡ 0) ↔ RightField s field
+  pub none : (decodeNumber s payload field ≡ 6) ↔ ((g : Field) → ¬ NearestTo s field g)
+  pub wrong : (decodeNumber s payload field ≡ 7) ↔ WrongFieldNear s field
+  pub long : decodeNumber s payload field ≡ 0 → length (decodeLeaves s payload field) ≡ planBytes s
+  pub bytes : decodeNumber s payload field ≡ 0 → Bytes (decodeLeaves s payload field)
+  pub gives : (g : Field) → NearestTo s field g → PaddingRight (classAt s) (cellsOf s) g
+      → Carries (classAt s) (cellsOf s) g (decodeLeaves s payload field)
+  pub count : (g : Field) → NearestTo s field g → PaddingRight (classAt s) (cellsOf s) g
+      → decodeCount s payload field ≡ differences (fieldOf field) g (cellsOf s)
+
+abbrev pub ReadingMeans : Type 0
+ReadingMeans =
+    (s : Shape) (payload field : List ℕ) → Readable s field → length payload ≡ planBytes s → DecodingMeans s payload field
+
+-- Theorem (demand 2). Correcting likewise, leaving that field.
+pub record CorrectingMeans (s : Shape) (field : List ℕ) : Type 0 where
+  pub success : (correctNumber s field ≡ 0) ↔ RightField s field
+  pub none : (correctNumber s field ≡ 6) ↔ ((g : Field) → ¬ NearestTo s field g)
+  pub wrong : (correctNumber s field ≡ 7) ↔ WrongFieldNear s field
+  pub long : correctNumber s field ≡ 0 → length (correctLeaves s field) ≡ cellsOf s
+  pub leaves : (g : Field) → NearestTo s field g → PaddingRight (classAt s) (cellsOf s) g
+      → Same (fieldOf (correctLeaves s field)) g (cellsOf s)
+  pub count : (g : Field) → NearestTo s field g → PaddingRight (classAt s) (cellsOf s) g
+      → correctCount s field ≡ differences (fieldOf field) g (cellsOf s)
+
+abbrev pub MendingMeans : Type 0
+MendingMeans = (s : Shape) (field : List ℕ) → Readable s field → CorrectingMeans s field

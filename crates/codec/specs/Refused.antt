@@ -1,0 +1,90 @@
+-- Demand 1: each refusal's condition by itself, and what a refusal changes.
+use Prim.Native.Nat.{ℕ, _<_}
+use mathlib.Core.List.{List, [], _∷_, _++_}
+use mathlib.Core.Logic.{_≢_}
+use mathlib.Core.Path.{_≡_}
+use lib.ListN.{length, getD}
+use Rattle.lattice.specs.declared.shape.Shape.{Shape}
+use Rattle.lattice.specs.Refusal.{Refusal, refusal, Settled}
+use Rattle.lattice.specs.Shape.{BadSize, BadStrength, cellsOf}
+use Rattle.lattice.specs.Class.{classAt}
+use Rattle.codec.specs.Field.{Field, fieldOf, Cells}
+use Rattle.codec.specs.Hamming.{Codeword, Near, Nearest}
+use Rattle.codec.specs.Payload.{PaddingRight}
+use Rattle.codec.specs.Plan.{planNumber, planClasses, planCapacity, planBytes, planCells}
+use Rattle.codec.specs.Encode.{encodeNumber, encodeLeaves}
+use Rattle.codec.specs.Decode.{decodeNumber, decodeCount, decodeLeaves}
+use Rattle.codec.specs.Correct.{correctNumber, correctCount, correctLeaves}
+
+-- 3: a payload whose length isn't the plan's
+abbrev pub WrongPayload : Shape → List ℕ → Type 0
+WrongPayload s payload = length payload ≢ planBytes s
+
+-- 4: a field whose length isn't the plan's
+abbrev pub WrongField : Shape → List ℕ → Type 0
+WrongField s field = length field ≢ planCells s
+
+-- 5: some cell is above 1
+abbrev pub CellAbove : List ℕ → Type 0
+CellAbove field = (i : ℕ) × (i < length field) × (1 < getD field i 0)
+
+-- 6: for some class no codeword differs in at most one cell
+abbrev pub NoneInReach : Shape → List ℕ → Type 0
+NoneInReach s field =
+    (a : ℕ)
+    × ((g : Field) → Cells g (cellsOf s) → Near (classAt s) (cellsOf s) (fieldOf field) g a → Codeword (classAt s) (cellsOf s) g a → ⊥)
+
+-- 7: a lawful field that differs in at most one cell of each class has padding that isn't right
+abbrev pub WrongPadding : Shape → List ℕ → Type 0
+WrongPadding s field =
+    (g : Field) × Nearest (classAt s) (cellsOf s) (fieldOf field) g × (¬ PaddingRight (classAt s) (cellsOf s) g)
+
+abbrev pub shapeConditions : Shape → List Refusal
+shapeConditions s = refusal 1 (BadSize (s .columns) (s .rows) (s .planes)) ∷ refusal 2 (BadStrength (s .planes) (s .strength)) ∷ []
+
+abbrev pub fieldConditions : Shape → List ℕ → List Refusal
+fieldConditions s field =
+    refusal 4 (WrongField s field)
+    ∷ refusal 5 (CellAbove field)
+    ∷ refusal 6 (NoneInReach s field)
+    ∷ refusal 7 (WrongPadding s field)
+    ∷ []
+
+-- the refusals of each operation, in the listed order
+abbrev pub encodeConditions : Shape → List ℕ → List ℕ → List Refusal
+encodeConditions s payload field =
+    shapeConditions s ++ (refusal 3 (WrongPayload s payload) ∷ refusal 4 (WrongField s field) ∷ [])
+
+abbrev pub decodeConditions : Shape → List ℕ → List ℕ → List Refusal
+decodeConditions s payload field = shapeConditions s ++ (refusal 3 (WrongPayload s payload) ∷ fieldConditions s field)
+
+abbrev pub correctConditions : Shape → List ℕ → List Refusal
+correctConditions s field = shapeConditions s ++ fieldConditions s field
+
+-- Theorem (demand 1). The plan's number is settled by its conditions in the listed order: 1, 2.
+abbrev pub PlanRefused : Type 0
+PlanRefused = (s : Shape) → Settled (shapeConditions s) (planNumber s)
+
+-- Theorem (demand 1). Encoding's number is: 1, 2, 3, 4.
+abbrev pub EncodeRefused : Type 0
+EncodeRefused =
+    (s : Shape) (payload field : List ℕ) → Settled (encodeConditions s payload field) (encodeNumber s payload field)
+
+-- Theorem (demand 1). Decoding's number is: 1, 2, 3, 4, 5, 6, 7.
+abbrev pub DecodeRefused : Type 0
+DecodeRefused =
+    (s : Shape) (payload field : List ℕ) → Settled (decodeConditions s payload field) (decodeNumber s payload field)
+
+-- Theorem (demand 1). Correcting's number is: 1, 2, 4, 5, 6, 7.
+abbrev pub CorrectRefused : Type 0
+CorrectRefused = (s : Shape) (field : List ℕ) → Settled (correctConditions s field) (correctNumber s field)
+
+-- Theorem (demand 1). Beside any number but 0 every lent buffer keeps its bytes and every count and figure is 0.
+pub record RefusalsChangeNothing : Type 0 where
+  pub plan : (s : Shape) → planNumber s ≢ 0
+      → (planClasses s ≡ 0) × (planCapacity s ≡ 0) × (planBytes s ≡ 0) × (planCells s ≡ 0)
+  pub encode : (s : Shape) (payload field : List ℕ) → encodeNumber s payload field ≢ 0 → encodeLeaves s payload field ≡ field
+  pub decode : (s : Shape) (payload field : List ℕ) → decodeNumber s payload field ≢ 0
+      → (decodeLeaves s payload field ≡ payload) × (decodeCount s payload field ≡ 0)
+  pub correct : (s : Shape) (field : List ℕ) → correctNumber s field ≢ 0
+      → (correctLeaves s field ≡ field) × (correctCount s field ≡ 0)

@@ -1,0 +1,37 @@
+-- Demand 2, writing: the field written is the one lawful field with the payload's bits and the padding.
+use Prim.Native.Nat.{ℕ, _*_, _<_, _≤_}
+use mathlib.Core.List.{List}
+use mathlib.Core.Path.{_≡_}
+use lib.ListN.{length}
+use Rattle.lattice.specs.declared.shape.Shape.{Shape}
+use Rattle.lattice.specs.Shape.{cellsOf}
+use Rattle.lattice.specs.Class.{classAt}
+use Rattle.lattice.specs.Position.{count}
+use Rattle.codec.specs.Field.{Field, fieldOf, Same}
+use Rattle.codec.specs.Hamming.{Lawful}
+use Rattle.codec.specs.Payload.{Bytes, Carries, payloadBit, isPadding}
+use Rattle.codec.specs.Plan.{planNumber, planBytes}
+use Rattle.codec.specs.Encode.{fieldWritten}
+
+-- Theorem. A payload is told by its bits: two of one length with the same bits are one.
+abbrev pub BitsTell : Type 0
+BitsTell =
+    (p q : List ℕ) → Bytes p → Bytes q → length p ≡ length q
+    → ((k : ℕ) → k < 8 * length p → payloadBit p k ≡ payloadBit q k) → p ≡ q
+
+-- Theorem. For any placement, at most 7 cells are padding.
+abbrev pub PaddingFew : Type 0
+PaddingFew = (cls : ℕ → ℕ) (n : ℕ) → count (isPadding cls n) n ≤ 7
+
+-- Theorem (demand 2). For every shape that the plan accepts and every payload of the plan's length the field written has the plan's cells,
+-- is lawful, has the payload's bits and the padding in the cells that hold no check, and is the only such field; and two different payloads give two different fields.
+pub record WritingMeans : Type 0 where
+  pub long : (s : Shape) (p : List ℕ) → length (fieldWritten s p) ≡ cellsOf s
+  pub lawful : (s : Shape) → planNumber s ≡ 0 → (p : List ℕ) → length p ≡ planBytes s → Bytes p
+      → Lawful (classAt s) (cellsOf s) (fieldOf (fieldWritten s p))
+  pub carries : (s : Shape) → planNumber s ≡ 0 → (p : List ℕ) → length p ≡ planBytes s → Bytes p
+      → Carries (classAt s) (cellsOf s) (fieldOf (fieldWritten s p)) p
+  pub only : (s : Shape) → planNumber s ≡ 0 → (p : List ℕ) → length p ≡ planBytes s → Bytes p
+      → (f : Field) → Lawful (classAt s) (cellsOf s) f → Carries (classAt s) (cellsOf s) f p → Same f (fieldOf (fieldWritten s p)) (cellsOf s)
+  pub different : (s : Shape) → planNumber s ≡ 0 → (p q : List ℕ) → length p ≡ planBytes s → length q ≡ planBytes s → Bytes p → Bytes q
+      → fieldWritten s p ≡ fieldWritten s q → p ≡ q

@@ -1,0 +1,75 @@
+// Correcting, the papers' mending.
+ghost use mathlib.Core.Path.{_≡_};
+ghost use Rattle.lattice.specs.Shape.{cellsOf};
+ghost use Rattle.lattice.specs.Class.{classAt};
+ghost use Rattle.codec.specs.Field.{fieldOf, listOf};
+ghost use Rattle.codec.specs.Decode.{mended, mendedCount};
+ghost use Rattle.codec.specs.Answer.{IsCorrected};
+ghost use Rattle.codec.specs.Working.{HoldsSyndromes, FieldFits};
+use crate::examine::examine;
+use crate::walk::corrected_value;
+use crate::walk::count_if;
+use crate::walk::place_of;
+use lattice::shape::Shape;
+
+// The number of cells turned over, or the refusal 1, 2, 4, 5, 6 or 7.
+pub enum CorrectAnswer {
+    Corrected(usize),
+    BadSize,
+    BadStrength,
+    FieldLength,
+    BadCell,
+    OutOfReach,
+    BadPadding,
+}
+
+// Stores the mended cells; gives the number of cells turned over.
+fn store_corrected(shape: Shape, syndromes: &[u32; Shape::MAX_CLASSES], field: &mut [u8]) -> usize
+    requires { ⌜ FieldFits shape (now field) ⌝ }
+    requires { ⌜ HoldsSyndromes (classAt shape) (fieldOf (now field)) (now syndromes) (cellsOf shape) ⌝ }
+    ensures { λ r. ⌜ now (field .exit) ≡ listOf (mended shape (now (field .entry))) (cellsOf shape) ⌝ }
+    ensures { λ r. ⌜ r ≡ mendedCount shape (now (field .entry)) ⌝ }
+{
+    let settings = shape.settings();
+    let mut counts = [0u32; Shape::MAX_CLASSES];
+    let mut turned = 0;
+    let mut i = 0;
+    while i < field.len() {
+        let place = place_of(&mut counts, shape, settings, i as u32);
+        let before = field[i];
+        let value = corrected_value(syndromes, place, before);
+        field[i] = value;
+        turned = count_if(before != value, turned);
+        i += 1;
+    }
+    turned
+}
+
+// Stores the mended field and gives the number of cells turned over, or gives the refusal 1, 2, 4, 5, 6 or 7.
+pub fn correct(shape: Shape, field: &mut [u8]) -> CorrectAnswer
+    ensures { λ r. ⌜ IsCorrected shape (now (field .entry)) (now (field .exit)) r ⌝ }
+{
+    let number = shape.refusal();
+    if number == 1 {
+        return CorrectAnswer::BadSize;
+    }
+    if number == 2 {
+        return CorrectAnswer::BadStrength;
+    }
+    if field.len() != shape.cells() {
+        return CorrectAnswer::FieldLength;
+    }
+    let mut sizes = [0u32; Shape::MAX_CLASSES];
+    let mut syndromes = [0u32; Shape::MAX_CLASSES];
+    let tested = examine(shape, field, &mut sizes, &mut syndromes);
+    if tested == 5 {
+        return CorrectAnswer::BadCell;
+    }
+    if tested == 6 {
+        return CorrectAnswer::OutOfReach;
+    }
+    if tested == 7 {
+        return CorrectAnswer::BadPadding;
+    }
+    CorrectAnswer::Corrected(store_corrected(shape, &syndromes, field))
+}

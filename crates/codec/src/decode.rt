@@ -1,0 +1,118 @@
+// Decoding, the papers' reading.
+ghost use mathlib.Core.Path.{_≡_};
+ghost use Prim.Native.Nat.{ℕ};
+ghost use lib.ListN.{getD, length};
+ghost use Rattle.lattice.specs.Shape.{cellsOf};
+ghost use Rattle.lattice.specs.Class.{classAt};
+ghost use Rattle.codec.specs.Field.{fieldOf, Cells};
+ghost use Rattle.codec.specs.Payload.{payloadBytes, heldPayload};
+ghost use Rattle.codec.specs.Decode.{mended, mendedCount};
+ghost use Rattle.codec.specs.Answer.{IsDecoded};
+ghost use Rattle.codec.specs.Working.{FieldFits, Examined, BitStored};
+use crate::examine::examine;
+use crate::walk::corrected_value;
+use crate::walk::count_if;
+use crate::walk::holds_data;
+use crate::walk::place_of;
+use lattice::shape::Shape;
+
+// The number of cells turned over, or the refusal 1, 2, 3, 4, 5, 6 or 7.
+pub enum DecodeAnswer {
+    Decoded(usize),
+    BadSize,
+    BadStrength,
+    PayloadLength,
+    FieldLength,
+    BadCell,
+    OutOfReach,
+    BadPadding,
+}
+
+// Sets every byte to 0.
+fn clear(payload: &mut [u8])
+    ensures { λ _. ⌜ ((j : ℕ) → getD (now (payload .exit)) j 0 ≡ 0) ⌝ }
+{
+    let mut j = 0;
+    while j < payload.len() {
+        payload[j] = 0;
+        j += 1;
+    }
+}
+
+// Puts the value of a data cell behind the bits of its byte; padding cells have no byte.
+fn store_bit(payload: &mut [u8], is_data: bool, rank: usize, value: u8)
+    ensures { λ _. ⌜ BitStored (now (payload .entry)) (now (payload .exit)) is_data rank value ⌝ }
+{
+    let j = rank / 8;
+    if is_data {
+        if j < payload.len() {
+            payload[j] = ((payload[j] as u32 * 2 + value as u32) % 256) as u8;
+        }
+    }
+}
+
+// Stores the payload that the mended field holds; gives the number of cells turned over.
+fn store_payload(
+    shape: Shape,
+    field: &[u8],
+    sizes: &[u32; Shape::MAX_CLASSES],
+    syndromes: &[u32; Shape::MAX_CLASSES],
+    payload: &mut [u8],
+) -> usize
+    requires { ⌜ FieldFits shape (now field) ⌝ }
+    requires { ⌜ Examined shape (now field) (now sizes) (now syndromes) ⌝ }
+    requires { ⌜ Cells (fieldOf (now field)) (cellsOf shape) ⌝ }
+    requires { ⌜ length (now payload) ≡ payloadBytes (classAt shape) (cellsOf shape) ⌝ }
+    ensures { λ r. ⌜ now (payload .exit) ≡ heldPayload (classAt shape) (cellsOf shape) (mended shape (now (field .entry))) ⌝ }
+    ensures { λ r. ⌜ r ≡ mendedCount shape (now (field .entry)) ⌝ }
+{
+    clear(payload);
+    let settings = shape.settings();
+    let mut counts = [0u32; Shape::MAX_CLASSES];
+    let mut rank = 0;
+    let mut turned = 0;
+    let mut i = 0;
+    while i < field.len() {
+        let place = place_of(&mut counts, shape, settings, i as u32);
+        let is_data = holds_data(sizes, place);
+        let before = field[i];
+        let value = corrected_value(syndromes, place, before);
+        store_bit(payload, is_data, rank, value);
+        rank = count_if(is_data, rank);
+        turned = count_if(before != value, turned);
+        i += 1;
+    }
+    turned
+}
+
+// Stores the payload and gives the number of cells turned over, or gives the refusal 1, 2, 3, 4, 5, 6 or 7.
+pub fn decode(shape: Shape, payload: &mut [u8], field: &[u8]) -> DecodeAnswer
+    ensures { λ r. ⌜ IsDecoded shape (now (payload .entry)) (now (field .entry)) (now (payload .exit)) r ⌝ }
+{
+    let number = shape.refusal();
+    if number == 1 {
+        return DecodeAnswer::BadSize;
+    }
+    if number == 2 {
+        return DecodeAnswer::BadStrength;
+    }
+    if payload.len() != shape.capacity() / 8 {
+        return DecodeAnswer::PayloadLength;
+    }
+    if field.len() != shape.cells() {
+        return DecodeAnswer::FieldLength;
+    }
+    let mut sizes = [0u32; Shape::MAX_CLASSES];
+    let mut syndromes = [0u32; Shape::MAX_CLASSES];
+    let tested = examine(shape, field, &mut sizes, &mut syndromes);
+    if tested == 5 {
+        return DecodeAnswer::BadCell;
+    }
+    if tested == 6 {
+        return DecodeAnswer::OutOfReach;
+    }
+    if tested == 7 {
+        return DecodeAnswer::BadPadding;
+    }
+    DecodeAnswer::Decoded(store_payload(shape, field, &sizes, &syndromes, payload))
+}

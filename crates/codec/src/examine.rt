@@ -1,0 +1,141 @@
+// The tests of a field that decoding and correcting share: 5, 6 and 7.
+ghost use mathlib.Core.Path.{_≡_};
+ghost use Prim.Native.Nat.{_≤_};
+ghost use lib.Dec.{leb};
+ghost use lib.ListN.{getD, length};
+ghost use Rattle.lattice.specs.Shape.{maxClasses, cellsOf};
+ghost use Rattle.lattice.specs.Class.{classAt};
+ghost use Rattle.lattice.specs.Position.{allBelow};
+ghost use Rattle.codec.specs.Field.{fieldOf, cellsOk};
+ghost use Rattle.codec.specs.Payload.{paddingOk};
+ghost use Rattle.codec.specs.Decode.{mended, fieldNumber};
+ghost use Rattle.codec.specs.Working.{HoldsZeros, HoldsSyndromes, FieldFits, Examined, rightAt};
+use crate::walk::corrected_value;
+use crate::walk::count_if;
+use crate::walk::holds_data;
+use crate::walk::padding_value;
+use crate::walk::place_of;
+use crate::walk::take_in;
+use lattice::capacity::class_sizes;
+use lattice::shape::Shape;
+
+// Is every cell 0 or 1?
+fn cells_ok(field: &[u8]) -> bool
+    ensures { λ r. ⌜ r ≡ cellsOk (fieldOf (now (field .entry))) (length (now (field .entry))) ⌝ }
+{
+    let mut i = 0;
+    while i < field.len() {
+        if field[i] > 1 {
+            return false;
+        }
+        i += 1;
+    }
+    true
+}
+
+// The syndrome of each class.
+fn field_syndromes(shape: Shape, field: &[u8], syndromes: &mut [u32; Shape::MAX_CLASSES])
+    requires { ⌜ FieldFits shape (now field) ⌝ }
+    requires { ⌜ HoldsZeros (now syndromes) ⌝ }
+    ensures { λ _. ⌜ HoldsSyndromes (classAt shape) (fieldOf (now (field .entry))) (now (syndromes .exit)) (cellsOf shape) ⌝ }
+{
+    let settings = shape.settings();
+    let mut counts = [0u32; Shape::MAX_CLASSES];
+    let mut i = 0;
+    while i < field.len() {
+        let place = place_of(&mut counts, shape, settings, i as u32);
+        take_in(syndromes, place, field[i]);
+        i += 1;
+    }
+}
+
+// Is a codeword in reach of each class below m: is no syndrome above the class's size?
+fn all_in_reach(
+    m: usize,
+    sizes: &[u32; Shape::MAX_CLASSES],
+    syndromes: &[u32; Shape::MAX_CLASSES],
+) -> bool
+    requires { ⌜ m ≤ maxClasses ⌝ }
+    ensures { λ r. ⌜ r ≡ allBelow (λ a. leb (getD (now (syndromes .entry)) a 0) (getD (now (sizes .entry)) a 0)) m ⌝ }
+{
+    let mut left = m;
+    while left > 0 {
+        left -= 1;
+        if syndromes[left] > sizes[left] {
+            return false;
+        }
+    }
+    true
+}
+
+// Is the cell no padding, or does it hold the padding's value?
+fn is_right(is_data: bool, rank: usize, bits: usize, value: u8) -> bool
+    ensures { λ r. ⌜ r ≡ rightAt is_data rank bits value ⌝ }
+{
+    if !is_data {
+        return true;
+    }
+    if rank < bits {
+        return true;
+    }
+    value == padding_value(rank - bits)
+}
+
+// Do the padding cells hold the padding after correction?
+fn padding_ok(
+    shape: Shape,
+    field: &[u8],
+    sizes: &[u32; Shape::MAX_CLASSES],
+    syndromes: &[u32; Shape::MAX_CLASSES],
+) -> bool
+    requires { ⌜ FieldFits shape (now field) ⌝ }
+    requires { ⌜ Examined shape (now field) (now sizes) (now syndromes) ⌝ }
+    ensures { λ r. ⌜ r ≡ paddingOk (classAt shape) (cellsOf shape) (mended shape (now (field .entry))) ⌝ }
+{
+    let settings = shape.settings();
+    let bits = 8 * (shape.capacity() / 8);
+    let mut counts = [0u32; Shape::MAX_CLASSES];
+    let mut rank = 0;
+    let mut i = 0;
+    while i < field.len() {
+        let place = place_of(&mut counts, shape, settings, i as u32);
+        let is_data = holds_data(sizes, place);
+        if !is_right(
+            is_data,
+            rank,
+            bits,
+            corrected_value(syndromes, place, field[i]),
+        ) {
+            return false;
+        }
+        rank = count_if(is_data, rank);
+        i += 1;
+    }
+    true
+}
+
+// The number that the field's own tests give, 0, 5, 6 or 7; the sizes and the syndromes of the classes are stored.
+pub(crate) fn examine(
+    shape: Shape,
+    field: &[u8],
+    sizes: &mut [u32; Shape::MAX_CLASSES],
+    syndromes: &mut [u32; Shape::MAX_CLASSES],
+) -> u8
+    requires { ⌜ FieldFits shape (now field) ⌝ }
+    requires { ⌜ HoldsZeros (now syndromes) ⌝ }
+    ensures { λ r. ⌜ r ≡ fieldNumber shape (now (field .entry)) ⌝ }
+    ensures { λ r. ⌜ Examined shape (now (field .entry)) (now (sizes .exit)) (now (syndromes .exit)) ⌝ }
+{
+    class_sizes(shape, sizes);
+    field_syndromes(shape, field, syndromes);
+    if !cells_ok(field) {
+        return 5;
+    }
+    if !all_in_reach(shape.classes(), sizes, syndromes) {
+        return 6;
+    }
+    if !padding_ok(shape, field, sizes, syndromes) {
+        return 7;
+    }
+    0
+}
