@@ -1,0 +1,103 @@
+-- Fields and the buffers that hold them.
+use Prim.Native.Nat.{ℕ, zero, suc, _+_, _<_, _≤_}
+use mathlib.Core.Bool.{true, false, cond}
+use mathlib.Core.List.{List, [], _∷_, _++_}
+use mathlib.Core.Logic.{_↔_, _≢_, ⊎-elim}
+use mathlib.Core.Path.{_≡_, refl, sym, ap, ap₂, _∙_}
+use native.Mathlib.Decide.{ℕ-discrete}
+use native.Mathlib.Nat.{le-refl, not-suc-le-zero, eq-or-lt-of-le, le-of-suc-le-suc}
+use native.Mathlib.Numerals.{add-one}
+use native.Mathlib.Omega.{arith}
+use lib.Dec.{eqb}
+use lib.ListN.{length, getD, set, length-append, length-set, List·getD-append, List·getD-eq-default}
+use lib.Seq.{getD-at, getD-set-same, getD-set-other, ext-getD}
+use borrow.Author.Tests.{eq-eqb, ne-eqb, le-leb, leb-true, leb-false}
+use Rattle.codec.specs.Field.{Field, fieldOf, listOf, isCell, cellsOk, Cells, Same}
+use Rattle.codec.proofs.AllBelow.{all-below, below-all, some-fails}
+
+pub listOf-step : (f : Field) (n : ℕ) → listOf f (n + 1) ≡ listOf f n ++ (f n ∷ [])
+listOf-step f n = rw (add-one n)
+
+pub length-listOf : (f : Field) (n : ℕ) → length (listOf f n) ≡ n
+length-listOf f zero = refl
+length-listOf f (suc n) = length-append (listOf f n) (f n ∷ []) ∙ omega (arith, length-listOf f n)
+
+-- the cells of the buffer are the field's first n cells, and 0 stands behind them
+pub getD-listOf : (f : Field) (n i : ℕ) → i < n → getD (listOf f n) i 0 ≡ f i
+getD-listOf f zero i l = absurd (not-suc-le-zero l)
+getD-listOf f (suc n) i l =
+    ⊎-elim
+    (λ (e : i ≡ n). getD-at (listOf f n) (f n) [] 0 i (length-listOf f n ∙ sym e) ∙ ap f (sym e))
+    (λ (k : i < n).
+    List·getD-append (listOf f n) (f n ∷ []) 0 i (omega (arith, length-listOf f n)) ∙ getD-listOf f n i k)
+    (eq-or-lt-of-le (le-of-suc-le-suc l))
+
+pub getD-listOf-behind : (f : Field) (n i : ℕ) → n ≤ i → getD (listOf f n) i 0 ≡ 0
+getD-listOf-behind f n i l = List·getD-eq-default (listOf f n) 0 (omega (arith, length-listOf f n))
+
+-- buffers are the same exactly when the fields are
+pub listOf-same : (f g : Field) (n : ℕ) → Same f g n → listOf f n ≡ listOf g n
+listOf-same f g zero p = refl
+listOf-same f g (suc n) p =
+    ap₂ (λ (l : List ℕ) (v : ℕ). l ++ (v ∷ [])) (listOf-same f g n (λ i l. p i (omega arith))) (p n (le-refl _))
+
+pub same-listOf : (f g : Field) (n : ℕ) → listOf f n ≡ listOf g n → Same f g n
+same-listOf f g n p i l = sym (getD-listOf f n i l) ∙ ap (λ (k : List ℕ). getD k i 0) p ∙ getD-listOf g n i l
+
+-- a buffer of n cells is the field's when its cells are
+pub list-field : (l : List ℕ) (f : Field) (n : ℕ) → length l ≡ n → Same (fieldOf l) f n → l ≡ listOf f n
+list-field l f n e p =
+    ext-getD 0 l (listOf f n) (e ∙ sym (length-listOf f n)) (λ i k. p i (omega arith) ∙ sym (getD-listOf f n i (omega arith)))
+
+pub listOf-fieldOf : (l : List ℕ) → listOf (fieldOf l) (length l) ≡ l
+listOf-fieldOf l = sym (list-field l (fieldOf l) (length l) refl (λ i k. refl))
+
+pub fieldOf-same : (l k : List ℕ) (n : ℕ) → length l ≡ n → length k ≡ n → Same (fieldOf l) (fieldOf k) n → l ≡ k
+fieldOf-same l k n e d p = list-field l (fieldOf k) n e p ∙ sym (list-field k (fieldOf k) n d (λ i m. refl))
+
+-- a field with one cell changed
+abbrev pub put : Field → ℕ → ℕ → Field
+put f i v j = cond (eqb j i) v (f j)
+
+pub put-same : (f : Field) (i v : ℕ) → put f i v i ≡ v
+put-same f i v = rw (eq-eqb i i refl)
+
+pub put-other : (f : Field) (i v j : ℕ) → j ≢ i → put f i v j ≡ f j
+put-other f i v j d = rw (ne-eqb j i d)
+
+pub fieldOf-set : (l : List ℕ) (i v : ℕ) → i < length l → (j : ℕ) → fieldOf (set l i v) j ≡ put (fieldOf l) i v j
+fieldOf-set l i v k j = go (ℕ-discrete j i)
+  where
+    go : Dec (j ≡ i) → fieldOf (set l i v) j ≡ put (fieldOf l) i v j
+    go (yes e) = rw (e, put-same (fieldOf l) i v) (getD-set-same l i v 0 k)
+    go (no d) = getD-set-other l i j v 0 d ∙ sym (put-other (fieldOf l) i v j d)
+
+pub set-listOf : (f : Field) (n i v : ℕ) → i < n → set (listOf f n) i v ≡ listOf (put f i v) n
+set-listOf f n i v l =
+    list-field
+    (set (listOf f n) i v)
+    (put f i v)
+    n
+    (length-set (listOf f n) i v ∙ length-listOf f n)
+    (λ j k.
+    fieldOf-set (listOf f n) i v (omega (arith, length-listOf f n)) j
+    ∙ ap (λ (x : ℕ). cond (eqb j i) v x) (getD-listOf f n j k))
+
+-- the test of the cells
+pub cells-ok : (f : Field) (n : ℕ) → Cells f n → cellsOk f n ≡ true
+unfolding cellsOk
+cells-ok f n p = all-below (λ i. isCell (f i)) n (λ i l. le-leb (f i) 1 (p i l))
+
+pub ok-cells : (f : Field) (n : ℕ) → cellsOk f n ≡ true → Cells f n
+unfolding cellsOk
+ok-cells f n p i l = leb-true (f i) 1 (below-all (λ i. isCell (f i)) n p i l)
+
+pub not-cells : (f : Field) (n : ℕ) → cellsOk f n ≡ false → (i : ℕ) × (i < n) × (1 < f i)
+unfolding cellsOk
+not-cells f n p = let r = some-fails (λ i. isCell (f i)) n p in (r .0, r .1, leb-false (f (r .0)) 1 (r .2))
+
+pub cells-iff : (f : Field) (n : ℕ) → (cellsOk f n ≡ true) ↔ Cells f n
+cells-iff f n = (ok-cells f n, cells-ok f n)
+
+pub cells-same : (f g : Field) (n : ℕ) → Same f g n → Cells f n → Cells g n
+cells-same f g n s p i l = omega (arith, s i l, p i l)

@@ -1,0 +1,110 @@
+-- Recovery for any selection of cells with at most one in each class.
+use Prim.Native.Nat.{ℕ, _<_}
+use mathlib.Core.Bool.{Bool, true, cond}
+use mathlib.Core.List.{List}
+use mathlib.Core.Path.{_≡_, refl, sym, _∙_, ap}
+use lib.ListN.{length}
+use Rattle.lattice.specs.declared.shape.Shape.{Shape}
+use Rattle.lattice.specs.Shape.{cellsOf}
+use Rattle.lattice.specs.Cell.{Cell, cellAt}
+use Rattle.lattice.specs.Class.{classAt}
+use Rattle.codec.specs.Field.{Field, fieldOf, flip, Same, differences}
+use Rattle.codec.specs.Payload.{Bytes, PaddingRight, encoded}
+use Rattle.codec.specs.Plan.{planNumber, planBytes}
+use Rattle.codec.specs.Encode.{fieldWritten}
+use Rattle.codec.specs.Decode.{mended, decodeNumber, decodeLeaves}
+use Rattle.codec.specs.Correct.{correctNumber, correctLeaves}
+use Rattle.codec.specs.Reading.{Readable, NearestTo}
+use Rattle.codec.specs.Recovery.{damaged, damagedField, Recovered, RecoveryByClass}
+use Rattle.codec.proofs.Accepted.{plan-bytes}
+use Rattle.codec.proofs.Correction.{nearest-same}
+use Rattle.codec.proofs.Damage.{OneEach, damaged-cells, damaged-nearest}
+use Rattle.codec.proofs.Differences.{differences-comm, differences-same}
+use Rattle.codec.proofs.EncodedField.{encoded-cells, encoded-lawful, encoded-carries}
+use Rattle.codec.proofs.FieldLists.{length-listOf, getD-listOf, listOf-same, cells-same}
+use Rattle.codec.proofs.DemandTwoReading.{nearest-mended}
+use Rattle.codec.proofs.HeldPayload.{held-same, encoded-held}
+use Rattle.codec.proofs.PaddingCells.{carries-padding}
+use Rattle.codec.proofs.DemandTwoReading.{readingMeans, mendingMeans, decode-leaves, correct-leaves}
+use Rattle.codec.proofs.DemandTwoWriting.{written-cells}
+
+module _ (s : Shape) (accepted : planNumber s ≡ 0) (p : List ℕ) (p-long : length p ≡ planBytes s) (p-bytes : Bytes p) (selected : Cell → Bool)
+    (one : OneEach (classAt s) (cellsOf s) (λ i. selected (cellAt s i))) (buffer : List ℕ) (fits : length buffer ≡ planBytes s) where
+  -- F, cell by cell, and G as a buffer
+  F : Field
+  F = encoded (classAt s) (cellsOf s) p
+
+  G : List ℕ
+  G = damagedField s p selected
+
+  chosen : ℕ → Bool
+  chosen i = selected (cellAt s i)
+
+  -- G holds F with the selected cells turned over
+  damaged-same : Same (damaged F chosen) (fieldOf G) (cellsOf s)
+  unfolding F G chosen damaged
+  damaged-same i h =
+      ap (λ (v : ℕ). cond (selected (cellAt s i)) (flip v) v) (written-cells s p i h)
+      ∙ sym (getD-listOf (damaged (fieldOf (fieldWritten s p)) (λ j. selected (cellAt s j))) (cellsOf s) i h)
+
+  readable : Readable s G
+  unfolding F G chosen
+  readable =
+      record {
+        accepted = accepted;
+        long = length-listOf (damaged (fieldOf (fieldWritten s p)) (λ i. selected (cellAt s i))) (cellsOf s);
+        cells = cells-same (damaged F chosen) (fieldOf G) (cellsOf s) damaged-same
+            (damaged-cells F chosen (cellsOf s) (encoded-cells (classAt s) (cellsOf s) p (cellsOf s)));
+      }
+
+  -- F is the lawful field in reach of G, and its padding is right
+  nearest : NearestTo s G F
+  unfolding F G chosen
+  nearest =
+      nearest-same (classAt s) (cellsOf s) (damaged F chosen) (fieldOf G) F F damaged-same (λ i h. refl)
+      (damaged-nearest (classAt s) (cellsOf s) F chosen one (encoded-lawful (classAt s) (cellsOf s) p))
+
+  padding : PaddingRight (classAt s) (cellsOf s) F
+  unfolding F
+  padding = carries-padding (classAt s) (cellsOf s) (encoded (classAt s) (cellsOf s) p) p (encoded-carries (classAt s) (cellsOf s) p)
+
+  counted : differences (fieldOf G) F (cellsOf s) ≡ differences (fieldOf (fieldWritten s p)) (fieldOf G) (cellsOf s)
+  unfolding F
+  counted =
+      differences-comm (fieldOf G) F (cellsOf s)
+      ∙ differences-same F (fieldOf (fieldWritten s p)) (fieldOf G) (fieldOf G) (cellsOf s) (written-cells s p) (λ i h. refl)
+
+  read : decodeNumber s buffer G ≡ 0
+  read = readingMeans s buffer G readable fits .success .1 (F, nearest, padding)
+
+  mend : correctNumber s G ≡ 0
+  mend = mendingMeans s G readable .success .1 (F, nearest, padding)
+
+  payload-back : decodeLeaves s buffer G ≡ p
+  unfolding F
+  payload-back =
+      decode-leaves s buffer G readable fits read
+      ∙ held-same (classAt s) (cellsOf s) (mended s G) F (nearest-mended s G readable F nearest)
+      ∙ encoded-held (classAt s) (cellsOf s) p p-bytes (p-long ∙ plan-bytes s accepted)
+
+  field-back : correctLeaves s G ≡ fieldWritten s p
+  unfolding F fieldWritten
+  field-back =
+      correct-leaves s G readable mend
+      ∙ listOf-same (mended s G) F (cellsOf s) (nearest-mended s G readable F nearest)
+
+  recovered : Recovered s p selected buffer
+  unfolding G
+  recovered =
+      record {
+        read-number = read;
+        read-payload = payload-back;
+        read-count = readingMeans s buffer G readable fits .count F nearest padding ∙ counted;
+        mend-number = mend;
+        mend-field = field-back;
+        mend-count = mendingMeans s G readable .count F nearest padding ∙ counted;
+      }
+
+-- Theorem. Recovery for any selection with at most one cell in each class.
+pub recoveryByClass : RecoveryByClass
+recoveryByClass s accepted p long bytes selected one buffer fits = recovered s accepted p long bytes selected one buffer fits

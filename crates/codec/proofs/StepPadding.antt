@@ -1,0 +1,69 @@
+-- The test of the padding cells after correction, cell by cell.
+use Prim.Native.Nat.{ℕ, _-_, _*_, _/_, _<_, _≤_}
+use mathlib.Core.Bool.{Bool, true, false, not, _&&_, _||_, true≢false, false≢true}
+use mathlib.Core.Path.{_≡_, refl, ap, _∙_}
+use lib.Dec.{eqb, leb}
+use borrow.Author.Tests.{le-leb, lt-leb}
+use Rattle.lattice.specs.declared.shape.Shape.{Shape}
+use Rattle.lattice.specs.Refusal.{figure}
+use Rattle.lattice.specs.Shape.{Accepted, numberOf, cellsOf}
+use Rattle.lattice.specs.Class.{classAt}
+use Rattle.lattice.specs.Position.{holdsData, capacity}
+use Rattle.codec.specs.Field.{Field}
+use Rattle.codec.specs.Payload.{payloadBytes, padding, isPadding, paddingOk}
+use Rattle.codec.specs.Working.{rankAt, rightAt}
+use Rattle.codec.proofs.StepNumber.{bytes-given, bytes-accepted}
+use Rattle.codec.proofs.StepTest.{Passed, passed-all, failed-at}
+
+-- a cell that is no padding passes, and a padding cell passes by its value
+check : (d e x : Bool) → not d ≡ true → true ≡ (not (d && e) || x)
+check true e x p = absurd (false≢true p)
+check false e x p = refl
+
+bit : (d e x : Bool) → e ≡ false → true ≡ (not (d && e) || x)
+bit true true x p = absurd (true≢false p)
+bit true false x p = refl
+bit false e x p = refl
+
+filler : (d e x : Bool) → not d ≡ false → e ≡ true → x ≡ (not (d && e) || x)
+filler true true x p q = refl
+filler true false x p q = absurd (false≢true q)
+filler false e x p q = absurd (true≢false p)
+
+module _ (d : Bool) (k bits v : ℕ) where
+  pub right-check : not d ≡ true → true ≡ rightAt d k bits v
+  unfolding rightAt
+  right-check p = check d _ _ p
+
+  pub right-bit : k < bits → true ≡ rightAt d k bits v
+  unfolding rightAt
+  right-bit l = bit d (leb bits k) _ (lt-leb bits k l)
+
+  pub right-padding : (x : ℕ) → not d ≡ false → bits ≤ k → x ≡ padding (k - bits) → eqb v x ≡ rightAt d k bits v
+  unfolding rightAt
+  right-padding x p l e = ap (eqb v) e ∙ filler d (leb bits k) _ p (le-leb bits k l)
+
+-- the test of cell i
+unfoldable pub right : Shape → Field → ℕ → Bool
+right s f i =
+    not (isPadding (classAt s) (cellsOf s) i) || eqb (f i) (padding (rankAt s i - 8 * payloadBytes (classAt s) (cellsOf s)))
+
+-- the bits of the payload, as the shape gives them
+pub bits-given : (s : Shape) (k : ℕ) → Accepted s → k ≡ figure (numberOf s) (capacity (classAt s) (cellsOf s))
+    → 8 * (k / 8) ≡ 8 * payloadBytes (classAt s) (cellsOf s)
+bits-given s k a e = ap (λ (n : ℕ). 8 * n) (bytes-given s k e ∙ bytes-accepted s a)
+
+pub right-is : (s : Shape) (f : Field) (i r bits v : ℕ) (d b : Bool) → d ≡ holdsData (classAt s) (cellsOf s) i → r ≡ rankAt s i
+    → bits ≡ 8 * payloadBytes (classAt s) (cellsOf s) → v ≡ f i
+    → b ≡ rightAt d r bits v → b ≡ right s f i
+unfolding rightAt right
+right-is s f i r bits v d b held ranked e value p = p ∙ rw (held, ranked, e, value)
+
+pub padding-passes : (s : Shape) (f : Field) (i n : ℕ) → n ≡ cellsOf s → Passed (right s f) i → i ≤ n → n ≤ i
+    → true ≡ paddingOk (classAt s) (cellsOf s) f
+unfolding paddingOk right
+padding-passes s f i n e p l q = passed-all (right s f) i (cellsOf s) p (rw (← e) l) (rw (← e) q)
+
+pub padding-fails : (s : Shape) (f : Field) (i : ℕ) → i < cellsOf s → right s f i ≡ false → false ≡ paddingOk (classAt s) (cellsOf s) f
+unfolding paddingOk right
+padding-fails s f i l e = failed-at (right s f) i (cellsOf s) l e

@@ -1,0 +1,41 @@
+-- The test of the classes: whether a codeword is in reach of each.
+use Prim.Native.Nat.{ℕ}
+use mathlib.Core.Bool.{Bool}
+use mathlib.Core.List.{List}
+use mathlib.Core.Path.{_≡_, ap, ap₂, _∙_}
+use native.Mathlib.Nat.{lt-of-lt-of-le}
+use lib.Dec.{leb}
+use lib.ListN.{getD}
+use Rattle.lattice.specs.declared.shape.Shape.{Shape}
+use Rattle.lattice.specs.Refusal.{figure}
+use Rattle.lattice.specs.Shape.{Accepted, numberOf, cellsOf}
+use Rattle.lattice.specs.Settings.{settingsOf}
+use Rattle.lattice.specs.Class.{classAt}
+use Rattle.lattice.specs.Position.{allBelow}
+use Rattle.lattice.proofs.ClassBelow.{classes-limit}
+use Rattle.lattice.proofs.Figure.{figure-given}
+use Rattle.codec.specs.Field.{fieldOf}
+use Rattle.codec.specs.Hamming.{inReach, allInReach}
+use Rattle.codec.specs.Working.{Examined}
+use Rattle.codec.proofs.AllBelow.{all-same}
+
+-- the syndrome of class a is at most its size
+abbrev pub reaches : List ℕ → List ℕ → ℕ → Bool
+reaches sizes syndromes a = leb (getD syndromes a 0) (getD sizes a 0)
+
+pub all-reach : (s : Shape) (field sizes syndromes : List ℕ) (m : ℕ) (b : Bool) → Accepted s → Examined s field sizes syndromes
+    → m ≡ figure (numberOf s) (settingsOf s .m) → b ≡ allBelow (reaches sizes syndromes) m
+    → b ≡ allInReach (classAt s) (cellsOf s) (settingsOf s .m) (fieldOf field)
+unfolding allInReach inReach
+all-reach s field sizes syndromes m b a x e p =
+    p
+    ∙ ap (allBelow (reaches sizes syndromes)) (e ∙ figure-given (numberOf s) (settingsOf s .m) a)
+    ∙ all-same
+    (reaches sizes syndromes)
+    (inReach (classAt s) (cellsOf s) (fieldOf field))
+    (settingsOf s .m)
+    (λ c l.
+    ap₂
+    leb
+    (x .held .at c (lt-of-lt-of-le l (classes-limit s a)))
+    (x .sized .at c (lt-of-lt-of-le l (classes-limit s a))))

@@ -1,0 +1,46 @@
+-- Tests of the cells or the classes one by one, up to the first that fails.
+use Prim.Native.Nat.{ℕ, _+_, _<_, _≤_}
+use mathlib.Core.Bool.{Bool, true, false}
+use mathlib.Core.List.{List}
+use mathlib.Core.Path.{_≡_, refl, sym, ap, _∙_}
+use native.Mathlib.Nat.{le-antisymm}
+use lib.ListN.{length, getD}
+use borrow.Author.Tests.{le-leb, lt-leb}
+use Rattle.lattice.specs.Position.{allBelow}
+use Rattle.lattice.proofs.Bools.{and-true}
+use Rattle.codec.specs.Field.{fieldOf, isCell, cellsOk}
+use Rattle.codec.proofs.AllBelow.{all-step, fails-below}
+
+-- the numbers below n pass the test
+pub record Passed (f : ℕ → Bool) (n : ℕ) : Type 0 where
+  pub all : allBelow f n ≡ true
+
+module _ (f : ℕ → Bool) where
+  pub passed-none : Passed f 0
+  passed-none = record { all = refl }
+
+  pub passed-more : (n : ℕ) → Passed f n → f n ≡ true → Passed f (n + 1)
+  passed-more n p e = record { all = all-step f n ∙ and-true (f n) (allBelow f n) e (p .all) }
+
+  pub passed-all : (i n : ℕ) → Passed f i → i ≤ n → n ≤ i → true ≡ allBelow f n
+  passed-all i n p l q = sym (p .all) ∙ ap (allBelow f) (le-antisymm l q)
+
+  pub failed-at : (i n : ℕ) → i < n → f i ≡ false → false ≡ allBelow f n
+  failed-at i n l e = sym (fails-below f i n l e)
+
+-- the test of the cells
+module _ (field : List ℕ) where
+  unfoldable pub cellAt : ℕ → Bool
+  cellAt i = isCell (fieldOf field i)
+
+  pub cell-passes : (i : ℕ) → getD field i 0 ≤ 1 → cellAt i ≡ true
+  unfolding cellAt
+  cell-passes i l = le-leb (getD field i 0) 1 l
+
+  pub cell-fails : (i : ℕ) → i < length field → 1 < getD field i 0 → false ≡ cellsOk (fieldOf field) (length field)
+  unfolding cellsOk cellAt
+  cell-fails i l h = failed-at cellAt i (length field) l (lt-leb (getD field i 0) 1 h)
+
+  pub cells-pass : (i : ℕ) → Passed cellAt i → i ≤ length field → length field ≤ i → true ≡ cellsOk (fieldOf field) (length field)
+  unfolding cellsOk cellAt
+  cells-pass i p l q = passed-all cellAt i (length field) p l q
