@@ -22,7 +22,7 @@ use Rattle.codec.specs.Field.{fieldOf, Cells, cellsOk}
 use Rattle.codec.specs.Hamming.{allInReach}
 use Rattle.codec.specs.Payload.{paddingOk}
 use Rattle.codec.specs.Plan.{planNumber, planClasses, planCapacity, planBytes, planCells}
-use Rattle.codec.specs.Decode.{mended, fieldNumber, decodeNumber, decodeCount, decodeLeaves}
+use Rattle.codec.specs.Decode.{correctedField, fieldNumber, decodeNumber, decodeCount, decodeLeaves}
 use Rattle.codec.specs.Refused.{CellAbove, NoneInReach, WrongPadding, WrongPayload, WrongField, fieldConditions, shapeConditions, encodeConditions, decodeConditions, correctConditions, PlanRefused, EncodeRefused, DecodeRefused, CorrectRefused, RefusalsChangeNothing}
 use Rattle.codec.specs.Encode.{encodeNumber, encodeLeaves}
 use Rattle.codec.specs.Correct.{correctNumber, correctCount, correctLeaves}
@@ -56,19 +56,19 @@ module _ (s : Shape) (field : List ℕ) (accepted : planNumber s ≡ 0) (long : 
         }
 
     module _ (reach : allInReach (classAt s) (cellsOf s) (settingsOf s .m) (fieldOf field) ≡ true) where
-      pub padding-decides : Decides (paddingOk (classAt s) (cellsOf s) (mended s field)) (WrongPadding s field)
+      pub padding-decides : Decides (paddingOk (classAt s) (cellsOf s) (correctedField s field)) (WrongPadding s field)
       padding-decides =
           record {
             fails = λ e. (
-              mended s field,
+              correctedField s field,
               reach-nearest (classAt s) (cellsOf s) (settingsOf s .m) (class-at-below s accepted) (fieldOf field) cells reach,
-              not-padding (classAt s) (cellsOf s) (mended s field) e,
+              not-padding (classAt s) (cellsOf s) (correctedField s field) e,
             );
             passes = λ e wrong.
                 wrong .2
-                (padding-right-same (classAt s) (cellsOf s) (mended s field) (wrong .0)
+                (padding-right-same (classAt s) (cellsOf s) (correctedField s field) (wrong .0)
                 (nearest-corrected (classAt s) (cellsOf s) (fieldOf field) cells (wrong .0) (wrong .1))
-                (ok-padding (classAt s) (cellsOf s) (mended s field) e));
+                (ok-padding (classAt s) (cellsOf s) (correctedField s field) e));
           }
 
 -- what is not unequal is equal
@@ -168,7 +168,7 @@ module _ (s : Shape) (field : List ℕ) (before : List Refusal) (k : ℕ) (k<4 :
             reach-decides s field (good (none .1 .1)) (same (length field) (planCells s) (none .1 .0) ∙ plan-cells s (good (none .1 .1)))
             (cells-passed (none .1 .1) (none .1 .0) (none .0))),
         (
-          paddingOk (classAt s) (cellsOf s) (mended s field),
+          paddingOk (classAt s) (cellsOf s) (correctedField s field),
           _,
           refl,
           lit< tt,

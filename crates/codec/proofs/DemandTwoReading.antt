@@ -17,8 +17,8 @@ use Rattle.lattice.proofs.Figure.{figure-given}
 use Rattle.codec.specs.Field.{Field, fieldOf, Same, differences, listOf}
 use Rattle.codec.specs.Hamming.{allInReach}
 use Rattle.codec.specs.Payload.{PaddingRight, paddingOk, Carries, heldPayload}
-use Rattle.codec.specs.Decode.{mended, fieldNumber, mendedCount, decodeNumber, decodeCount, decodeLeaves}
-use Rattle.codec.specs.Reading.{Readable, NearestTo, RightField, WrongFieldNear, OneNearest, ReadingMeans, MendingMeans}
+use Rattle.codec.specs.Decode.{correctedField, fieldNumber, correctedCount, decodeNumber, decodeCount, decodeLeaves}
+use Rattle.codec.specs.Reading.{Readable, NearestTo, RightField, WrongFieldNear, OneNearest, DecodeMeaning, CorrectMeaning}
 use Rattle.codec.specs.Plan.{planBytes}
 use Rattle.codec.specs.Correct.{correctNumber, correctCount, correctLeaves}
 use Rattle.codec.proofs.Accepted.{class-at-below, plan-bytes, decode-number, correct-number}
@@ -42,14 +42,14 @@ module _ (s : Shape) (field : List ℕ) (readable : Readable s field) where
   reach = allInReach (classAt s) (cellsOf s) (settingsOf s .m) (fieldOf field)
 
   right : Bool
-  right = paddingOk (classAt s) (cellsOf s) (mended s field)
+  right = paddingOk (classAt s) (cellsOf s) (correctedField s field)
 
   field-number : fieldNumber s field ≡ number-of reach right
   unfolding fieldNumber number-of reach right
   field-number = rw (cells-ok (fieldOf field) (cellsOf s) (readable .cells))
 
   -- the mended field is the nearest one where a codeword is in reach of each class
-  mended-nearest : reach ≡ true → NearestTo s field (mended s field)
+  mended-nearest : reach ≡ true → NearestTo s field (correctedField s field)
   unfolding reach
   mended-nearest = reach-nearest (classAt s) (cellsOf s) (settingsOf s .m) (class-at-below s (readable .accepted)) (fieldOf field) (readable .cells)
 
@@ -58,26 +58,26 @@ module _ (s : Shape) (field : List ℕ) (readable : Readable s field) where
   nearest-reach = nearest-all (classAt s) (cellsOf s) (settingsOf s .m) (class-at-below s (readable .accepted)) (fieldOf field) (readable .cells)
 
   -- and any nearest field is the mended one
-  pub nearest-mended : (g : Field) → NearestTo s field g → Same (mended s field) g (cellsOf s)
+  pub nearest-mended : (g : Field) → NearestTo s field g → Same (correctedField s field) g (cellsOf s)
   nearest-mended = nearest-corrected (classAt s) (cellsOf s) (fieldOf field) (readable .cells)
 
-  mended-right : right ≡ true → PaddingRight (classAt s) (cellsOf s) (mended s field)
+  mended-right : right ≡ true → PaddingRight (classAt s) (cellsOf s) (correctedField s field)
   unfolding right
-  mended-right = ok-padding (classAt s) (cellsOf s) (mended s field)
+  mended-right = ok-padding (classAt s) (cellsOf s) (correctedField s field)
 
-  mended-wrong : right ≡ false → ¬ PaddingRight (classAt s) (cellsOf s) (mended s field)
+  mended-wrong : right ≡ false → ¬ PaddingRight (classAt s) (cellsOf s) (correctedField s field)
   unfolding right
-  mended-wrong = not-padding (classAt s) (cellsOf s) (mended s field)
+  mended-wrong = not-padding (classAt s) (cellsOf s) (correctedField s field)
 
   nearest-right : (g : Field) → NearestTo s field g → PaddingRight (classAt s) (cellsOf s) g → right ≡ true
   unfolding right
   nearest-right g near padding =
-      padding-ok (classAt s) (cellsOf s) (mended s field)
-      (padding-right-same (classAt s) (cellsOf s) g (mended s field) (λ i h. sym (nearest-mended g near i h)) padding)
+      padding-ok (classAt s) (cellsOf s) (correctedField s field)
+      (padding-right-same (classAt s) (cellsOf s) g (correctedField s field) (λ i h. sym (nearest-mended g near i h)) padding)
 
   nearest-wrong : (g : Field) → NearestTo s field g → (¬ PaddingRight (classAt s) (cellsOf s) g) → right ≡ true → ⊥
   nearest-wrong g near wrong e =
-      wrong (padding-right-same (classAt s) (cellsOf s) (mended s field) g (nearest-mended g near) (mended-right e))
+      wrong (padding-right-same (classAt s) (cellsOf s) (correctedField s field) g (nearest-mended g near) (mended-right e))
 
   number-is : (a b : Bool) → reach ≡ a → right ≡ b → fieldNumber s field ≡ unless a 6 (unless b 7 0)
   unfolding number-of
@@ -88,7 +88,7 @@ module _ (s : Shape) (field : List ℕ) (readable : Readable s field) where
   number-success = (λ e. to reach right refl refl e, from)
     where
       to : (a b : Bool) → reach ≡ a → right ≡ b → fieldNumber s field ≡ 0 → RightField s field
-      to true true p q e = (mended s field, mended-nearest p, mended-right q)
+      to true true p q e = (correctedField s field, mended-nearest p, mended-right q)
       to true false p q e = absurd (omega (arith, number-is true false p q))
       to false b p q e = absurd (omega (arith, number-is false b p q))
 
@@ -105,7 +105,7 @@ module _ (s : Shape) (field : List ℕ) (readable : Readable s field) where
       to false b p q e = λ g near. true≢false (sym (nearest-reach g near) ∙ p)
 
       from : ((g : Field) → ¬ NearestTo s field g) → (a b : Bool) → reach ≡ a → right ≡ b → fieldNumber s field ≡ 6
-      from none true b p q = absurd (none (mended s field) (mended-nearest p))
+      from none true b p q = absurd (none (correctedField s field) (mended-nearest p))
       from none false b p q = number-is false b p q
 
   -- 7 exactly when one has wrong padding
@@ -114,7 +114,7 @@ module _ (s : Shape) (field : List ℕ) (readable : Readable s field) where
     where
       to : (a b : Bool) → reach ≡ a → right ≡ b → fieldNumber s field ≡ 7 → WrongFieldNear s field
       to true true p q e = absurd (omega (arith, number-is true true p q))
-      to true false p q e = (mended s field, mended-nearest p, mended-wrong q)
+      to true false p q e = (correctedField s field, mended-nearest p, mended-wrong q)
       to false b p q e = absurd (omega (arith, number-is false b p q))
 
       from : WrongFieldNear s field → (b : Bool) → right ≡ b → fieldNumber s field ≡ 7
@@ -122,8 +122,8 @@ module _ (s : Shape) (field : List ℕ) (readable : Readable s field) where
       from found false q = number-is true false (nearest-reach (found .0) (found .1)) q
 
   -- the count is the number of cells where the nearest field differs
-  pub count-nearest : (g : Field) → NearestTo s field g → mendedCount s field ≡ differences (fieldOf field) g (cellsOf s)
-  unfolding mendedCount
+  pub count-nearest : (g : Field) → NearestTo s field g → correctedCount s field ≡ differences (fieldOf field) g (cellsOf s)
+  unfolding correctedCount
   count-nearest = differences-nearest (classAt s) (cellsOf s) (fieldOf field) (readable .cells)
 
 -- what an operation leaves and counts beside the number 0
@@ -138,13 +138,13 @@ module _ (s : Shape) (payload field : List ℕ) (readable : Readable s field) (f
   number : decodeNumber s payload field ≡ fieldNumber s field
   number = decode-number s (readable .accepted) payload field fits (readable .long)
 
-  pub decode-leaves : decodeNumber s payload field ≡ 0 → decodeLeaves s payload field ≡ heldPayload (classAt s) (cellsOf s) (mended s field)
+  pub decode-leaves : decodeNumber s payload field ≡ 0 → decodeLeaves s payload field ≡ heldPayload (classAt s) (cellsOf s) (correctedField s field)
   unfolding decodeLeaves
   decode-leaves = leaves-new (decodeNumber s payload field) _ payload
 
-  pub decode-count : decodeNumber s payload field ≡ 0 → decodeCount s payload field ≡ mendedCount s field
+  pub decode-count : decodeNumber s payload field ≡ 0 → decodeCount s payload field ≡ correctedCount s field
   unfolding decodeCount
-  decode-count = figure-given (decodeNumber s payload field) (mendedCount s field)
+  decode-count = figure-given (decodeNumber s payload field) (correctedCount s field)
 
   decoded : (g : Field) → NearestTo s field g → PaddingRight (classAt s) (cellsOf s) g → decodeNumber s payload field ≡ 0
   decoded g near padding = number ∙ number-success s field readable .1 (g, near, padding)
@@ -153,21 +153,21 @@ module _ (s : Shape) (payload field : List ℕ) (readable : Readable s field) (f
       → Carries (classAt s) (cellsOf s) g (decodeLeaves s payload field)
   gives g near padding =
       rw (decode-leaves (decoded g near padding))
-      (carries-same (classAt s) (cellsOf s) (mended s field) g _ (nearest-mended s field readable g near)
-      (held-carries (classAt s) (cellsOf s) (mended s field) (corrected-cells (classAt s) (cellsOf s) (fieldOf field) (readable .cells))
-      (padding-right-same (classAt s) (cellsOf s) g (mended s field) (λ i h. sym (nearest-mended s field readable g near i h)) padding)))
+      (carries-same (classAt s) (cellsOf s) (correctedField s field) g _ (nearest-mended s field readable g near)
+      (held-carries (classAt s) (cellsOf s) (correctedField s field) (corrected-cells (classAt s) (cellsOf s) (fieldOf field) (readable .cells))
+      (padding-right-same (classAt s) (cellsOf s) g (correctedField s field) (λ i h. sym (nearest-mended s field readable g near i h)) padding)))
 
 -- Theorem. Decoding gives 0, 6 or 7 by the lawful fields in reach, and with 0 the payload that it carries and the number of cells where it differs.
-pub readingMeans : ReadingMeans
-readingMeans s payload field readable fits =
+pub decodeMeaning : DecodeMeaning
+decodeMeaning s payload field readable fits =
     record {
       success = carry (decodeNumber s payload field) (fieldNumber s field) 0 same (number-success s field readable);
       none = carry (decodeNumber s payload field) (fieldNumber s field) 6 same (number-none s field readable);
       wrong = carry (decodeNumber s payload field) (fieldNumber s field) 7 same (number-wrong s field readable);
-      long = λ e. ap length (decode-leaves s payload field readable fits e) ∙ held-length (classAt s) (cellsOf s) (mended s field) ∙ sym (plan-bytes s (readable .accepted));
+      long = λ e. ap length (decode-leaves s payload field readable fits e) ∙ held-length (classAt s) (cellsOf s) (correctedField s field) ∙ sym (plan-bytes s (readable .accepted));
       bytes = λ e.
           rw (decode-leaves s payload field readable fits e)
-          (held-bytes (classAt s) (cellsOf s) (mended s field) (corrected-cells (classAt s) (cellsOf s) (fieldOf field) (readable .cells)));
+          (held-bytes (classAt s) (cellsOf s) (correctedField s field) (corrected-cells (classAt s) (cellsOf s) (fieldOf field) (readable .cells)));
       gives = gives s payload field readable fits;
       count = λ g near padding.
           decode-count s payload field readable fits (decoded s payload field readable fits g near padding) ∙ count-nearest s field readable g near;
@@ -177,28 +177,28 @@ readingMeans s payload field readable fits =
     same = number s payload field readable fits
 
 module _ (s : Shape) (field : List ℕ) (readable : Readable s field) where
-  pub correct-leaves : correctNumber s field ≡ 0 → correctLeaves s field ≡ listOf (mended s field) (cellsOf s)
+  pub correct-leaves : correctNumber s field ≡ 0 → correctLeaves s field ≡ listOf (correctedField s field) (cellsOf s)
   unfolding correctLeaves
   correct-leaves = leaves-new (correctNumber s field) _ field
 
-  pub correct-count : correctNumber s field ≡ 0 → correctCount s field ≡ mendedCount s field
+  pub correct-count : correctNumber s field ≡ 0 → correctCount s field ≡ correctedCount s field
   unfolding correctCount
-  correct-count = figure-given (correctNumber s field) (mendedCount s field)
+  correct-count = figure-given (correctNumber s field) (correctedCount s field)
 
   corrected : (g : Field) → NearestTo s field g → PaddingRight (classAt s) (cellsOf s) g → correctNumber s field ≡ 0
   corrected g near padding = correct-number s (readable .accepted) field (readable .long) ∙ number-success s field readable .1 (g, near, padding)
 
 -- Theorem. Correcting likewise, leaving that field.
-pub mendingMeans : MendingMeans
-mendingMeans s field readable =
+pub correctMeaning : CorrectMeaning
+correctMeaning s field readable =
     record {
       success = carry (correctNumber s field) (fieldNumber s field) 0 same (number-success s field readable);
       none = carry (correctNumber s field) (fieldNumber s field) 6 same (number-none s field readable);
       wrong = carry (correctNumber s field) (fieldNumber s field) 7 same (number-wrong s field readable);
-      long = λ e. ap length (correct-leaves s field readable e) ∙ length-listOf (mended s field) (cellsOf s);
+      long = λ e. ap length (correct-leaves s field readable e) ∙ length-listOf (correctedField s field) (cellsOf s);
       leaves = λ g near padding i h.
           ap (λ (l : List ℕ). fieldOf l i) (correct-leaves s field readable (corrected s field readable g near padding))
-          ∙ getD-listOf (mended s field) (cellsOf s) i h
+          ∙ getD-listOf (correctedField s field) (cellsOf s) i h
           ∙ nearest-mended s field readable g near i h;
       count = λ g near padding.
           correct-count s field readable (corrected s field readable g near padding) ∙ count-nearest s field readable g near;

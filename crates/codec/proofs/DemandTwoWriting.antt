@@ -7,8 +7,8 @@ use Rattle.lattice.specs.Shape.{cellsOf}
 use Rattle.lattice.specs.Class.{classAt}
 use Rattle.codec.specs.Field.{fieldOf, Same}
 use Rattle.codec.specs.Payload.{encoded}
-use Rattle.codec.specs.Encode.{fieldWritten}
-use Rattle.codec.specs.Writing.{WritingMeans}
+use Rattle.codec.specs.Encode.{encodedField}
+use Rattle.codec.specs.Writing.{EncodeMeaning}
 use Rattle.codec.proofs.Accepted.{plan-bytes}
 use Rattle.codec.proofs.FieldLists.{length-listOf, getD-listOf, same-listOf}
 use Rattle.codec.proofs.Correction.{lawful-same}
@@ -16,22 +16,22 @@ use Rattle.codec.proofs.EncodedField.{encoded-lawful, encoded-carries, 
 use Rattle.codec.proofs.HeldPayload.{carries-same, encoded-different}
 
 -- the buffer of the field written holds the encoded cells
-pub written-cells : (s : Shape) (p : List ℕ) → Same (encoded (classAt s) (cellsOf s) p) (fieldOf (fieldWritten s p)) (cellsOf s)
-unfolding fieldWritten
+pub written-cells : (s : Shape) (p : List ℕ) → Same (encoded (classAt s) (cellsOf s) p) (fieldOf (encodedField s p)) (cellsOf s)
+unfolding encodedField
 written-cells s p i h = sym (getD-listOf (encoded (classAt s) (cellsOf s) p) (cellsOf s) i h)
 
 -- Theorem. The field written has the plan's cells, is lawful, carries the payload, and is the only such field; two different payloads give two
 -- different fields.
-pub writingMeans : WritingMeans
-unfolding fieldWritten
-writingMeans =
+pub encodeMeaning : EncodeMeaning
+unfolding encodedField
+encodeMeaning =
     record {
       long = λ s p. length-listOf (encoded (classAt s) (cellsOf s) p) (cellsOf s);
       lawful = λ s accepted p long bytes.
-          lawful-same (classAt s) (cellsOf s) (encoded (classAt s) (cellsOf s) p) (fieldOf (fieldWritten s p)) (written-cells s p)
+          lawful-same (classAt s) (cellsOf s) (encoded (classAt s) (cellsOf s) p) (fieldOf (encodedField s p)) (written-cells s p)
           (encoded-lawful (classAt s) (cellsOf s) p);
       carries = λ s accepted p long bytes.
-          carries-same (classAt s) (cellsOf s) (encoded (classAt s) (cellsOf s) p) (fieldOf (fieldWritten s p)) p (written-cells s p)
+          carries-same (classAt s) (cellsOf s) (encoded (classAt s) (cellsOf s) p) (fieldOf (encodedField s p)) p (written-cells s p)
           (encoded-carries (classAt s) (cellsOf s) p);
       only = λ s accepted p long bytes f lawful carries i h.
           encoded-only (classAt s) (cellsOf s) p f lawful carries i h ∙ written-cells s p i h;

@@ -15,7 +15,7 @@ pub mod EncodedField
 pub mod FieldLists
 pub mod HeldByte
 pub mod HeldPayload
-pub mod NothingToMend
+pub mod NothingToCorrect
 pub mod OnCorrect
 pub mod OnDecode
 pub mod OnEncode
@@ -33,7 +33,7 @@ pub mod StepData
 pub mod StepExamine
 pub mod StepHeld
 pub mod StepList
-pub mod StepMended
+pub mod StepCorrected
 pub mod StepNumber
 pub mod StepPadding
 pub mod StepPayloadBit

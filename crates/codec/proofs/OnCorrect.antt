@@ -12,7 +12,7 @@ use Rattle.lattice.proofs.Figure.{figure-given, figure-none}
 use Rattle.codec.specs.declared.correct.CorrectAnswer.{CorrectAnswer}
 use Rattle.codec.specs.Field.{listOf}
 use Rattle.codec.specs.Plan.{planCells}
-use Rattle.codec.specs.Decode.{mended, fieldNumber, mendedCount}
+use Rattle.codec.specs.Decode.{correctedField, fieldNumber, correctedCount}
 use Rattle.codec.specs.Correct.{correctNumber, correctCount, correctLeaves}
 use Rattle.codec.specs.Answer.{IsCorrected, correctAnswerNumber, correctAnswerCount}
 use Rattle.codec.specs.declared.correct.CorrectAnswer.the-variants as cor
@@ -28,11 +28,11 @@ module _ (s : Shape) (field : List ℕ) where
       let other : correctNumber s field ≡ 0 → ⊥ = λ z. some (sym e ∙ z) in
       record {
         number = p ∙ sym e;
-        count = q ∙ sym (figure-none (correctNumber s field) (mendedCount s field) other);
+        count = q ∙ sym (figure-none (correctNumber s field) (correctedCount s field) other);
         leaves =
             sym
             (ap
-            (λ (b : Bool). cond b (listOf (mended s field) (cellsOf s)) field)
+            (λ (b : Bool). cond b (listOf (correctedField s field) (cellsOf s)) field)
             (ne-eqb (correctNumber s field) 0 other));
       }
 
@@ -70,18 +70,18 @@ module _ (s : Shape) (field : List ℕ) where
       bad-padding p = refused 7 cor.BadPadding (own-number 7 p) (λ z. omega arith) refl refl
 
       -- the mended field, and the number of cells turned over
-      pub given : (t ≡ 5 → ⊥) → (t ≡ 6 → ⊥) → (t ≡ 7 → ⊥) → (last : List ℕ) → last ≡ listOf (mended s field) (cellsOf s)
-          → (k : ℕ) → k ≡ mendedCount s field → IsCorrected s field last (cor.Corrected k)
+      pub given : (t ≡ 5 → ⊥) → (t ≡ 6 → ⊥) → (t ≡ 7 → ⊥) → (last : List ℕ) → last ≡ listOf (correctedField s field) (cellsOf s)
+          → (k : ℕ) → k ≡ correctedCount s field → IsCorrected s field last (cor.Corrected k)
       unfolding correctLeaves correctCount
       given five six seven last w k n =
           let none = own-number 0 (number-zero s field t tested five six seven) in
           record {
             number = sym none;
-            count = n ∙ sym (figure-given (correctNumber s field) (mendedCount s field) none);
+            count = n ∙ sym (figure-given (correctNumber s field) (correctedCount s field) none);
             leaves =
                 w
                 ∙ sym
                 (ap
-                (λ (b : Bool). cond b (listOf (mended s field) (cellsOf s)) field)
+                (λ (b : Bool). cond b (listOf (correctedField s field) (cellsOf s)) field)
                 (eq-eqb (correctNumber s field) 0 none));
           }

@@ -13,7 +13,7 @@ use Rattle.lattice.proofs.Figure.{figure-given, figure-none}
 use Rattle.codec.specs.declared.decode.DecodeAnswer.{DecodeAnswer}
 use Rattle.codec.specs.Payload.{heldPayload}
 use Rattle.codec.specs.Plan.{planBytes, planCells}
-use Rattle.codec.specs.Decode.{mended, fieldNumber, mendedCount, decodeNumber, decodeCount, decodeLeaves}
+use Rattle.codec.specs.Decode.{correctedField, fieldNumber, correctedCount, decodeNumber, decodeCount, decodeLeaves}
 use Rattle.codec.specs.Answer.{IsDecoded, decodeAnswerNumber, decodeAnswerCount}
 use Rattle.codec.specs.declared.decode.DecodeAnswer.the-variants as dec
 use Rattle.codec.proofs.StepExamine.{number-zero}
@@ -28,11 +28,11 @@ module _ (s : Shape) (payload field : List ℕ) where
       let other : decodeNumber s payload field ≡ 0 → ⊥ = λ z. some (sym e ∙ z) in
       record {
         number = p ∙ sym e;
-        count = q ∙ sym (figure-none (decodeNumber s payload field) (mendedCount s field) other);
+        count = q ∙ sym (figure-none (decodeNumber s payload field) (correctedCount s field) other);
         leaves =
             sym
             (ap
-            (λ (b : Bool). cond b (heldPayload (classAt s) (cellsOf s) (mended s field)) payload)
+            (λ (b : Bool). cond b (heldPayload (classAt s) (cellsOf s) (correctedField s field)) payload)
             (ne-eqb (decodeNumber s payload field) 0 other));
       }
 
@@ -79,18 +79,18 @@ module _ (s : Shape) (payload field : List ℕ) where
 
         -- the payload that the mended field holds, and the number of cells turned over
         pub given : (t ≡ 5 → ⊥) → (t ≡ 6 → ⊥) → (t ≡ 7 → ⊥)
-            → (last : List ℕ) → last ≡ heldPayload (classAt s) (cellsOf s) (mended s field)
-            → (k : ℕ) → k ≡ mendedCount s field → IsDecoded s payload field last (dec.Decoded k)
+            → (last : List ℕ) → last ≡ heldPayload (classAt s) (cellsOf s) (correctedField s field)
+            → (k : ℕ) → k ≡ correctedCount s field → IsDecoded s payload field last (dec.Decoded k)
         unfolding decodeLeaves decodeCount
         given five six seven last w k n =
             let none = own-number 0 (number-zero s field t tested five six seven) in
             record {
               number = sym none;
-              count = n ∙ sym (figure-given (decodeNumber s payload field) (mendedCount s field) none);
+              count = n ∙ sym (figure-given (decodeNumber s payload field) (correctedCount s field) none);
               leaves =
                   w
                   ∙ sym
                   (ap
-                  (λ (b : Bool). cond b (heldPayload (classAt s) (cellsOf s) (mended s field)) payload)
+                  (λ (b : Bool). cond b (heldPayload (classAt s) (cellsOf s) (correctedField s field)) payload)
                   (eq-eqb (decodeNumber s payload field) 0 none));
             }

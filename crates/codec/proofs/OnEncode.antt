@@ -10,7 +10,7 @@ use Rattle.lattice.specs.declared.shape.Shape.{Shape}
 use Rattle.lattice.specs.Shape.{numberOf, Accepted}
 use Rattle.codec.specs.declared.encode.EncodeAnswer.{EncodeAnswer}
 use Rattle.codec.specs.Plan.{planBytes, planCells}
-use Rattle.codec.specs.Encode.{encodeNumber, fieldWritten, encodeLeaves}
+use Rattle.codec.specs.Encode.{encodeNumber, encodedField, encodeLeaves}
 use Rattle.codec.specs.Answer.{IsEncoded, encodeAnswerNumber}
 use Rattle.codec.specs.declared.encode.EncodeAnswer.the-variants as enc
 use Rattle.codec.proofs.StepNumber.{shape-refused, shape-accepted, unless-equal, unless-other}
@@ -26,7 +26,7 @@ module _ (s : Shape) (p field : List ℕ) where
         leaves =
             sym
             (ap
-            (λ (b : Bool). cond b (fieldWritten s p) field)
+            (λ (b : Bool). cond b (encodedField s p) field)
             (ne-eqb (encodeNumber s p field) 0 (λ z. some (sym e ∙ z))));
       }
 
@@ -61,10 +61,10 @@ module _ (s : Shape) (p field : List ℕ) where
       none-number q = shape-accepted s _ a ∙ unless-equal _ _ 3 _ e ∙ unless-equal _ _ 4 _ q
 
       -- the field written
-      pub written : length field ≡ planCells s → (last : List ℕ) → last ≡ fieldWritten s p → IsEncoded s p field last enc.Encoded
+      pub written : length field ≡ planCells s → (last : List ℕ) → last ≡ encodedField s p → IsEncoded s p field last enc.Encoded
       unfolding encodeLeaves
       written q last w =
           record {
             number = sym (none-number q);
-            leaves = w ∙ sym (ap (λ (b : Bool). cond b (fieldWritten s p) field) (eq-eqb (encodeNumber s p field) 0 (none-number q)));
+            leaves = w ∙ sym (ap (λ (b : Bool). cond b (encodedField s p) field) (eq-eqb (encodeNumber s p field) 0 (none-number q)));
           }

@@ -9,8 +9,8 @@ pub oneCodeword : OneCodeword
 oneCodeword =
     record {
       one = λ cls n f g h a f-cells g-cells h-cells g-near g-word h-near h-word i below own.
-        sym (near-corrected cls n f g a f-cells g-cells g-near g-word i below own)
-        ∙ near-corrected cls n f h a f-cells h-cells h-near h-word i below own;
+          sym (near-corrected cls n f g a f-cells g-cells g-near g-word i below own)
+          ∙ near-corrected cls n f h a f-cells h-cells h-near h-word i below own;
       none = λ cls n f g a f-cells g-cells above near word.
-        omega (arith, reach-size cls n f a (near-reach cls n f g a f-cells g-cells near word))
+          omega (arith, reach-size cls n f a (near-reach cls n f g a f-cells g-cells near word));
     }

@@ -11,7 +11,7 @@ use Rattle.codec.specs.Field.{cellsOk, differences}
 use Rattle.codec.specs.Hamming.{inReach, allInReach, corrected}
 use Rattle.codec.specs.Payload.{payloadBytes, rank, padding, paddingOk, heldPayload}
 use Rattle.codec.specs.Plan.{planCapacity, planBytes, planCells}
-use Rattle.codec.specs.Decode.{fieldNumber, mendedCount, decodeNumber, decodeCount, decodeLeaves}
+use Rattle.codec.specs.Decode.{fieldNumber, correctedCount, decodeNumber, decodeCount, decodeLeaves}
 use Rattle.codec.specs.Examples.{PaperExamples, paperExamples}
 
 -- Theorem. The examples hold.
@@ -24,6 +24,6 @@ unfolding
     order failsAt outcome testStrengthOk testSettingsOk testNumber verdict foundTriple triplesTried
     cellsOk differences inReach allInReach corrected
     payloadBytes rank padding paddingOk heldPayload planCapacity planBytes planCells
-    fieldNumber mendedCount decodeNumber decodeCount decodeLeaves
+    fieldNumber correctedCount decodeNumber decodeCount decodeLeaves
 paperExamplesHold =
     (refl, (refl, (refl, (refl, (refl, (refl, (refl, (refl, (refl, (refl, (refl, (refl, (refl, (refl, (refl, (refl, (refl, (refl, (refl, (refl, (refl, (refl, (refl, tt)))))))))))))))))))))))

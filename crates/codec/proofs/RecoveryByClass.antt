@@ -11,8 +11,8 @@ use Rattle.lattice.specs.Class.{classAt}
 use Rattle.codec.specs.Field.{Field, fieldOf, flip, Same, differences}
 use Rattle.codec.specs.Payload.{Bytes, PaddingRight, encoded}
 use Rattle.codec.specs.Plan.{planNumber, planBytes}
-use Rattle.codec.specs.Encode.{fieldWritten}
-use Rattle.codec.specs.Decode.{mended, decodeNumber, decodeLeaves}
+use Rattle.codec.specs.Encode.{encodedField}
+use Rattle.codec.specs.Decode.{correctedField, decodeNumber, decodeLeaves}
 use Rattle.codec.specs.Correct.{correctNumber, correctLeaves}
 use Rattle.codec.specs.Reading.{Readable, NearestTo}
 use Rattle.codec.specs.Recovery.{damaged, damagedField, Recovered, RecoveryByClass}
@@ -25,7 +25,7 @@ use Rattle.codec.proofs.FieldLists.{length-listOf, getD-listOf, listOf-
 use Rattle.codec.proofs.DemandTwoReading.{nearest-mended}
 use Rattle.codec.proofs.HeldPayload.{held-same, encoded-held}
 use Rattle.codec.proofs.PaddingCells.{carries-padding}
-use Rattle.codec.proofs.DemandTwoReading.{readingMeans, mendingMeans, decode-leaves, correct-leaves}
+use Rattle.codec.proofs.DemandTwoReading.{decodeMeaning, correctMeaning, decode-leaves, correct-leaves}
 use Rattle.codec.proofs.DemandTwoWriting.{written-cells}
 
 module _ (s : Shape) (accepted : planNumber s ≡ 0) (p : List ℕ) (p-long : length p ≡ planBytes s) (p-bytes : Bytes p) (selected : Cell → Bool)
@@ -45,14 +45,14 @@ module _ (s : Shape) (accepted : planNumber s ≡ 0) (p : List ℕ) (p-long : le
   unfolding F G chosen damaged
   damaged-same i h =
       ap (λ (v : ℕ). cond (selected (cellAt s i)) (flip v) v) (written-cells s p i h)
-      ∙ sym (getD-listOf (damaged (fieldOf (fieldWritten s p)) (λ j. selected (cellAt s j))) (cellsOf s) i h)
+      ∙ sym (getD-listOf (damaged (fieldOf (encodedField s p)) (λ j. selected (cellAt s j))) (cellsOf s) i h)
 
   readable : Readable s G
   unfolding F G chosen
   readable =
       record {
         accepted = accepted;
-        long = length-listOf (damaged (fieldOf (fieldWritten s p)) (λ i. selected (cellAt s i))) (cellsOf s);
+        long = length-listOf (damaged (fieldOf (encodedField s p)) (λ i. selected (cellAt s i))) (cellsOf s);
         cells = cells-same (damaged F chosen) (fieldOf G) (cellsOf s) damaged-same
             (damaged-cells F chosen (cellsOf s) (encoded-cells (classAt s) (cellsOf s) p (cellsOf s)));
       }
@@ -68,41 +68,41 @@ module _ (s : Shape) (accepted : planNumber s ≡ 0) (p : List ℕ) (p-long : le
   unfolding F
   padding = carries-padding (classAt s) (cellsOf s) (encoded (classAt s) (cellsOf s) p) p (encoded-carries (classAt s) (cellsOf s) p)
 
-  counted : differences (fieldOf G) F (cellsOf s) ≡ differences (fieldOf (fieldWritten s p)) (fieldOf G) (cellsOf s)
+  counted : differences (fieldOf G) F (cellsOf s) ≡ differences (fieldOf (encodedField s p)) (fieldOf G) (cellsOf s)
   unfolding F
   counted =
       differences-comm (fieldOf G) F (cellsOf s)
-      ∙ differences-same F (fieldOf (fieldWritten s p)) (fieldOf G) (fieldOf G) (cellsOf s) (written-cells s p) (λ i h. refl)
+      ∙ differences-same F (fieldOf (encodedField s p)) (fieldOf G) (fieldOf G) (cellsOf s) (written-cells s p) (λ i h. refl)
 
   read : decodeNumber s buffer G ≡ 0
-  read = readingMeans s buffer G readable fits .success .1 (F, nearest, padding)
+  read = decodeMeaning s buffer G readable fits .success .1 (F, nearest, padding)
 
   mend : correctNumber s G ≡ 0
-  mend = mendingMeans s G readable .success .1 (F, nearest, padding)
+  mend = correctMeaning s G readable .success .1 (F, nearest, padding)
 
   payload-back : decodeLeaves s buffer G ≡ p
   unfolding F
   payload-back =
       decode-leaves s buffer G readable fits read
-      ∙ held-same (classAt s) (cellsOf s) (mended s G) F (nearest-mended s G readable F nearest)
+      ∙ held-same (classAt s) (cellsOf s) (correctedField s G) F (nearest-mended s G readable F nearest)
       ∙ encoded-held (classAt s) (cellsOf s) p p-bytes (p-long ∙ plan-bytes s accepted)
 
-  field-back : correctLeaves s G ≡ fieldWritten s p
-  unfolding F fieldWritten
+  field-back : correctLeaves s G ≡ encodedField s p
+  unfolding F encodedField
   field-back =
       correct-leaves s G readable mend
-      ∙ listOf-same (mended s G) F (cellsOf s) (nearest-mended s G readable F nearest)
+      ∙ listOf-same (correctedField s G) F (cellsOf s) (nearest-mended s G readable F nearest)
 
   recovered : Recovered s p selected buffer
   unfolding G
   recovered =
       record {
-        read-number = read;
-        read-payload = payload-back;
-        read-count = readingMeans s buffer G readable fits .count F nearest padding ∙ counted;
-        mend-number = mend;
-        mend-field = field-back;
-        mend-count = mendingMeans s G readable .count F nearest padding ∙ counted;
+        decoded-number = read;
+        decoded-payload = payload-back;
+        decoded-count = decodeMeaning s buffer G readable fits .count F nearest padding ∙ counted;
+        corrected-number = mend;
+        corrected-field = field-back;
+        corrected-count = correctMeaning s G readable .count F nearest padding ∙ counted;
       }
 
 -- Theorem. Recovery for any selection with at most one cell in each class.

@@ -13,7 +13,7 @@ use Rattle.lattice.specs.Class.{classAt}
 use Rattle.codec.specs.Field.{fieldOf, Cells, cellsOk}
 use Rattle.codec.specs.Hamming.{allInReach}
 use Rattle.codec.specs.Payload.{paddingOk}
-use Rattle.codec.specs.Decode.{mended, fieldNumber}
+use Rattle.codec.specs.Decode.{correctedField, fieldNumber}
 use Rattle.codec.specs.Working.{FieldFits}
 use Rattle.codec.proofs.FieldLists.{ok-cells}
 use Rattle.codec.proofs.StepNumber.{unless-passed, unless-failed}
@@ -34,11 +34,11 @@ module _ (s : Shape) (field : List ℕ) where
     number-reach q = sym (unless-passed _ 5 _ p ∙ unless-failed _ 6 _ q)
 
     module _ (q : allInReach (classAt s) (cellsOf s) (settingsOf s .m) (fieldOf field) ≡ true) where
-      pub number-padding : paddingOk (classAt s) (cellsOf s) (mended s field) ≡ false → 7 ≡ fieldNumber s field
+      pub number-padding : paddingOk (classAt s) (cellsOf s) (correctedField s field) ≡ false → 7 ≡ fieldNumber s field
       unfolding fieldNumber
       number-padding r = sym (unless-passed _ 5 _ p ∙ unless-passed _ 6 _ q ∙ unless-failed _ 7 _ r)
 
-      pub number-none : paddingOk (classAt s) (cellsOf s) (mended s field) ≡ true → 0 ≡ fieldNumber s field
+      pub number-none : paddingOk (classAt s) (cellsOf s) (correctedField s field) ≡ true → 0 ≡ fieldNumber s field
       unfolding fieldNumber
       number-none r = sym (unless-passed _ 5 _ p ∙ unless-passed _ 6 _ q ∙ unless-passed _ 7 _ r)
 
@@ -57,7 +57,7 @@ number-zero s field k e p q r =
     ∙ zero-left
     (cellsOk (fieldOf field) (cellsOf s))
     (allInReach (classAt s) (cellsOf s) (settingsOf s .m) (fieldOf field))
-    (paddingOk (classAt s) (cellsOf s) (mended s field))
+    (paddingOk (classAt s) (cellsOf s) (correctedField s field))
     (λ z. p (e ∙ z))
     (λ z. q (e ∙ z))
     (λ z. r (e ∙ z))

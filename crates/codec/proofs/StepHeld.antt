@@ -18,11 +18,11 @@ use Rattle.lattice.specs.Class.{classAt}
 use Rattle.lattice.specs.Position.{holdsData}
 use Rattle.codec.specs.Field.{Field, fieldOf, Cells}
 use Rattle.codec.specs.Payload.{payloadBytes, heldByte, heldPayload}
-use Rattle.codec.specs.Decode.{mended}
+use Rattle.codec.specs.Decode.{correctedField}
 use Rattle.codec.specs.Working.{BitStored, rankAt}
 use Rattle.codec.proofs.FieldLists.{list-field}
 use Rattle.codec.proofs.HeldByte.{bitsOf, byte-below}
-use Rattle.codec.proofs.StepMended.{mended-cells}
+use Rattle.codec.proofs.StepCorrected.{mended-cells}
 
 -- a test that failed leaves the byte
 kept : (d b : Bool) (x y : ℕ) → b ≡ false → y ≡ cond (d && b) x y
@@ -86,16 +86,16 @@ byte-limit s f j c =
 
 -- all the cells: the buffer is the payload that the mended field holds
 pub bytes-all : (s : Shape) (field l : List ℕ) (n i : ℕ) → Cells (fieldOf field) (cellsOf s)
-    → length l ≡ payloadBytes (classAt s) (cellsOf s) → n ≡ cellsOf s → i ≤ n → n ≤ i → HoldsBytes s (mended s field) l i
-    → l ≡ heldPayload (classAt s) (cellsOf s) (mended s field)
+    → length l ≡ payloadBytes (classAt s) (cellsOf s) → n ≡ cellsOf s → i ≤ n → n ≤ i → HoldsBytes s (correctedField s field) l i
+    → l ≡ heldPayload (classAt s) (cellsOf s) (correctedField s field)
 unfolding heldPayload
 bytes-all s field l n i cells long e p q holds =
     list-field
     l
-    (λ j. heldByte (classAt s) (cellsOf s) (mended s field) j (cellsOf s))
+    (λ j. heldByte (classAt s) (cellsOf s) (correctedField s field) j (cellsOf s))
     (payloadBytes (classAt s) (cellsOf s))
     long
     (λ j h.
     holds .at j (rw long h)
-    ∙ ap (λ (m : ℕ). heldByte (classAt s) (cellsOf s) (mended s field) j m % 256) (le-antisymm p q ∙ e)
-    ∙ mod-eq-of-lt (byte-limit s (mended s field) j (mended-cells s field cells)))
+    ∙ ap (λ (m : ℕ). heldByte (classAt s) (cellsOf s) (correctedField s field) j m % 256) (le-antisymm p q ∙ e)
+    ∙ mod-eq-of-lt (byte-limit s (correctedField s field) j (mended-cells s field cells)))

@@ -13,7 +13,7 @@ use Rattle.lattice.specs.Class.{classAt}
 use Rattle.lattice.proofs.Limits.{legal}
 use Rattle.codec.specs.Field.{listOf}
 use Rattle.codec.specs.Payload.{encoded}
-use Rattle.codec.specs.Encode.{fieldWritten}
+use Rattle.codec.specs.Encode.{encodedField}
 use Rattle.codec.specs.Working.{HoldsZeros, HoldsSizes, AtPlane, Filled, planeCells, rankAt}
 use Rattle.codec.proofs.FieldLists.{listOf-same}
 use Rattle.codec.proofs.StepData.{rank-none}
@@ -91,8 +91,8 @@ module _ (s : Shape) (payload xs : List ℕ) (long : length xs ≡ cellsOf s) (m
         }
 
     -- all planes filled
-    pub planes-all : z ≤ s .planes → s .planes ≤ z → ys ≡ fieldWritten s payload
-    unfolding fieldWritten
+    pub planes-all : z ≤ s .planes → s .planes ≤ z → ys ≡ encodedField s payload
+    unfolding encodedField
     planes-all p q =
         f .cells
         ∙ ap

@@ -20,14 +20,14 @@ use Rattle.codec.specs.Field.{fieldOf}
 use Rattle.codec.specs.Hamming.{syndrome, Lawful}
 use Rattle.codec.specs.Payload.{Bytes, Carries, PaddingRight, encoded}
 use Rattle.codec.specs.Plan.{planNumber, planCapacity, planBytes, planCells}
-use Rattle.codec.specs.Encode.{encodeNumber, fieldWritten}
+use Rattle.codec.specs.Encode.{encodeNumber, encodedField}
 use Rattle.codec.specs.Decode.{decodeNumber}
 use Rattle.codec.specs.Correct.{correctNumber}
 use Rattle.codec.specs.Reading.{Readable, NearestTo}
 use Rattle.codec.proofs.Correction.{lawful-nearest}
-use Rattle.codec.proofs.NothingToMend.{nothingToMend}
+use Rattle.codec.proofs.NothingToCorrect.{nothingToCorrect}
 use Rattle.codec.proofs.PaddingCells.{carries-padding}
-use Rattle.codec.proofs.DemandTwoWriting.{writingMeans}
+use Rattle.codec.proofs.DemandTwoWriting.{encodeMeaning}
 
 -- the plan accepts the field
 pub accepted : planNumber field ≡ 0
@@ -50,24 +50,24 @@ payload-bytes (suc j) = lit< tt
 
 -- the field written from it can be read, and is its own nearest lawful field, with right padding
 abbrev pub written : List ℕ
-written = fieldWritten field payload
+written = encodedField field payload
 
 pub written-readable : Readable field written
 written-readable =
     record {
       accepted = accepted;
-      long = writingMeans .long field payload;
-      cells = writingMeans .lawful field accepted payload payload-long payload-bytes .cells;
+      long = encodeMeaning .long field payload;
+      cells = encodeMeaning .lawful field accepted payload payload-long payload-bytes .cells;
     }
 
 pub written-nearest : NearestTo field written (fieldOf written)
 written-nearest =
-    lawful-nearest (classAt field) (cellsOf field) (fieldOf written) (writingMeans .lawful field accepted payload payload-long payload-bytes)
+    lawful-nearest (classAt field) (cellsOf field) (fieldOf written) (encodeMeaning .lawful field accepted payload payload-long payload-bytes)
 
 pub written-padding : PaddingRight (classAt field) (cellsOf field) (fieldOf written)
 written-padding =
     carries-padding (classAt field) (cellsOf field) (fieldOf written) payload
-    (writingMeans .carries field accepted payload payload-long payload-bytes)
+    (encodeMeaning .carries field accepted payload payload-long payload-bytes)
 
 -- a selection of one cell of the cluster of three
 abbrev pub isCorner : Cell → Bool
@@ -101,13 +101,13 @@ corner-one i j hi hj si sj same =
 
 -- the field written is mended, and is lawful and carries the payload
 pub written-mended : correctNumber field written ≡ 0
-written-mended = nothingToMend .mend field accepted payload payload-long payload-bytes .0
+written-mended = nothingToCorrect .mend field accepted payload payload-long payload-bytes .0
 
 pub written-lawful : Lawful (classAt field) (cellsOf field) (fieldOf written)
-written-lawful = writingMeans .lawful field accepted payload payload-long payload-bytes
+written-lawful = encodeMeaning .lawful field accepted payload payload-long payload-bytes
 
 pub written-carries : Carries (classAt field) (cellsOf field) (fieldOf written) payload
-written-carries = writingMeans .carries field accepted payload payload-long payload-bytes
+written-carries = encodeMeaning .carries field accepted payload payload-long payload-bytes
 
 -- two black cells of a class of two: the exclusive or of their positions is above its size
 pub both-above : size (λ i. 0) 0 2 < syndrome (λ i. 0) (fieldOf (1 ∷ 1 ∷ [])) 0 2

@@ -9,7 +9,7 @@ use Rattle.lattice.specs.Refusal.{unless, figure}
 use Rattle.lattice.specs.Shape.{sizeOk, strengthOk, cellsOf}
 use Rattle.codec.specs.Field.{listOf}
 use Rattle.codec.specs.Plan.{planCells}
-use Rattle.codec.specs.Decode.{mended, fieldNumber, mendedCount}
+use Rattle.codec.specs.Decode.{correctedField, fieldNumber, correctedCount}
 
 -- the number: 1, 2, then 4 for a field whose length isn't the plan's, then the field's own 5, 6 and 7
 unfoldable pub correctNumber : Shape → List ℕ → ℕ
@@ -21,8 +21,8 @@ correctNumber s field =
 
 -- the count that correcting gives
 unfoldable pub correctCount : Shape → List ℕ → ℕ
-correctCount s field = figure (correctNumber s field) (mendedCount s field)
+correctCount s field = figure (correctNumber s field) (correctedCount s field)
 
 -- what correcting leaves in the lent field: the mended field, or beside a refusal its bytes
 unfoldable pub correctLeaves : Shape → List ℕ → List ℕ
-correctLeaves s field = cond (eqb (correctNumber s field) 0) (listOf (mended s field) (cellsOf s)) field
+correctLeaves s field = cond (eqb (correctNumber s field) 0) (listOf (correctedField s field) (cellsOf s)) field

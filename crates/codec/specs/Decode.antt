@@ -15,15 +15,15 @@ use Rattle.codec.specs.Payload.{paddingOk, heldPayload}
 use Rattle.codec.specs.Plan.{planBytes, planCells}
 
 -- the mended field
-abbrev pub mended : Shape → List ℕ → Field
-mended s field = corrected (classAt s) (cellsOf s) (fieldOf field)
+abbrev pub correctedField : Shape → List ℕ → Field
+correctedField s field = corrected (classAt s) (cellsOf s) (fieldOf field)
 
 -- the tests of the field itself: 5 for a cell above 1, 6 for a class with no codeword in reach, 7 for wrong padding after mending
 unfoldable pub fieldNumber : Shape → List ℕ → ℕ
 fieldNumber s field =
     unless (cellsOk (fieldOf field) (cellsOf s)) 5
     (unless (allInReach (classAt s) (cellsOf s) (settingsOf s .m) (fieldOf field)) 6
-    (unless (paddingOk (classAt s) (cellsOf s) (mended s field)) 7
+    (unless (paddingOk (classAt s) (cellsOf s) (correctedField s field)) 7
     0))
 
 -- the number: 1, 2, then 3 for a payload buffer and 4 for a field whose length isn't the plan's, then the field's own
@@ -36,14 +36,14 @@ decodeNumber s payload field =
     (fieldNumber s field))))
 
 -- the count of cells that mending turns over
-unfoldable pub mendedCount : Shape → List ℕ → ℕ
-mendedCount s field = differences (fieldOf field) (mended s field) (cellsOf s)
+unfoldable pub correctedCount : Shape → List ℕ → ℕ
+correctedCount s field = differences (fieldOf field) (correctedField s field) (cellsOf s)
 
 -- the count that decoding gives
 unfoldable pub decodeCount : Shape → List ℕ → List ℕ → ℕ
-decodeCount s payload field = figure (decodeNumber s payload field) (mendedCount s field)
+decodeCount s payload field = figure (decodeNumber s payload field) (correctedCount s field)
 
 -- what decoding leaves in the lent payload: the payload that the mended field holds, or beside a refusal its bytes
 unfoldable pub decodeLeaves : Shape → List ℕ → List ℕ → List ℕ
 decodeLeaves s payload field =
-    cond (eqb (decodeNumber s payload field) 0) (heldPayload (classAt s) (cellsOf s) (mended s field)) payload
+    cond (eqb (decodeNumber s payload field) 0) (heldPayload (classAt s) (cellsOf s) (correctedField s field)) payload

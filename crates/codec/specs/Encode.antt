@@ -22,9 +22,9 @@ encodeNumber s p field =
     0)))
 
 -- the field written from a payload
-unfoldable pub fieldWritten : Shape → List ℕ → List ℕ
-fieldWritten s p = listOf (encoded (classAt s) (cellsOf s) p) (cellsOf s)
+unfoldable pub encodedField : Shape → List ℕ → List ℕ
+encodedField s p = listOf (encoded (classAt s) (cellsOf s) p) (cellsOf s)
 
 -- what encoding leaves in the lent field: the field written, or beside a refusal its bytes
 unfoldable pub encodeLeaves : Shape → List ℕ → List ℕ → List ℕ
-encodeLeaves s p field = cond (eqb (encodeNumber s p field) 0) (fieldWritten s p) field
+encodeLeaves s p field = cond (eqb (encodeNumber s p field) 0) (encodedField s p) field

@@ -19,10 +19,10 @@ use Rattle.codec.specs.Correct.{correctNumber, correctCount, correctLeav
 -- class's size.
 pub record OneCodeword : Type 0 where
   pub one : (cls : ℕ → ℕ) (n : ℕ) (f g h : Field) (a : ℕ) → Cells f n → Cells g n → Cells h n
-    → Near cls n f g a → Codeword cls n g a → Near cls n f h a → Codeword cls n h a
-    → (i : ℕ) → i < n → cls i ≡ a → g i ≡ h i
+      → Near cls n f g a → Codeword cls n g a → Near cls n f h a → Codeword cls n h a
+      → (i : ℕ) → i < n → cls i ≡ a → g i ≡ h i
   pub none : (cls : ℕ → ℕ) (n : ℕ) (f g : Field) (a : ℕ) → Cells f n → Cells g n → size cls a n < syndrome cls f a n
-    → Near cls n f g a → ¬ Codeword cls n g a
+      → Near cls n f g a → ¬ Codeword cls n g a
 
 -- what is asked of a reading of a field: an accepted shape, a field of the plan's length, and cells that are all 0 or 1
 pub record Readable (s : Shape) (field : List ℕ) : Type 0 where
@@ -59,8 +59,8 @@ pub record DecodingMeans (s : Shape) (payload field : List ℕ) : Type 0 where
   pub count : (g : Field) → NearestTo s field g → PaddingRight (classAt s) (cellsOf s) g
       → decodeCount s payload field ≡ differences (fieldOf field) g (cellsOf s)
 
-abbrev pub ReadingMeans : Type 0
-ReadingMeans =
+abbrev pub DecodeMeaning : Type 0
+DecodeMeaning =
     (s : Shape) (payload field : List ℕ) → Readable s field → length payload ≡ planBytes s → DecodingMeans s payload field
 
 -- Theorem (demand 2). Correcting likewise, leaving that field.
@@ -74,5 +74,5 @@ pub record CorrectingMeans (s : Shape) (field : List ℕ) : Type 0 where
   pub count : (g : Field) → NearestTo s field g → PaddingRight (classAt s) (cellsOf s) g
       → correctCount s field ≡ differences (fieldOf field) g (cellsOf s)
 
-abbrev pub MendingMeans : Type 0
-MendingMeans = (s : Shape) (field : List ℕ) → Readable s field → CorrectingMeans s field
+abbrev pub CorrectMeaning : Type 0
+CorrectMeaning = (s : Shape) (field : List ℕ) → Readable s field → CorrectingMeans s field

@@ -13,7 +13,7 @@ use Rattle.lattice.specs.Labelling.{labels, Separates}
 use Rattle.codec.specs.Field.{Field, fieldOf, listOf, flip, differences}
 use Rattle.codec.specs.Payload.{Bytes}
 use Rattle.codec.specs.Plan.{planNumber, planClasses, planBytes}
-use Rattle.codec.specs.Encode.{fieldWritten}
+use Rattle.codec.specs.Encode.{encodedField}
 use Rattle.codec.specs.Decode.{decodeNumber, decodeCount, decodeLeaves}
 use Rattle.codec.specs.Correct.{correctNumber, correctCount, correctLeaves}
 
@@ -23,19 +23,19 @@ damaged f selected i = cond (selected i) (flip (f i)) (f i)
 
 -- F is the field written from p, and G is F with the selected cells turned over
 abbrev pub damagedField : Shape → List ℕ → (Cell → Bool) → List ℕ
-damagedField s p selected = listOf (damaged (fieldOf (fieldWritten s p)) (λ i. selected (cellAt s i))) (cellsOf s)
+damagedField s p selected = listOf (damaged (fieldOf (encodedField s p)) (λ i. selected (cellAt s i))) (cellsOf s)
 
 -- reading G into any payload buffer of the plan's length, whatever it held, gives 0, exactly p, and the number of cells where F and G differ;
 -- mending G gives 0, leaves exactly F, and the same count
 pub record Recovered (s : Shape) (p : List ℕ) (selected : Cell → Bool) (buffer : List ℕ) : Type 0 where
-  pub read-number : decodeNumber s buffer (damagedField s p selected) ≡ 0
-  pub read-payload : decodeLeaves s buffer (damagedField s p selected) ≡ p
-  pub read-count : decodeCount s buffer (damagedField s p selected)
-      ≡ differences (fieldOf (fieldWritten s p)) (fieldOf (damagedField s p selected)) (cellsOf s)
-  pub mend-number : correctNumber s (damagedField s p selected) ≡ 0
-  pub mend-field : correctLeaves s (damagedField s p selected) ≡ fieldWritten s p
-  pub mend-count : correctCount s (damagedField s p selected)
-      ≡ differences (fieldOf (fieldWritten s p)) (fieldOf (damagedField s p selected)) (cellsOf s)
+  pub decoded-number : decodeNumber s buffer (damagedField s p selected) ≡ 0
+  pub decoded-payload : decodeLeaves s buffer (damagedField s p selected) ≡ p
+  pub decoded-count : decodeCount s buffer (damagedField s p selected)
+      ≡ differences (fieldOf (encodedField s p)) (fieldOf (damagedField s p selected)) (cellsOf s)
+  pub corrected-number : correctNumber s (damagedField s p selected) ≡ 0
+  pub corrected-field : correctLeaves s (damagedField s p selected) ≡ encodedField s p
+  pub corrected-count : correctCount s (damagedField s p selected)
+      ≡ differences (fieldOf (encodedField s p)) (fieldOf (damagedField s p selected)) (cellsOf s)
 
 -- Theorem. Recovery for any selection with at most one cell in each class.
 abbrev pub RecoveryByClass : Type 0
@@ -66,12 +66,12 @@ ClassesNeeded =
     → (L : Cell → ℕ) → Separates s (s .strength) L → planClasses s ≤ labels s L
 
 -- Theorem. Reading what was written gives its payload and count 0, and mending it changes nothing; mending a mended field changes nothing.
-pub record NothingToMend : Type 0 where
+pub record NothingToCorrect : Type 0 where
   pub read : (s : Shape) → planNumber s ≡ 0 → (p : List ℕ) → length p ≡ planBytes s → Bytes p
       → (buffer : List ℕ) → length buffer ≡ planBytes s
-      → (decodeNumber s buffer (fieldWritten s p) ≡ 0) × (decodeLeaves s buffer (fieldWritten s p) ≡ p) × (decodeCount s buffer (fieldWritten s p) ≡ 0)
+      → (decodeNumber s buffer (encodedField s p) ≡ 0) × (decodeLeaves s buffer (encodedField s p) ≡ p) × (decodeCount s buffer (encodedField s p) ≡ 0)
   pub mend : (s : Shape) → planNumber s ≡ 0 → (p : List ℕ) → length p ≡ planBytes s → Bytes p
-      → (correctNumber s (fieldWritten s p) ≡ 0) × (correctLeaves s (fieldWritten s p) ≡ fieldWritten s p) × (correctCount s (fieldWritten s p) ≡ 0)
+      → (correctNumber s (encodedField s p) ≡ 0) × (correctLeaves s (encodedField s p) ≡ encodedField s p) × (correctCount s (encodedField s p) ≡ 0)
   pub again : (s : Shape) (field : List ℕ) → correctNumber s field ≡ 0
       → (correctNumber s (correctLeaves s field) ≡ 0) × (correctLeaves s (correctLeaves s field) ≡ correctLeaves s field)
       × (correctCount s (correctLeaves s field) ≡ 0)

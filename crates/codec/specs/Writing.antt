@@ -11,7 +11,7 @@ use Rattle.codec.specs.Field.{Field, fieldOf, Same}
 use Rattle.codec.specs.Hamming.{Lawful}
 use Rattle.codec.specs.Payload.{Bytes, Carries, payloadBit, isPadding}
 use Rattle.codec.specs.Plan.{planNumber, planBytes}
-use Rattle.codec.specs.Encode.{fieldWritten}
+use Rattle.codec.specs.Encode.{encodedField}
 
 -- Theorem. A payload is told by its bits: two of one length with the same bits are one.
 abbrev pub BitsTell : Type 0
@@ -25,13 +25,13 @@ PaddingFew = (cls : ℕ → ℕ) (n : ℕ) → count (isPadding cls n) n ≤ 7
 
 -- Theorem (demand 2). For every shape that the plan accepts and every payload of the plan's length the field written has the plan's cells,
 -- is lawful, has the payload's bits and the padding in the cells that hold no check, and is the only such field; and two different payloads give two different fields.
-pub record WritingMeans : Type 0 where
-  pub long : (s : Shape) (p : List ℕ) → length (fieldWritten s p) ≡ cellsOf s
+pub record EncodeMeaning : Type 0 where
+  pub long : (s : Shape) (p : List ℕ) → length (encodedField s p) ≡ cellsOf s
   pub lawful : (s : Shape) → planNumber s ≡ 0 → (p : List ℕ) → length p ≡ planBytes s → Bytes p
-      → Lawful (classAt s) (cellsOf s) (fieldOf (fieldWritten s p))
+      → Lawful (classAt s) (cellsOf s) (fieldOf (encodedField s p))
   pub carries : (s : Shape) → planNumber s ≡ 0 → (p : List ℕ) → length p ≡ planBytes s → Bytes p
-      → Carries (classAt s) (cellsOf s) (fieldOf (fieldWritten s p)) p
+      → Carries (classAt s) (cellsOf s) (fieldOf (encodedField s p)) p
   pub only : (s : Shape) → planNumber s ≡ 0 → (p : List ℕ) → length p ≡ planBytes s → Bytes p
-      → (f : Field) → Lawful (classAt s) (cellsOf s) f → Carries (classAt s) (cellsOf s) f p → Same f (fieldOf (fieldWritten s p)) (cellsOf s)
+      → (f : Field) → Lawful (classAt s) (cellsOf s) f → Carries (classAt s) (cellsOf s) f p → Same f (fieldOf (encodedField s p)) (cellsOf s)
   pub different : (s : Shape) → planNumber s ≡ 0 → (p q : List ℕ) → length p ≡ planBytes s → length q ≡ planBytes s → Bytes p → Bytes q
-      → fieldWritten s p ≡ fieldWritten s q → p ≡ q
+      → encodedField s p ≡ encodedField s q → p ≡ q

@@ -3,7 +3,7 @@ ghost use mathlib.Core.Path.{_≡_};
 ghost use Rattle.lattice.specs.Shape.{cellsOf};
 ghost use Rattle.lattice.specs.Class.{classAt};
 ghost use Rattle.codec.specs.Field.{fieldOf, listOf};
-ghost use Rattle.codec.specs.Decode.{mended, mendedCount};
+ghost use Rattle.codec.specs.Decode.{correctedField, correctedCount};
 ghost use Rattle.codec.specs.Answer.{IsCorrected};
 ghost use Rattle.codec.specs.Working.{HoldsSyndromes, FieldFits};
 use crate::examine::examine;
@@ -27,22 +27,22 @@ pub enum CorrectAnswer {
 fn store_corrected(shape: Shape, syndromes: &[u32; Shape::MAX_CLASSES], field: &mut [u8]) -> usize
     requires { ⌜ FieldFits shape (now field) ⌝ }
     requires { ⌜ HoldsSyndromes (classAt shape) (fieldOf (now field)) (now syndromes) (cellsOf shape) ⌝ }
-    ensures { λ r. ⌜ now (field .exit) ≡ listOf (mended shape (now (field .entry))) (cellsOf shape) ⌝ }
-    ensures { λ r. ⌜ r ≡ mendedCount shape (now (field .entry)) ⌝ }
+    ensures { λ r. ⌜ now (field .exit) ≡ listOf (correctedField shape (now (field .entry))) (cellsOf shape) ⌝ }
+    ensures { λ r. ⌜ r ≡ correctedCount shape (now (field .entry)) ⌝ }
 {
     let settings = shape.settings();
     let mut counts = [0u32; Shape::MAX_CLASSES];
-    let mut turned = 0;
+    let mut flipped = 0;
     let mut i = 0;
     while i < field.len() {
         let place = place_of(&mut counts, shape, settings, i as u32);
         let before = field[i];
         let value = corrected_value(syndromes, place, before);
         field[i] = value;
-        turned = count_if(before != value, turned);
+        flipped = count_if(before != value, flipped);
         i += 1;
     }
-    turned
+    flipped
 }
 
 // Stores the mended field and gives the number of cells turned over, or gives the refusal 1, 2, 4, 5, 6 or 7.

@@ -6,7 +6,7 @@ ghost use Rattle.lattice.specs.Shape.{cellsOf};
 ghost use Rattle.lattice.specs.Class.{classAt};
 ghost use Rattle.codec.specs.Field.{fieldOf, Cells};
 ghost use Rattle.codec.specs.Payload.{payloadBytes, heldPayload};
-ghost use Rattle.codec.specs.Decode.{mended, mendedCount};
+ghost use Rattle.codec.specs.Decode.{correctedField, correctedCount};
 ghost use Rattle.codec.specs.Answer.{IsDecoded};
 ghost use Rattle.codec.specs.Working.{FieldFits, Examined, BitStored};
 use crate::examine::examine;
@@ -63,14 +63,14 @@ fn store_payload(
     requires { ⌜ Examined shape (now field) (now sizes) (now syndromes) ⌝ }
     requires { ⌜ Cells (fieldOf (now field)) (cellsOf shape) ⌝ }
     requires { ⌜ length (now payload) ≡ payloadBytes (classAt shape) (cellsOf shape) ⌝ }
-    ensures { λ r. ⌜ now (payload .exit) ≡ heldPayload (classAt shape) (cellsOf shape) (mended shape (now (field .entry))) ⌝ }
-    ensures { λ r. ⌜ r ≡ mendedCount shape (now (field .entry)) ⌝ }
+    ensures { λ r. ⌜ now (payload .exit) ≡ heldPayload (classAt shape) (cellsOf shape) (correctedField shape (now (field .entry))) ⌝ }
+    ensures { λ r. ⌜ r ≡ correctedCount shape (now (field .entry)) ⌝ }
 {
     clear(payload);
     let settings = shape.settings();
     let mut counts = [0u32; Shape::MAX_CLASSES];
     let mut rank = 0;
-    let mut turned = 0;
+    let mut flipped = 0;
     let mut i = 0;
     while i < field.len() {
         let place = place_of(&mut counts, shape, settings, i as u32);
@@ -79,10 +79,10 @@ fn store_payload(
         let value = corrected_value(syndromes, place, before);
         store_bit(payload, is_data, rank, value);
         rank = count_if(is_data, rank);
-        turned = count_if(before != value, turned);
+        flipped = count_if(before != value, flipped);
         i += 1;
     }
-    turned
+    flipped
 }
 
 // Stores the payload and gives the number of cells turned over, or gives the refusal 1, 2, 3, 4, 5, 6 or 7.

@@ -6,7 +6,7 @@ ghost use lib.ListN.{getD, length};
 ghost use Rattle.lattice.specs.Shape.{maxClasses, Accepted, cellsOf};
 ghost use Rattle.lattice.specs.Class.{classAt};
 ghost use Rattle.codec.specs.Payload.{payloadBytes};
-ghost use Rattle.codec.specs.Encode.{fieldWritten};
+ghost use Rattle.codec.specs.Encode.{encodedField};
 ghost use Rattle.codec.specs.Answer.{IsEncoded};
 ghost use Rattle.codec.specs.Working.{HoldsZeros, HoldsData, PayloadFits, AtPlane, Filled, planeCells, valueAt};
 use crate::walk::Place;
@@ -132,7 +132,7 @@ fn fill_planes(
     requires { ⌜ PayloadFits shape (now payload) (now sizes) ⌝ }
     requires { ⌜ HoldsData shape (now payload) (now syndromes) ⌝ }
     requires { ⌜ length (now field) ≡ cellsOf shape ⌝ }
-    ensures { λ _. ⌜ now (field .exit) ≡ fieldWritten shape (now (payload .entry)) ⌝ }
+    ensures { λ _. ⌜ now (field .exit) ≡ encodedField shape (now (payload .entry)) ⌝ }
 {
     let cells = plane_cells(shape);
     let planes = shape.planes as usize;
@@ -160,7 +160,7 @@ fn write_field(shape: Shape, payload: &[u8], field: &mut [u8])
     requires { ⌜ Accepted shape ⌝ }
     requires { ⌜ length (now payload) ≡ payloadBytes (classAt shape) (cellsOf shape) ⌝ }
     requires { ⌜ length (now field) ≡ cellsOf shape ⌝ }
-    ensures { λ _. ⌜ now (field .exit) ≡ fieldWritten shape (now (payload .entry)) ⌝ }
+    ensures { λ _. ⌜ now (field .exit) ≡ encodedField shape (now (payload .entry)) ⌝ }
 {
     let mut sizes = [0u32; Shape::MAX_CLASSES];
     class_sizes(shape, &mut sizes);

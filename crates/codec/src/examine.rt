@@ -8,7 +8,7 @@ ghost use Rattle.lattice.specs.Class.{classAt};
 ghost use Rattle.lattice.specs.Position.{allBelow};
 ghost use Rattle.codec.specs.Field.{fieldOf, cellsOk};
 ghost use Rattle.codec.specs.Payload.{paddingOk};
-ghost use Rattle.codec.specs.Decode.{mended, fieldNumber};
+ghost use Rattle.codec.specs.Decode.{correctedField, fieldNumber};
 ghost use Rattle.codec.specs.Working.{HoldsZeros, HoldsSyndromes, FieldFits, Examined, rightAt};
 use crate::walk::corrected_value;
 use crate::walk::count_if;
@@ -90,7 +90,7 @@ fn padding_ok(
 ) -> bool
     requires { ⌜ FieldFits shape (now field) ⌝ }
     requires { ⌜ Examined shape (now field) (now sizes) (now syndromes) ⌝ }
-    ensures { λ r. ⌜ r ≡ paddingOk (classAt shape) (cellsOf shape) (mended shape (now (field .entry))) ⌝ }
+    ensures { λ r. ⌜ r ≡ paddingOk (classAt shape) (cellsOf shape) (correctedField shape (now (field .entry))) ⌝ }
 {
     let settings = shape.settings();
     let bits = 8 * (shape.capacity() / 8);

@@ -83,7 +83,10 @@ unfolding oddSettings evenSettings
 flat-most t p = go (eqb (t % 2) 1) refl
   where
     go : (b : Bool) → eqb (t % 2) 1 ≡ b → flatSettings t .m ≤ maxClasses
-    go true e = rw (flat-odd t (eqb-true (t % 2) 1 e)) (omega (arith, square-most t 32 p))
+    go true e =
+        let o = eqb-true (t % 2) 1 e in
+        let below : t ≤ 31 = omega arith in
+        rw (flat-odd t o) (omega (arith, square-most t 31 below))
     go false e = rw (flat-even t (eqb-false (t % 2) 1 e)) (omega (arith, square-most t 32 p))
 
 -- the stack rows of the strengths 1 to 8 have 1 to 92 classes

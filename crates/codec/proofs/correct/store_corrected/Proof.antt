@@ -4,16 +4,16 @@ use mathlib.Core.Path.{_≡_}
 use native.Mathlib.Omega.{arith}
 use lib.ListN.{length, length-set}
 use mir.Facts.{fits-lt, fits-lit}
-use Rattle.codec.proofs.StepMended.{MendedTo, mended-none, mended-length, mended-cell, mended-all, turned-limit, turned-all}
+use Rattle.codec.proofs.StepCorrected.{MendedTo, mended-none, mended-length, mended-cell, mended-all, turned-limit, turned-all}
 use Rattle.codec.proofs.StepPlace.{cell-below, cell-limit, zeros}
 use Rattle.codec.proofs.correct.store_corrected.Statement.{statement}
 use Rattle.codec.proofs.correct.store_corrected.Tie as tie
 
 abbrev Inv-loop : tie.InvT-loop
-Inv-loop shape syndromes field₀ settings counts₀ turned₀ i₀ field counts turned i = (i ≤ length field₀) × MendedTo shape field₀ field counts turned i
+Inv-loop shape syndromes field₀ settings counts₀ turned₀ i₀ field counts flipped i = (i ≤ length field₀) × MendedTo shape field₀ field counts flipped i
 
 abbrev μ-loop : tie.MeasureT-loop
-μ-loop shape syndromes field₀ settings counts₀ turned₀ i₀ field counts turned i = length field - i
+μ-loop shape syndromes field₀ settings counts₀ turned₀ i₀ field counts flipped i = length field - i
 
 same : (c : tie.At-loop Inv-loop μ-loop) → length (c .loop .field) ≡ length (c .before .before .before .args .field .now)
 same c = mended-length _ _ _ _ _ _ (c .loop .inv .1) (c .loop .inv .0)

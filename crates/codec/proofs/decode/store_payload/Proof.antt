@@ -8,23 +8,23 @@ use Rattle.lattice.specs.Shape.{cellsOf}
 use Rattle.lattice.specs.Class.{classAt}
 use Rattle.lattice.specs.Position.{holdsData}
 use Rattle.codec.specs.Field.{fieldOf, differences}
-use Rattle.codec.specs.Decode.{mended}
+use Rattle.codec.specs.Decode.{correctedField}
 use Rattle.codec.specs.Working.{HoldsSizes, rankAt}
 use Rattle.codec.proofs.StepData.{data-is, rank-none, rank-more, rank-limit}
 use Rattle.codec.proofs.StepHeld.{HoldsBytes, bytes-none, bytes-more, bytes-all}
-use Rattle.codec.proofs.StepMended.{mended-is, differences-none, differences-more, differences-limit, differences-all}
+use Rattle.codec.proofs.StepCorrected.{mended-is, differences-none, differences-more, differences-limit, differences-all}
 use Rattle.codec.proofs.StepPlace.{cell-below, cell-limit, counts-none, zeros}
 use Rattle.codec.proofs.decode.store_payload.Statement.{statement}
 use Rattle.codec.proofs.decode.store_payload.Tie as tie
 
 abbrev Inv-loop : tie.InvT-loop
-Inv-loop shape field sizes syndromes payload₀ settings counts₀ rank₀ turned₀ i₀ payload counts rank turned i =
+Inv-loop shape field sizes syndromes payload₀ settings counts₀ rank₀ turned₀ i₀ payload counts rank flipped i =
     (i ≤ length field) × HoldsSizes (classAt shape) counts i × (rank ≡ rankAt shape i) × (length payload ≡ length payload₀)
-    × HoldsBytes shape (mended shape field) payload i
-    × (turned ≡ differences (fieldOf field) (mended shape field) i)
+    × HoldsBytes shape (correctedField shape field) payload i
+    × (flipped ≡ differences (fieldOf field) (correctedField shape field) i)
 
 abbrev μ-loop : tie.MeasureT-loop
-μ-loop shape field sizes syndromes payload₀ settings counts₀ rank₀ turned₀ i₀ payload counts rank turned i = length field - i
+μ-loop shape field sizes syndromes payload₀ settings counts₀ rank₀ turned₀ i₀ payload counts rank flipped i = length field - i
 
 limit : (c : tie.In-loop Inv-loop μ-loop) → c .before .loop .i < 65536
 limit c = cell-limit _ _ (c .before .before .before .before .before .before .before .before .before .pre .0 .long) _ (c .loop-test .taken) (c .before .before .before .before .before .before .before .before .before .pre .0 .accepted)
@@ -37,7 +37,7 @@ held c = data-is _ _ (c .before .before .before .before .before .before .before 
 
 -- its value after correction
 value : (c : tie.After-corrected-value Inv-loop μ-loop)
-    → c .corrected-value .result ≡ mended (c .before .before .before .before .before .before .before .before .before .before .before .before .before .before .args .shape) (c .before .before .before .before .before .before .before .before .before .before .before .before .before .before .args .field .now) (c .before .before .before .before .before .before .loop .i)
+    → c .corrected-value .result ≡ correctedField (c .before .before .before .before .before .before .before .before .before .before .before .before .before .before .args .shape) (c .before .before .before .before .before .before .before .before .before .before .before .before .before .before .args .field .now) (c .before .before .before .before .before .before .loop .i)
 value c =
     mended-is
     _
@@ -96,7 +96,7 @@ count-if-requires-2 : tie.Need-count-if-requires-2 Inv-loop μ-loop
 count-if-requires-2 c κs =
     differences-limit
     (fieldOf (c .before .before .before .before .before .before .before .before .before .before .before .before .before .before .before .before .before .before .before .args .field .now))
-    (mended (c .before .before .before .before .before .before .before .before .before .before .before .before .before .before .before .before .before .before .before .args .shape) (c .before .before .before .before .before .before .before .before .before .before .before .before .before .before .before .before .before .before .before .args .field .now))
+    (correctedField (c .before .before .before .before .before .before .before .before .before .before .before .before .before .before .before .before .before .before .before .args .shape) (c .before .before .before .before .before .before .before .before .before .before .before .before .before .before .before .before .before .before .before .args .field .now))
     _ _
     (limit (c .before .before .before .before .before .before .before .before .before .before))
     (c .before .before .before .before .before .before .before .before .before .before .before .loop .inv .5)
@@ -123,7 +123,7 @@ loop-again c = (
       (c .before .before .before .before .store-bit .ensures),
   differences-more
       (fieldOf (c .before .before .before .before .before .before .before .before .before .before .before .before .before .before .before .before .before .before .before .before .args .field .now))
-      (mended (c .before .before .before .before .before .before .before .before .before .before .before .before .before .before .before .before .before .before .before .before .args .shape) (c .before .before .before .before .before .before .before .before .before .before .before .before .before .before .before .before .before .before .before .before .args .field .now))
+      (correctedField (c .before .before .before .before .before .before .before .before .before .before .before .before .before .before .before .before .before .before .before .before .args .shape) (c .before .before .before .before .before .before .before .before .before .before .before .before .before .before .before .before .before .before .before .before .args .field .now))
       _ _ _ _ _
       (c .before .before .before .before .before .before .before .before .before .before .before .before .loop .inv .5)
       refl

@@ -48,9 +48,10 @@ loop-less c = omega arith
 
 loop-again : tie.Need-loop-again Inv-loop μ-loop
 loop-again c =
-    let a = c .before .before .before .before .before .args in
-    (omega arith,
-    last-passes (reaches (a .sizes .now) (a .syndromes .now)) (a .m) (c .before .before .before .before .loop .left) (c .before .before .before .before .loop .inv .1) (c .before .before .before .loop-test .taken) (le-leb _ _ (c .if1 .left)))
+    let a = c .before .before .before .before .before .args in (
+      omega arith,
+      last-passes (reaches (a .sizes .now) (a .syndromes .now)) (a .m) (c .before .before .before .before .loop .left) (c .before .before .before .before .loop .inv .1) (c .before .before .before .loop-test .taken) (le-leb _ _ (c .if1 .left)),
+    )
 
 returns-2 : tie.Need-returns-2 Inv-loop μ-loop
 returns-2 c =

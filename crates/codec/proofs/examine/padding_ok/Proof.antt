@@ -8,10 +8,10 @@ use mir.Facts.{fits-lt, fits-lit}
 use Rattle.lattice.specs.Shape.{cellsOf}
 use Rattle.lattice.specs.Class.{classAt}
 use Rattle.lattice.specs.Position.{holdsData}
-use Rattle.codec.specs.Decode.{mended}
+use Rattle.codec.specs.Decode.{correctedField}
 use Rattle.codec.specs.Working.{HoldsSizes, rankAt}
 use Rattle.codec.proofs.StepData.{data-is, rank-none, rank-more, rank-limit}
-use Rattle.codec.proofs.StepMended.{mended-is}
+use Rattle.codec.proofs.StepCorrected.{mended-is}
 use Rattle.codec.proofs.StepPadding.{right, right-is, bits-given, padding-passes, padding-fails}
 use Rattle.codec.proofs.StepPlace.{cell-below, cell-limit, counts-none, zeros}
 use Rattle.codec.proofs.StepTest.{Passed, passed-none, passed-more}
@@ -21,7 +21,7 @@ use Rattle.codec.proofs.examine.padding_ok.Tie as tie
 abbrev Inv-loop : tie.InvT-loop
 Inv-loop shape field sizes syndromes settings bits counts₀ rank₀ i₀ counts rank i =
     (i ≤ length field) × HoldsSizes (classAt shape) counts i × (rank ≡ rankAt shape i)
-    × Passed (right shape (mended shape field)) i
+    × Passed (right shape (correctedField shape field)) i
 
 abbrev μ-loop : tie.MeasureT-loop
 μ-loop shape field sizes syndromes settings bits counts₀ rank₀ i₀ counts rank i = length field - i
@@ -37,7 +37,7 @@ held c = data-is _ _ (c .before .before .before .before .before .before .before 
 
 -- the test of a turn
 tested : (c : tie.After-is-right Inv-loop μ-loop)
-    → c .is-right .result ≡ right (c .before .before .before .before .before .before .before .before .before .before .before .args .shape) (mended (c .before .before .before .before .before .before .before .before .before .before .before .args .shape) (c .before .before .before .before .before .before .before .before .before .before .before .args .field .now)) (c .before .before .before .before .before .before .before .loop .i)
+    → c .is-right .result ≡ right (c .before .before .before .before .before .before .before .before .before .before .before .args .shape) (correctedField (c .before .before .before .before .before .before .before .before .before .before .before .args .shape) (c .before .before .before .before .before .before .before .before .before .before .before .args .field .now)) (c .before .before .before .before .before .before .before .loop .i)
 tested c =
     right-is
     _ _ _ _ _ _ _ _

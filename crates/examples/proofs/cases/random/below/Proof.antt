@@ -1,0 +1,10 @@
+-- `below` is safe and meets its bound: a remainder is below its divisor.
+use native.Mathlib.Nat.{mod-lt}
+use borrow.Author.Needs.{needs}
+use Rattle.examples.proofs.cases.random.below.Statement.{statement}
+use Rattle.examples.proofs.cases.random.below.Tie as tie
+
+pub below-spec : {M : Type 1} → statement M
+below-spec =
+    tie.close
+    (tie.spec (λ c. search needs) (λ c. mod-lt _ (c .pre)))

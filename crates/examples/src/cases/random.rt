@@ -1,0 +1,35 @@
+// A fixed generator (xorshift).
+ghost use Prim.Native.Nat.{_<_, _≤_};
+
+pub(crate) fn next(x: u64) -> u64 {
+    let a = x ^ (x << 13);
+    let b = a ^ (a >> 7);
+    b ^ (b << 17)
+}
+
+// The start of the numbers of a case.
+pub(crate) fn seed(case: usize, part: usize) -> u64 {
+    let a = next(0x9e3779b97f4a7c15 ^ case as u64);
+    next(next(a ^ part as u64))
+}
+
+// A number below `end`.
+pub(crate) fn below(x: u64, end: u64) -> u64
+    requires { ⌜ 0 < end ⌝ }
+    ensures { λ r. ⌜ r < end ⌝ }
+{
+    (x >> 24) % end
+}
+
+// Fills a buffer with numbers below `end`.
+pub(crate) fn fill(buffer: &mut [u8], x: u64, end: u64)
+    requires { ⌜ (0 < end) × (end ≤ 256) ⌝ }
+{
+    let mut state = x;
+    let mut i = 0;
+    while i < buffer.len() {
+        state = next(state);
+        buffer[i] = below(state, end) as u8;
+        i += 1;
+    }
+}

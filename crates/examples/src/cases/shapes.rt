@@ -1,0 +1,94 @@
+// Flat shapes, stacks and refused shapes.
+ghost use Prim.Native.Nat.{_<_};
+use lattice::shape::Shape;
+
+use crate::cases::random;
+
+fn shape_of(columns: u16, rows: u16, planes: u16, strength: u16) -> Shape {
+    Shape {
+        columns,
+        rows,
+        planes,
+        strength,
+    }
+}
+
+// Case k of the flat shapes: each strength from 1 to 32, each with a small, a middling and a large field.
+fn flat(k: usize) -> Shape
+    requires { ⌜ k < 96 ⌝ }
+{
+    let t = (k / 3 + 1) as u16;
+    let x = random::seed(k, 100);
+    match k % 3 {
+        0 => shape_of(1 + random::below(x, 9) as u16, 1 + random::below(random::next(x), 9) as u16, 1, t),
+        1 => shape_of(3 + random::below(x, 12) as u16, 3 + random::below(random::next(x), 10) as u16, 1, t),
+        _ => large(k / 3, t),
+    }
+}
+
+fn large(k: usize, t: u16) -> Shape {
+    match k % 6 {
+        0 => shape_of(22, 23, 1, t),
+        1 => shape_of(256, 2, 1, t),
+        2 => shape_of(31, 16, 1, t),
+        3 => shape_of(2, 256, 1, t),
+        4 => shape_of(13, 39, 1, t),
+        _ => shape_of(17, 29, 1, t),
+    }
+}
+
+// Case k of the stacks: each strength from 1 to 8, with rows, planes and columns that all differ.
+fn stack(k: usize) -> Shape
+    requires { ⌜ k < 64 ⌝ }
+{
+    let t = (k / 8 + 1) as u16;
+    match k % 8 {
+        0 => shape_of(5, 4, 3, t),
+        1 => shape_of(3, 7, 5, t),
+        2 => shape_of(1, 6, 2, t),
+        3 => shape_of(10, 3, 7, t),
+        4 => shape_of(4, 2, 16, t),
+        5 => shape_of(9, 11, 5, t),
+        6 => shape_of(2, 9, 4, t),
+        _ => shape_of(7, 13, 2, t),
+    }
+}
+
+// Shapes that plan declines, and large ones whose buffers are not of the plan's length.
+fn odd(k: usize) -> Shape {
+    match k {
+        0 => shape_of(0, 5, 1, 3),
+        1 => shape_of(5, 0, 1, 3),
+        2 => shape_of(5, 5, 0, 3),
+        3 => shape_of(257, 1, 1, 1),
+        4 => shape_of(1, 257, 1, 1),
+        5 => shape_of(2, 2, 17, 1),
+        6 => shape_of(256, 256, 2, 1),
+        7 => shape_of(256, 17, 16, 8),
+        8 => shape_of(65535, 65535, 65535, 65535),
+        9 => shape_of(0, 0, 0, 0),
+        10 => shape_of(257, 1, 1, 33),
+        11 => shape_of(5, 5, 1, 0),
+        12 => shape_of(5, 5, 1, 33),
+        13 => shape_of(5, 5, 1, 65535),
+        14 => shape_of(5, 4, 3, 0),
+        15 => shape_of(5, 4, 3, 9),
+        16 => shape_of(5, 4, 3, 32),
+        17 => shape_of(256, 256, 1, 1),
+        18 => shape_of(16, 256, 16, 2),
+        _ => shape_of(1, 1, 1, 32),
+    }
+}
+
+pub(crate) const CASES: usize = 180;
+
+// Case k of the shapes: 96 flat ones, 64 stacks, and 20 odd ones.
+pub(crate) fn shape(k: usize) -> Shape {
+    if k < 96 {
+        flat(k)
+    } else if k < 160 {
+        stack(k - 96)
+    } else {
+        odd(k - 160)
+    }
+}

@@ -1,0 +1,121 @@
+// The gauge: every triple of a cube is looked at, in order, and those that do not count are passed over.
+ghost use Prim.Native.Nat.{_<_, _≤_};
+use crate::answer;
+use crate::answer::Answer;
+use crate::second::settings;
+
+// A coordinate of the cube is a number from −17 to 17, held with 17 added.
+pub(crate) const ZERO: u16 = 17;
+
+struct Triple {
+    row: u16,
+    plane: u16,
+    column: u16,
+}
+
+// Triple k of the cube, in rising order of row, then plane, then column.
+fn triple_at(k: u32) -> Triple
+    requires { ⌜ k < 42875 ⌝ }
+    ensures { λ r. ⌜ (r .row < 35) × ((r .plane < 35) × (r .column < 35)) ⌝ }
+{
+    Triple {
+        row: (k / 1225) as u16,
+        plane: (k / 35 % 35) as u16,
+        column: (k % 35) as u16,
+    }
+}
+
+// The absolute value of a coordinate.
+fn size(coordinate: u16) -> u16
+    requires { ⌜ coordinate < 35 ⌝ }
+    ensures { λ r. ⌜ r ≤ 17 ⌝ }
+{
+    if coordinate < ZERO {
+        ZERO - coordinate
+    } else {
+        coordinate - ZERO
+    }
+}
+
+// Whether the first number that isn't 0 is positive.
+fn is_first_positive(x: Triple) -> bool {
+    if x.row != ZERO {
+        return ZERO < x.row;
+    }
+    if x.plane != ZERO {
+        return ZERO < x.plane;
+    }
+    ZERO < x.column
+}
+
+// Whether a triple is tried at strength t.
+fn counts(x: Triple, t: u16) -> bool
+    requires { ⌜ (x .row < 35) × ((x .plane < 35) × (x .column < 35)) ⌝ }
+{
+    let sum = size(x.row) + size(x.plane) + size(x.column);
+    if sum < t { is_first_positive(x) } else { false }
+}
+
+// Whether column − b × row − c × plane is divisible by m: the negative parts are moved to the other side.
+fn divides(m: u16, b: u16, c: u16, x: Triple) -> bool
+    requires { ⌜ 0 < m ⌝ }
+{
+    let left = x.column as u64 + settings::times(b, ZERO) + settings::times(c, ZERO);
+    let right = ZERO as u64 + settings::times(b, x.row) + settings::times(c, x.plane);
+    left % (m as u64) == right % (m as u64)
+}
+
+fn search(m: u16, b: u16, c: u16, t: u16) -> Answer
+    requires { ⌜ 0 < m ⌝ }
+{
+    let mut tried: u64 = 0;
+    let mut k: u32 = 0;
+    while k < 42875 {
+        let x = triple_at(k);
+        if counts(x, t) {
+            tried += 1;
+            if divides(m, b, c, x) {
+                return Answer {
+                    number: 0,
+                    first: 0,
+                    second: x.row as u64,
+                    third: x.plane as u64,
+                    fourth: x.column as u64,
+                    fifth: tried,
+                };
+            }
+        }
+        k += 1;
+    }
+    Answer {
+        number: 0,
+        first: 1,
+        second: ZERO as u64,
+        third: ZERO as u64,
+        fourth: ZERO as u64,
+        fifth: tried,
+    }
+}
+
+// The figures: whether the settings hold, the triple, with 17 added to each coordinate, and how many were tried.
+pub(crate) fn gauge(m: usize, b: usize, c: usize, t: usize) -> Answer {
+    if t < 1 {
+        return answer::number(2);
+    }
+    if 18 < t {
+        return answer::number(2);
+    }
+    if m < 1 {
+        return answer::number(9);
+    }
+    if 4096 < m {
+        return answer::number(9);
+    }
+    if m <= b {
+        return answer::number(9);
+    }
+    if m <= c {
+        return answer::number(9);
+    }
+    search(m as u16, b as u16, c as u16, t as u16)
+}

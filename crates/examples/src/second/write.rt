@@ -1,0 +1,129 @@
+// Writing: the payload's bits and the filler, and then, class by class, the check cells by search.
+ghost use Prim.Native.Nat.{_≤_};
+use lattice::shape::Shape;
+
+use crate::answer;
+use crate::answer::Answer;
+use crate::second::lawful;
+use crate::second::layout;
+use crate::second::layout::Checks;
+use crate::second::layout::Classes;
+use crate::second::layout::Field;
+use crate::second::plan;
+use crate::second::settings;
+
+// A payload of at most 80 bytes.
+pub(crate) type Payload = [u8; 80];
+
+// The value of a bit in its byte, the highest bit first.
+fn weight(bit: usize) -> u8
+    ensures { λ r. ⌜ 1 ≤ r ⌝ }
+{
+    match bit {
+        0 => 128,
+        1 => 64,
+        2 => 32,
+        3 => 16,
+        4 => 8,
+        5 => 4,
+        6 => 2,
+        _ => 1,
+    }
+}
+
+// Bit k of a payload, and past its end the filler.
+fn bit(payload: &Payload, bytes: usize, filler: u8, k: usize) -> u8
+    requires { ⌜ bytes ≤ 80 ⌝ }
+{
+    let q = k / 8;
+    if q < bytes { payload[q] / weight(k % 8) % 2 } else { filler }
+}
+
+// The cells that hold no check, in byte order; a check cell is 0 for now.
+fn lay(checks: &Checks, cells: usize, payload: &Payload, bytes: usize, filler: u8, field: &mut Field)
+    requires { ⌜ (cells ≤ 512) × (bytes ≤ 80) ⌝ }
+{
+    let mut k = 0;
+    let mut i = 0;
+    while i < cells {
+        if checks[i] == 0 {
+            field[i] = bit(payload, bytes, filler, k);
+            k += 1;
+        } else {
+            field[i] = 0;
+        }
+        i += 1;
+    }
+}
+
+// The check cells of class a, one after the other, get the binary digits of v.
+fn try_checks(classes: &Classes, checks: &Checks, cells: usize, a: u16, v: u32, field: &mut Field)
+    requires { ⌜ cells ≤ 512 ⌝ }
+{
+    let mut left = v;
+    let mut i = 0;
+    while i < cells {
+        if classes[i] == a {
+            if checks[i] == 1 {
+                field[i] = (left % 2) as u8;
+                left = left / 2;
+            }
+        }
+        i += 1;
+    }
+}
+
+// Tries every filling of the check cells of class a, until the class is lawful. There are at most 10 of them.
+fn settle_class(classes: &Classes, checks: &Checks, cells: usize, a: u16, field: &mut Field)
+    requires { ⌜ cells ≤ 512 ⌝ }
+{
+    let mut v = 0;
+    while v < 1024 {
+        try_checks(classes, checks, cells, a, v, field);
+        if lawful::lawful(classes, cells, a, field, lawful::NONE) {
+            return;
+        }
+        v += 1;
+    }
+}
+
+fn settle(classes: &Classes, checks: &Checks, cells: usize, m: u16, field: &mut Field)
+    requires { ⌜ cells ≤ 512 ⌝ }
+{
+    let mut a = 0;
+    while a < m {
+        settle_class(classes, checks, cells, a, field);
+        a += 1;
+    }
+}
+
+// The field of a payload, with cells past the payload that hold `filler`: document 01 has them 0.
+pub(crate) fn write_with(shape: Shape, cells: usize, payload: &Payload, bytes: usize, filler: u8, field: &mut Field)
+    requires { ⌜ (cells ≤ 512) × (bytes ≤ 80) ⌝ }
+{
+    let s = settings::settings_of(shape);
+    let mut classes = [0u16; 512];
+    layout::place(shape, s, cells, &mut classes);
+    let mut checks = [0u8; 512];
+    layout::mark_checks(&classes, cells, &mut checks);
+    lay(&checks, cells, payload, bytes, filler, field);
+    settle(&classes, &checks, cells, s.m, field);
+}
+
+// Writes the first `bytes` of a payload into the first `cells` of a field, where those are the lengths of the plan.
+pub(crate) fn write(shape: Shape, payload: &Payload, bytes: usize, field: &mut Field, cells: usize) -> Answer
+    requires { ⌜ (cells ≤ 512) × (bytes ≤ 80) ⌝ }
+{
+    let number = settings::refusal(shape);
+    if number != 0 {
+        return answer::number(number);
+    }
+    if bytes as u64 != plan::capacity(shape) / 8 {
+        return answer::number(3);
+    }
+    if cells as u64 != settings::cells(shape) {
+        return answer::number(4);
+    }
+    write_with(shape, cells, payload, bytes, 0, field);
+    answer::number(0)
+}

@@ -1,0 +1,43 @@
+-- `distance_triple` meets its contract: a case gives its triple.
+use mathlib.Core.Path.{sym, ap}
+use borrow.Author.Needs.{needs}
+use Rattle.lattice.specs.Answer.{distanceTriple}
+use Rattle.ffi.proofs.answers.distance_triple.Statement.{statement}
+use Rattle.ffi.proofs.answers.distance_triple.Tie as tie
+
+enum-told : tie.Need-enum-told
+enum-told c = search needs
+
+enum-known-answer : tie.Need-enum-known-answer
+enum-known-answer c = search needs
+
+enum-told-2 : tie.Need-enum-told-2
+enum-told-2 c = search needs
+
+enum-told-3 : tie.Need-enum-told-3
+enum-told-3 c = search needs
+
+returns : tie.Need-returns
+returns c = sym (ap distanceTriple (c .enum-told .given .1))
+
+returns-2 : tie.Need-returns-2
+returns-2 c = search needs
+
+returns-3 : tie.Need-returns-3
+returns-3 c = sym (ap distanceTriple (c .enum-told2 .given .1))
+
+returns-4 : tie.Need-returns-4
+returns-4 c = sym (ap distanceTriple (c .enum-told3 .given .1))
+
+pub distance-triple-spec : {M : Type 1} → statement M
+distance-triple-spec =
+    tie.close
+    (tie.spec
+    enum-told
+    enum-known-answer
+    enum-told-2
+    enum-told-3
+    returns
+    returns-2
+    returns-3
+    returns-4)

@@ -1,0 +1,171 @@
+// The C interface: each operation on plain numbers and lent buffers. `include/varmintfoil.h` declares it for C.
+ghost use Rattle.lattice.specs.Cell.{cell};
+ghost use Rattle.ffi.specs.Boundary.{shapeFrom, IsPlanResult, IsClassResult, IsEncodeResult, IsDecodeResult, IsCorrectResult, IsDistanceResult};
+mod answers;
+mod operations;
+use crate::answers::class_given;
+use crate::answers::class_number;
+use crate::answers::correct_count;
+use crate::answers::correct_number;
+use crate::answers::decode_count;
+use crate::answers::decode_number;
+use crate::answers::distance_holds;
+use crate::answers::distance_number;
+use crate::answers::distance_tried;
+use crate::answers::distance_triple;
+use crate::answers::encode_number;
+use crate::answers::plan_figures;
+use crate::answers::plan_number;
+use crate::operations::class_of;
+use crate::operations::correct_in;
+use crate::operations::decode_in;
+use crate::operations::encode_in;
+use crate::operations::plan_of;
+use lattice::distance::distance_test;
+
+#[repr(C)]
+pub struct PlanResult {
+    pub number: usize,
+    pub classes: usize,
+    pub capacity: usize,
+    pub bytes: usize,
+    pub cells: usize,
+}
+
+#[repr(C)]
+pub struct ClassResult {
+    pub number: usize,
+    pub class_index: usize,
+}
+
+#[repr(C)]
+pub struct CountResult {
+    pub number: usize,
+    pub count: usize,
+}
+
+#[repr(C)]
+pub struct DistanceResult {
+    pub number: usize,
+    pub holds: usize,
+    pub row: i32,
+    pub plane: i32,
+    pub column: i32,
+    pub tried: usize,
+}
+
+// The classes, the capacity, the payload's bytes and the cells of a shape, or the refusal 1 or 2.
+#[no_mangle]
+pub extern "C" fn varmintfoil_plan(
+    columns: usize,
+    rows: usize,
+    planes: usize,
+    strength: usize,
+) -> PlanResult
+    ensures { λ r. ⌜ IsPlanResult (shapeFrom columns rows planes strength) r ⌝ }
+{
+    let answer = plan_of(columns, rows, planes, strength);
+    let figures = plan_figures(answer);
+    PlanResult {
+        number: plan_number(answer),
+        classes: figures.classes,
+        capacity: figures.capacity,
+        bytes: figures.bytes,
+        cells: figures.cells,
+    }
+}
+
+// The class of a cell, or the refusal 1, 2 or 4.
+#[no_mangle]
+pub extern "C" fn varmintfoil_class(
+    columns: usize,
+    rows: usize,
+    planes: usize,
+    strength: usize,
+    row: usize,
+    plane: usize,
+    column: usize,
+) -> ClassResult
+    ensures { λ r. ⌜ IsClassResult (shapeFrom columns rows planes strength) (cell row plane column) r ⌝ }
+{
+    let answer = class_of(columns, rows, planes, strength, row, plane, column);
+    ClassResult {
+        number: class_number(answer),
+        class_index: class_given(answer),
+    }
+}
+
+// Writes the field of a payload, or gives the refusal 1, 2, 3 or 4.
+#[no_mangle]
+pub extern "C" fn varmintfoil_encode(
+    columns: usize,
+    rows: usize,
+    planes: usize,
+    strength: usize,
+    payload: &[u8],
+    field: &mut [u8],
+) -> usize
+    ensures { λ r. ⌜ IsEncodeResult (shapeFrom columns rows planes strength) (now (payload .entry)) (now (field .entry)) (now (field .exit)) r ⌝ }
+{
+    let answer = encode_in(columns, rows, planes, strength, payload, field);
+    encode_number(answer)
+}
+
+// Fills the payload and gives the number of cells turned over, or gives the refusal 1, 2, 3, 4, 5, 6 or 7.
+#[no_mangle]
+pub extern "C" fn varmintfoil_decode(
+    columns: usize,
+    rows: usize,
+    planes: usize,
+    strength: usize,
+    payload: &mut [u8],
+    field: &[u8],
+) -> CountResult
+    ensures { λ r. ⌜ IsDecodeResult (shapeFrom columns rows planes strength) (now (payload .entry)) (now (field .entry)) (now (payload .exit)) r ⌝ }
+{
+    let answer = decode_in(columns, rows, planes, strength, payload, field);
+    CountResult {
+        number: decode_number(answer),
+        count: decode_count(answer),
+    }
+}
+
+// Leaves the mended field and gives the number of cells turned over, or gives the refusal 1, 2, 4, 5, 6 or 7.
+#[no_mangle]
+pub extern "C" fn varmintfoil_correct(
+    columns: usize,
+    rows: usize,
+    planes: usize,
+    strength: usize,
+    field: &mut [u8],
+) -> CountResult
+    ensures { λ r. ⌜ IsCorrectResult (shapeFrom columns rows planes strength) (now (field .entry)) (now (field .exit)) r ⌝ }
+{
+    let answer = correct_in(columns, rows, planes, strength, field);
+    CountResult {
+        number: correct_number(answer),
+        count: correct_count(answer),
+    }
+}
+
+// Do the settings keep different cells of one class at least t apart? The refusals are 2 and 9.
+#[no_mangle]
+pub extern "C" fn varmintfoil_distance_test(
+    m: usize,
+    b: usize,
+    c: usize,
+    t: usize,
+) -> DistanceResult
+    ensures { λ r. ⌜ IsDistanceResult m b c t r ⌝ }
+{
+    let answer = distance_test(m, b, c, t);
+    let triple = distance_triple(answer);
+    DistanceResult {
+        number: distance_number(answer),
+        holds: distance_holds(answer),
+        row: triple.row,
+        plane: triple.plane,
+        column: triple.column,
+        tried: distance_tried(answer),
+    }
+}

@@ -1,0 +1,97 @@
+/* Varmintfoil: a payload in a field of black and white cells that outlives any one hole of at most t connected cells.
+ *
+ * Link target/staticlib/libffi.a, which `rt staticlib ffi` writes at the repository's root.
+ *
+ * A shape is four numbers: columns W and rows H from 1 to 256, planes D from 1 to 16, W * H * D at most 65,536, and the strength t, 1 to
+ * 32 where D is 1 and 1 to 8 where D is above. A field is W * H * D bytes, one for each cell, 0 for white and 1 for black; the cell
+ * (row, plane, column) is byte (plane * H + row) * W + column. A payload has the number of bytes that varmintfoil_plan gives.
+ *
+ * Every function takes any numbers at all. It answers the number 0 for success, or the number of the first refusal that applies, in the
+ * order in which they are listed with it. On a refusal every other figure of the answer is 0 and no byte of any lent buffer has changed.
+ *
+ *   1  W, H, D or their product outside the limits
+ *   2  a strength outside the limits
+ *   3  a payload length that is not the plan's
+ *   4  a field length that is not the plan's, or a row, plane or column outside the shape
+ *   5  a cell above 1
+ *   6  some class that no change of at most one of its cells makes a codeword
+ *   7  padding, the cells after the payload's last bit, that is not 0 after correction
+ *   9  settings of the distance test outside its limits
+ *
+ * What the library cannot see, and the caller answers for:
+ *   - a pointer is valid for its length: readable, and writable where it is not const, for that many bytes;
+ *   - the two buffers of one call do not overlap;
+ *   - a pointer is null only where its length is 0;
+ *   - no other thread writes a lent buffer, or reads one that is written, during the call.
+ *
+ * The functions keep nothing between calls and may run in several threads at once. */
+#ifndef VARMINTFOIL_H
+#define VARMINTFOIL_H
+
+#include <stddef.h>
+#include <stdint.h>
+
+#ifdef __cplusplus
+extern "C" {
+#endif
+
+typedef struct {
+    size_t number;   /* 0, or the refusal */
+    size_t classes;  /* the number of interleaving classes, m */
+    size_t capacity; /* the number of cells that hold no check, K */
+    size_t bytes;    /* the payload's length, K / 8 rounded down */
+    size_t cells;    /* the field's length, W * H * D */
+} varmintfoil_plan_t;
+
+typedef struct {
+    size_t number;      /* 0, or the refusal */
+    size_t class_index; /* the class of the cell, 0 to m - 1 */
+} varmintfoil_class_t;
+
+typedef struct {
+    size_t number; /* 0, or the refusal */
+    size_t count;  /* the number of cells that correction flips */
+} varmintfoil_count_t;
+
+typedef struct {
+    size_t number;  /* 0, or the refusal */
+    size_t holds;   /* 1 where the settings hold, else 0 */
+    int32_t row;    /* the difference triple found; 0, 0, 0 where the settings hold */
+    int32_t plane;
+    int32_t column;
+    size_t tried;   /* the number of triples tried, the one found included */
+} varmintfoil_distance_t;
+
+/* What follows from a shape alone. Refusals: 1, 2. */
+varmintfoil_plan_t varmintfoil_plan(size_t columns, size_t rows, size_t planes, size_t strength);
+
+/* The interleaving class of a cell: (column - b * row - c * plane) mod m, by the settings of the shape. Refusals: 1, 2, 4 (a row, plane
+ * or column outside the shape). */
+varmintfoil_class_t varmintfoil_class(size_t columns, size_t rows, size_t planes, size_t strength, size_t row, size_t plane,
+                                      size_t column);
+
+/* Writes the field of a payload. What the field held before does not matter. Gives the number itself. Refusals: 1, 2, 3, 4. */
+size_t varmintfoil_encode(size_t columns, size_t rows, size_t planes, size_t strength, const uint8_t *payload, size_t payload_len,
+                          uint8_t *field, size_t field_len);
+
+/* Reads a field: fills the payload from the one field of codewords that differs in at most one cell of each class, and counts the cells
+ * where it differs. What the payload held before does not matter. Refusals: 1, 2, 3, 4, 5, 6, 7. */
+varmintfoil_count_t varmintfoil_decode(size_t columns, size_t rows, size_t planes, size_t strength, uint8_t *payload,
+                                       size_t payload_len, const uint8_t *field, size_t field_len);
+
+/* Corrects a field where it lies: leaves the one field of codewords that differs in at most one cell of each class, and counts the cells
+ * that it changed. Refusals: 1, 2, 4, 5, 6, 7. */
+varmintfoil_count_t varmintfoil_correct(size_t columns, size_t rows, size_t planes, size_t strength, uint8_t *field,
+                                        size_t field_len);
+
+/* Are all different cells of one class, (column - b * row - c * plane) mod m, at least t apart in an endless stack? Tries the difference
+ * triples of absolute sum 1 to t - 1 whose first number that is not 0 is positive, in rising order of row, then plane, then column, and
+ * stops at the first that joins two cells of one class. t is from 1 to 18, m from 1 to 4,096, b and c below m. Refusals: 2 (t), 9 (m, b
+ * or c). */
+varmintfoil_distance_t varmintfoil_distance_test(size_t m, size_t b, size_t c, size_t t);
+
+#ifdef __cplusplus
+}
+#endif
+
+#endif

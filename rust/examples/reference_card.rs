@@ -1,0 +1,9 @@
+//! The card program of the second implementation: `VARMINTFOIL_CARD` may name it, to try the card test without the proved program.
+
+use std::io::{Read, Write};
+
+fn main() -> std::io::Result<()> {
+    let mut input = Vec::new();
+    std::io::stdin().take(65_537).read_to_end(&mut input)?;
+    std::io::stdout().write_all(&varmintfoil::reference::card(&input))
+}

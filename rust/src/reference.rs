@@ -1,0 +1,447 @@
+//! The second implementation: document 01, sentence by sentence, in plain Rust.
+//!
+//! It is written to be read and to be compared with, not to be fast. A class is corrected by search, not by its syndrome: the class
+//! as it is and with each one cell flipped is tried, and the codeword among them is taken. A refusal is the number that the document lists.
+
+/// The number of a refusal.
+pub type Number = usize;
+
+/// What `plan` gives: m, K, payload bytes and cells.
+#[derive(Clone, Copy, Debug, PartialEq, Eq)]
+pub struct Plan {
+    pub classes: usize,
+    pub capacity: usize,
+    pub bytes: usize,
+    pub cells: usize,
+}
+
+/// What the distance test gives: the verdict, the triple found (or zeros) and the count of triples tried.
+#[derive(Clone, Copy, Debug, PartialEq, Eq)]
+pub struct Distance {
+    pub holds: bool,
+    pub row: i32,
+    pub plane: i32,
+    pub column: i32,
+    pub tried: usize,
+}
+
+/// A shape within the limits: W columns, H rows, D planes and the strength t.
+#[derive(Clone, Copy, Debug, PartialEq, Eq)]
+pub struct Shape {
+    pub w: usize,
+    pub h: usize,
+    pub d: usize,
+    pub t: usize,
+}
+
+/// The settings of a shape: the class of a cell is (column − b × row − c × plane) mod m.
+#[derive(Clone, Copy, Debug, PartialEq, Eq)]
+pub struct Settings {
+    pub m: i64,
+    pub b: i64,
+    pub c: i64,
+}
+
+/// m, b and c of a stack, for t from 1 to 8.
+const STACK: [(i64, i64, i64); 8] =
+    [(1, 0, 0), (2, 1, 1), (7, 2, 3), (12, 3, 5), (27, 4, 10), (38, 7, 11), (70, 16, 25), (92, 9, 39)];
+
+// Shapes
+
+/// W and H from 1 to 256, D from 1 to 16, W × H × D at most 65,536.
+fn sides_fit(w: usize, h: usize, d: usize) -> bool {
+    (1..=256).contains(&w) && (1..=256).contains(&h) && (1..=16).contains(&d) && w * h * d <= 65_536
+}
+
+/// t from 1 to 32 for a flat field and from 1 to 8 for a stack.
+fn strength_fits(d: usize, t: usize) -> bool {
+    if d == 1 {
+        (1..=32).contains(&t)
+    } else {
+        (1..=8).contains(&t)
+    }
+}
+
+/// The shape, or 1, or 2.
+pub fn shape(w: usize, h: usize, d: usize, t: usize) -> Result<Shape, Number> {
+    if !sides_fit(w, h, d) {
+        return Err(1);
+    }
+    if !strength_fits(d, t) {
+        return Err(2);
+    }
+    Ok(Shape { w, h, d, t })
+}
+
+/// The settings that belong to a shape.
+pub fn settings(shape: &Shape) -> Settings {
+    let t = shape.t as i64;
+    if shape.d == 1 {
+        if t % 2 == 1 {
+            Settings { m: (t * t + 1) / 2, b: t, c: 0 }
+        } else {
+            Settings { m: t * t / 2, b: t + 1, c: 0 }
+        }
+    } else {
+        let (m, b, c) = STACK[shape.t - 1];
+        Settings { m, b, c }
+    }
+}
+
+/// The class of cell (row, plane, column).
+fn class_in(shape: &Shape, row: usize, plane: usize, column: usize) -> usize {
+    let s = settings(shape);
+    (column as i64 - s.b * row as i64 - s.c * plane as i64).rem_euclid(s.m) as usize
+}
+
+/// The byte of cell (row, plane, column).
+pub fn byte_of(shape: &Shape, row: usize, plane: usize, column: usize) -> usize {
+    (plane * shape.h + row) * shape.w + column
+}
+
+/// The number of cells.
+pub fn cells(shape: &Shape) -> usize {
+    shape.w * shape.h * shape.d
+}
+
+/// For each class its cells in byte order; the cell at place i has position i + 1.
+pub fn classes(shape: &Shape) -> Vec<Vec<usize>> {
+    let mut classes = vec![Vec::new(); settings(shape).m as usize];
+    for plane in 0..shape.d {
+        for row in 0..shape.h {
+            for column in 0..shape.w {
+                classes[class_in(shape, row, plane, column)].push(byte_of(shape, row, plane, column));
+            }
+        }
+    }
+    classes
+}
+
+// The code in a class
+
+/// Positions that are powers of two hold checks.
+fn is_check(position: usize) -> bool {
+    (0..usize::BITS).any(|i| position == 1 << i)
+}
+
+/// The number of check cells of a class of n cells.
+pub fn checks(n: usize) -> usize {
+    (1..=n).filter(|&position| is_check(position)).count()
+}
+
+/// A class is a codeword (lawful) when the exclusive or of the positions of its 1 cells is 0.
+pub fn is_codeword(class: &[u8]) -> bool {
+    let mut sum = 0;
+    for (place, &cell) in class.iter().enumerate() {
+        if cell == 1 {
+            sum ^= place + 1;
+        }
+    }
+    sum == 0
+}
+
+/// The codeword that differs in at most one cell, if there is one.
+pub fn codeword_in_reach(class: &[u8]) -> Option<Vec<u8>> {
+    let mut tried = class.to_vec();
+    if is_codeword(&tried) {
+        return Some(tried);
+    }
+    for place in 0..tried.len() {
+        tried[place] = 1 - tried[place];
+        if is_codeword(&tried) {
+            return Some(tried);
+        }
+        tried[place] = 1 - tried[place];
+    }
+    None
+}
+
+/// Fills the check cells of a class. Of the checks only the one at position 2^i counts in bit i, so each evens out the 1 cells of the
+/// positions with that bit.
+pub fn fill_checks(class: &mut [u8]) {
+    for position in (1..=class.len()).filter(|&position| is_check(position)) {
+        class[position - 1] = 0;
+        let ones = (1..=class.len()).filter(|&other| other & position != 0 && class[other - 1] == 1).count();
+        class[position - 1] = (ones % 2) as u8;
+    }
+}
+
+// Fields
+
+/// The cells that hold no check, in byte order.
+pub fn data_cells(shape: &Shape) -> Vec<usize> {
+    let mut data = Vec::new();
+    for class in classes(shape) {
+        for (place, &cell) in class.iter().enumerate() {
+            if !is_check(place + 1) {
+                data.push(cell);
+            }
+        }
+    }
+    data.sort();
+    data
+}
+
+/// The cells of one class, taken out of a field.
+fn take_class(field: &[u8], class: &[usize]) -> Vec<u8> {
+    class.iter().map(|&cell| field[cell]).collect()
+}
+
+/// Puts the cells of one class back.
+fn put_class(field: &mut [u8], class: &[usize], values: &[u8]) {
+    for (&cell, &value) in class.iter().zip(values) {
+        field[cell] = value;
+    }
+}
+
+/// The field whose classes are all codewords, with the given bits in the cells that hold no check.
+pub fn field_of_bits(shape: &Shape, bits: &[u8]) -> Vec<u8> {
+    let mut field = vec![0; cells(shape)];
+    put_class(&mut field, &data_cells(shape), bits);
+    for class in classes(shape) {
+        let mut values = take_class(&field, &class);
+        fill_checks(&mut values);
+        assert!(is_codeword(&values));
+        put_class(&mut field, &class, &values);
+    }
+    field
+}
+
+/// The bits of a payload, highest first.
+fn bits_of(payload: &[u8]) -> Vec<u8> {
+    payload.iter().flat_map(|&byte| (0..8).rev().map(move |i| byte >> i & 1)).collect()
+}
+
+/// The bytes of some bits, highest first; eight bits each.
+fn bytes_of(bits: &[u8]) -> Vec<u8> {
+    bits.chunks_exact(8).map(|eight| eight.iter().fold(0, |byte, &bit| byte * 2 + bit)).collect()
+}
+
+/// The field of codewords that differs in at most one cell of each class, if there is one.
+fn corrected_field(shape: &Shape, field: &[u8]) -> Option<Vec<u8>> {
+    let mut corrected = field.to_vec();
+    for class in classes(shape) {
+        let values = codeword_in_reach(&take_class(field, &class))?;
+        put_class(&mut corrected, &class, &values);
+    }
+    Some(corrected)
+}
+
+/// The number of cells where two fields differ.
+pub fn differences(one: &[u8], other: &[u8]) -> usize {
+    one.iter().zip(other).filter(|(a, b)| a != b).count()
+}
+
+// Operations
+
+/// Plan: m, K, payload bytes and cells; 1, 2.
+pub fn plan(w: usize, h: usize, d: usize, t: usize) -> Result<Plan, Number> {
+    let shape = shape(w, h, d, t)?;
+    let capacity = data_cells(&shape).len();
+    Ok(Plan { classes: settings(&shape).m as usize, capacity, bytes: capacity / 8, cells: cells(&shape) })
+}
+
+/// Class of a cell: 1, 2, 4.
+pub fn class_of(w: usize, h: usize, d: usize, t: usize, row: usize, plane: usize, column: usize) -> Result<usize, Number> {
+    let shape = shape(w, h, d, t)?;
+    if row >= h || plane >= d || column >= w {
+        return Err(4);
+    }
+    Ok(class_in(&shape, row, plane, column))
+}
+
+/// Encode (write): 1, 2, 3, 4.
+pub fn encode(w: usize, h: usize, d: usize, t: usize, payload: &[u8], field: &mut [u8]) -> Result<(), Number> {
+    let plan = plan(w, h, d, t)?;
+    if payload.len() != plan.bytes {
+        return Err(3);
+    }
+    if field.len() != plan.cells {
+        return Err(4);
+    }
+    let mut bits = bits_of(payload);
+    bits.resize(plan.capacity, 0);
+    field.copy_from_slice(&field_of_bits(&Shape { w, h, d, t }, &bits));
+    Ok(())
+}
+
+/// The field of codewords in reach, its padding (filler) tested, and its payload: 5, 6, 7.
+fn restore(shape: &Shape, field: &[u8]) -> Result<(Vec<u8>, Vec<u8>), Number> {
+    if field.iter().any(|&cell| cell > 1) {
+        return Err(5);
+    }
+    let corrected = corrected_field(shape, field).ok_or(6usize)?;
+    let bits = take_class(&corrected, &data_cells(shape));
+    let (payload, padding) = bits.split_at(bits.len() / 8 * 8);
+    if padding.iter().any(|&cell| cell != 0) {
+        return Err(7);
+    }
+    let payload = bytes_of(payload);
+    Ok((corrected, payload))
+}
+
+/// Decode (read): fills the payload and gives the count of cells where the corrected field differs; 1, 2, 3, 4, 5, 6, 7.
+pub fn decode(w: usize, h: usize, d: usize, t: usize, payload: &mut [u8], field: &[u8]) -> Result<usize, Number> {
+    let plan = plan(w, h, d, t)?;
+    if payload.len() != plan.bytes {
+        return Err(3);
+    }
+    if field.len() != plan.cells {
+        return Err(4);
+    }
+    let (corrected, bytes) = restore(&Shape { w, h, d, t }, field)?;
+    payload.copy_from_slice(&bytes);
+    Ok(differences(&corrected, field))
+}
+
+/// Correct (mend): leaves the corrected field in the lent one and gives the count of cells changed; 1, 2, 4, 5, 6, 7.
+pub fn correct(w: usize, h: usize, d: usize, t: usize, field: &mut [u8]) -> Result<usize, Number> {
+    let plan = plan(w, h, d, t)?;
+    if field.len() != plan.cells {
+        return Err(4);
+    }
+    let (corrected, _) = restore(&Shape { w, h, d, t }, field)?;
+    let count = differences(&corrected, field);
+    field.copy_from_slice(&corrected);
+    Ok(count)
+}
+
+/// The difference triples (row, plane, column) of absolute sum 1 to t − 1 whose first number that is not 0 is positive, in rising order
+/// of row, then plane, then column.
+fn triples(t: i64) -> impl Iterator<Item = (i64, i64, i64)> {
+    let all = move || 1 - t..t;
+    all()
+        .flat_map(move |row| all().flat_map(move |plane| all().map(move |column| (row, plane, column))))
+        .filter(move |&(row, plane, column)| (1..t).contains(&(row.abs() + plane.abs() + column.abs())))
+        .filter(|&(row, plane, column)| [row, plane, column].into_iter().find(|&x| x != 0).is_some_and(|x| x > 0))
+}
+
+/// The distance test (the gauge): 2, 9.
+pub fn distance_test(m: usize, b: usize, c: usize, t: usize) -> Result<Distance, Number> {
+    if !(1..=18).contains(&t) {
+        return Err(2);
+    }
+    if !(1..=4096).contains(&m) || b >= m || c >= m {
+        return Err(9);
+    }
+    let (m, b, c) = (m as i64, b as i64, c as i64);
+    let mut tried = 0;
+    for (row, plane, column) in triples(t as i64) {
+        tried += 1;
+        if (column - b * row - c * plane) % m == 0 {
+            return Ok(Distance { holds: false, row: row as i32, plane: plane as i32, column: column as i32, tried });
+        }
+    }
+    Ok(Distance { holds: true, row: 0, plane: 0, column: 0, tried })
+}
+
+// Card text
+
+/// What follows the first four lines.
+enum Rest {
+    Payload(Vec<u8>),
+    Rows(Vec<u8>),
+}
+
+/// Takes one line `key=value` off the front of a text and gives the value; every line is ended by a line feed.
+fn take_line<'a>(text: &mut &'a [u8], key: &str) -> Option<&'a [u8]> {
+    let end = text.iter().position(|&byte| byte == b'\n')?;
+    let (line, rest) = (&text[..end], &text[end + 1..]);
+    let value = line.strip_prefix(key.as_bytes())?.strip_prefix(b"=")?;
+    *text = rest;
+    Some(value)
+}
+
+/// A decimal number with 1 to 5 digits and no needless leading zero.
+fn number(value: &[u8]) -> Option<usize> {
+    let form = (1..=5).contains(&value.len()) && value.iter().all(u8::is_ascii_digit) && (value.len() == 1 || value[0] != b'0');
+    form.then(|| value.iter().fold(0, |n, &digit| n * 10 + (digit - b'0') as usize))
+}
+
+/// One lower-case hexadecimal digit.
+fn hexadecimal(digit: u8) -> Option<u8> {
+    b"0123456789abcdef".iter().position(|&d| d == digit).map(|value| value as u8)
+}
+
+/// Lower-case hexadecimal, two digits a byte, possibly empty.
+fn payload_bytes(value: &[u8]) -> Option<Vec<u8>> {
+    if !value.len().is_multiple_of(2) {
+        return None;
+    }
+    value.chunks(2).map(|pair| Some(hexadecimal(pair[0])? * 16 + hexadecimal(pair[1])?)).collect()
+}
+
+/// W digits 0 or 1.
+fn row_cells(value: &[u8], w: usize) -> Option<Vec<u8>> {
+    let form = value.len() == w && value.iter().all(|&digit| digit == b'0' || digit == b'1');
+    form.then(|| value.iter().map(|&digit| digit - b'0').collect())
+}
+
+/// The four numbers of the first four lines.
+fn first_lines(text: &mut &[u8]) -> Option<(usize, usize, usize, usize)> {
+    let w = number(take_line(text, "columns")?)?;
+    let h = number(take_line(text, "rows")?)?;
+    let d = number(take_line(text, "planes")?)?;
+    let t = number(take_line(text, "strength")?)?;
+    Some((w, h, d, t))
+}
+
+/// Either one `payload` or D × H lines `row`; nothing follows.
+fn later_lines(mut text: &[u8], shape: &Shape) -> Option<Rest> {
+    let rest = if text.starts_with(b"payload") {
+        Rest::Payload(payload_bytes(take_line(&mut text, "payload")?)?)
+    } else {
+        let mut field = Vec::new();
+        for _ in 0..shape.d * shape.h {
+            field.extend(row_cells(take_line(&mut text, "row")?, shape.w)?);
+        }
+        Rest::Rows(field)
+    };
+    text.is_empty().then_some(rest)
+}
+
+/// The four lines, as they are printed again.
+fn print_first_lines(shape: &Shape) -> String {
+    format!("columns={}\nrows={}\nplanes={}\nstrength={}\n", shape.w, shape.h, shape.d, shape.t)
+}
+
+/// The rows of a field, plane after plane.
+fn print_rows(field: &[u8], w: usize) -> String {
+    let row = |cells: &[u8]| cells.iter().map(|cell| char::from(b'0' + cell)).collect::<String>();
+    field.chunks(w).map(|cells| format!("row={}\n", row(cells))).collect()
+}
+
+/// The output of the card program, or its refusal.
+fn card_answer(input: &[u8]) -> Result<String, Number> {
+    if input.len() > 65_536 {
+        return Err(8);
+    }
+    let mut text = input;
+    let (w, h, d, t) = first_lines(&mut text).ok_or(8usize)?;
+    let plan = plan(w, h, d, t)?;
+    if plan.cells > 16_384 {
+        return Err(8);
+    }
+    let shape = Shape { w, h, d, t };
+    match later_lines(text, &shape).ok_or(8usize)? {
+        Rest::Payload(payload) => {
+            let mut field = vec![0; plan.cells];
+            encode(w, h, d, t, &payload, &mut field)?;
+            Ok(format!("{}classes={}\n{}", print_first_lines(&shape), plan.classes, print_rows(&field, w)))
+        }
+        Rest::Rows(field) => {
+            let mut payload = vec![0; plan.bytes];
+            let count = decode(w, h, d, t, &mut payload, &field)?;
+            let digits: String = payload.iter().map(|byte| format!("{byte:02x}")).collect();
+            Ok(format!("{}mended={count}\npayload={digits}\n", print_first_lines(&shape)))
+        }
+    }
+}
+
+/// The card program: from the bytes of its input to the bytes of its output.
+pub fn card(input: &[u8]) -> Vec<u8> {
+    match card_answer(input) {
+        Ok(text) => text.into_bytes(),
+        Err(number) => format!("refusal={number}\n").into_bytes(),
+    }
+}

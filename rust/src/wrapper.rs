@@ -1,0 +1,156 @@
+//! The safe wrapper over the C interface.
+
+use crate::{ffi, Refusal};
+
+/// What follows from a shape alone.
+#[derive(Clone, Copy, Debug, PartialEq, Eq, Hash)]
+pub struct Plan {
+    /// The number of interleaving classes, m.
+    pub classes: usize,
+    /// The number of cells that hold no check, K.
+    pub capacity: usize,
+    /// The payload's length in bytes.
+    pub bytes: usize,
+    /// The number of cells, one byte each.
+    pub cells: usize,
+}
+
+/// A shape within the limits, with its strength.
+#[derive(Clone, Copy, Debug, PartialEq, Eq, Hash)]
+pub struct Shape {
+    columns: usize,
+    rows: usize,
+    planes: usize,
+    strength: usize,
+    plan: Plan,
+}
+
+impl Shape {
+    /// The shape, or `Size`, or `Strength`.
+    pub fn new(columns: usize, rows: usize, planes: usize, strength: usize) -> Result<Shape, Refusal> {
+        let ffi::PlanAnswer { number, classes, capacity, bytes, cells } = ffi::plan(columns, rows, planes, strength);
+        check(number)?;
+        Ok(Shape { columns, rows, planes, strength, plan: Plan { classes, capacity, bytes, cells } })
+    }
+
+    pub fn columns(&self) -> usize {
+        self.columns
+    }
+
+    pub fn rows(&self) -> usize {
+        self.rows
+    }
+
+    pub fn planes(&self) -> usize {
+        self.planes
+    }
+
+    pub fn strength(&self) -> usize {
+        self.strength
+    }
+
+    pub fn plan(&self) -> Plan {
+        self.plan
+    }
+
+    /// The number of interleaving classes.
+    pub fn classes(&self) -> usize {
+        self.plan.classes
+    }
+
+    /// The number of cells that hold no check.
+    pub fn capacity(&self) -> usize {
+        self.plan.capacity
+    }
+
+    /// The payload's length in bytes.
+    pub fn payload_bytes(&self) -> usize {
+        self.plan.bytes
+    }
+
+    /// The number of cells.
+    pub fn cells(&self) -> usize {
+        self.plan.cells
+    }
+
+    /// The byte of a cell in the field, or `OutsideShape`.
+    pub fn cell(&self, row: usize, plane: usize, column: usize) -> Result<usize, Refusal> {
+        if row < self.rows && plane < self.planes && column < self.columns {
+            Ok((plane * self.rows + row) * self.columns + column)
+        } else {
+            Err(Refusal::OutsideShape)
+        }
+    }
+}
+
+/// A payload read from a field, and the number of cells that were corrected on the way.
+#[derive(Clone, Debug, PartialEq, Eq, Hash)]
+pub struct Decoded {
+    pub payload: Vec<u8>,
+    pub mended: usize,
+}
+
+/// The verdict of the distance test, with the number of difference triples tried.
+#[derive(Clone, Copy, Debug, PartialEq, Eq, Hash)]
+pub enum Distance {
+    /// All different cells of one class are at least t apart.
+    Holds { tried: usize },
+    /// Two cells that differ by this triple are of one class and closer than t.
+    Fails { row: i32, plane: i32, column: i32, tried: usize },
+}
+
+/// Success for 0, else the refusal.
+fn check(number: usize) -> Result<(), Refusal> {
+    if number == 0 {
+        return Ok(());
+    }
+    Err(Refusal::from_number(number).unwrap_or_else(|| panic!("the library gave the unlisted number {number}")))
+}
+
+/// The interleaving class of a cell, or `OutsideShape`.
+pub fn class_of(shape: &Shape, row: usize, plane: usize, column: usize) -> Result<usize, Refusal> {
+    let answer = ffi::class_of(shape.columns, shape.rows, shape.planes, shape.strength, row, plane, column);
+    match answer.number {
+        4 => Err(Refusal::OutsideShape),
+        number => check(number).map(|()| answer.class_index),
+    }
+}
+
+/// The field of a payload, or `PayloadLength`.
+pub fn encode(shape: &Shape, payload: &[u8]) -> Result<Vec<u8>, Refusal> {
+    let mut field = vec![0; shape.cells()];
+    encode_into(shape, payload, &mut field)?;
+    Ok(field)
+}
+
+/// Writes the field of a payload into a buffer, or gives `PayloadLength`, then `FieldLength`.
+pub fn encode_into(shape: &Shape, payload: &[u8], field: &mut [u8]) -> Result<(), Refusal> {
+    check(ffi::encode(shape.columns, shape.rows, shape.planes, shape.strength, payload, field))
+}
+
+/// The payload of a field, or `FieldLength`, then `Cell`, `Uncorrectable`, `Padding`.
+pub fn decode(shape: &Shape, field: &[u8]) -> Result<Decoded, Refusal> {
+    let mut payload = vec![0; shape.payload_bytes()];
+    let mended = decode_into(shape, field, &mut payload)?;
+    Ok(Decoded { payload, mended })
+}
+
+/// Reads the payload of a field into a buffer and gives the number of cells corrected on the way, or `PayloadLength`, then as `decode`.
+pub fn decode_into(shape: &Shape, field: &[u8], payload: &mut [u8]) -> Result<usize, Refusal> {
+    let answer = ffi::decode(shape.columns, shape.rows, shape.planes, shape.strength, payload, field);
+    check(answer.number).map(|()| answer.count)
+}
+
+/// Corrects a field where it lies and gives the number of cells changed, or refuses as `decode` does.
+pub fn correct(shape: &Shape, field: &mut [u8]) -> Result<usize, Refusal> {
+    let answer = ffi::correct(shape.columns, shape.rows, shape.planes, shape.strength, field);
+    check(answer.number).map(|()| answer.count)
+}
+
+/// Are all different cells of one class, (column − b × row − c × plane) mod m, at least t apart in an endless stack? `Strength` for t
+/// outside 1 to 18, then `Settings`.
+pub fn distance_test(m: usize, b: usize, c: usize, t: usize) -> Result<Distance, Refusal> {
+    let ffi::DistanceAnswer { number, holds, row, plane, column, tried } = ffi::distance_test(m, b, c, t);
+    check(number)?;
+    Ok(if holds == 1 { Distance::Holds { tried } } else { Distance::Fails { row, plane, column, tried } })
+}

@@ -1,0 +1,455 @@
+//! Random inputs for the comparisons, from a fixed generator, and the comparisons themselves.
+
+#![allow(dead_code)]
+
+use varmintfoil::reference;
+
+/// A xorshift generator.
+pub struct Random(u64);
+
+impl Random {
+    pub fn new(seed: u64) -> Random {
+        Random(seed.wrapping_mul(0x9e37_79b9_7f4a_7c15) | 1)
+    }
+
+    pub fn next(&mut self) -> u64 {
+        self.0 ^= self.0 << 13;
+        self.0 ^= self.0 >> 7;
+        self.0 ^= self.0 << 17;
+        self.0.wrapping_mul(0x2545_f491_4f6c_dd1d) >> 11
+    }
+
+    /// A number below n.
+    pub fn below(&mut self, n: usize) -> usize {
+        (self.next() % n as u64) as usize
+    }
+
+    /// A number from low to high.
+    pub fn from(&mut self, low: usize, high: usize) -> usize {
+        low + self.below(high - low + 1)
+    }
+
+    /// True once in n.
+    pub fn once_in(&mut self, n: usize) -> bool {
+        self.below(n) == 0
+    }
+
+    pub fn pick<T: Copy>(&mut self, list: &[T]) -> T {
+        list[self.below(list.len())]
+    }
+
+    pub fn bytes(&mut self, n: usize) -> Vec<u8> {
+        (0..n).map(|_| self.next() as u8).collect()
+    }
+
+    pub fn bits(&mut self, n: usize) -> Vec<u8> {
+        (0..n).map(|_| (self.next() & 1) as u8).collect()
+    }
+}
+
+/// The four numbers of a shape, within the limits or not.
+#[derive(Clone, Copy, Debug)]
+pub struct Numbers {
+    pub w: usize,
+    pub h: usize,
+    pub d: usize,
+    pub t: usize,
+}
+
+impl Numbers {
+    /// A stack whose three sides all differ.
+    pub fn uneven_stack(&self) -> bool {
+        self.d > 1 && self.w != self.h && self.h != self.d && self.w != self.d
+    }
+
+    pub fn plan(&self) -> Result<reference::Plan, usize> {
+        reference::plan(self.w, self.h, self.d, self.t)
+    }
+
+    pub fn shape(&self) -> reference::Shape {
+        reference::shape(self.w, self.h, self.d, self.t).unwrap()
+    }
+}
+
+/// A shape within the limits: small mostly, sometimes long or middling.
+pub fn lawful_shape(random: &mut Random) -> Numbers {
+    let flat = random.once_in(2);
+    let (w, h) = match random.below(300) {
+        0 => (random.from(1, 64), random.from(1, 64)),
+        1 => (random.from(1, 256), random.from(1, 3)),
+        2 => (random.from(1, 3), random.from(1, 256)),
+        3..=99 => (random.from(1, 16), random.from(1, 16)),
+        _ => (random.from(1, 7), random.from(1, 7)),
+    };
+    let d = if flat {
+        1
+    } else if random.once_in(20) {
+        random.from(2, 16)
+    } else {
+        random.from(2, 5)
+    };
+    let t = if !flat {
+        random.from(1, 8)
+    } else if random.once_in(3) {
+        random.from(1, 32)
+    } else {
+        random.from(1, 6)
+    };
+    Numbers { w, h, d, t }
+}
+
+/// A number that no limit takes, among them those that a narrower type would take for `n`.
+pub fn refused_number(random: &mut Random, n: usize) -> usize {
+    let huge = [
+        65_537,
+        65_536 + n,
+        256 + n,
+        (1 << 32) + 1,
+        (1 << 32) + n,
+        1 << 32,
+        1 << 63,
+        usize::MAX,
+        usize::MAX - n + 1,
+        n.wrapping_neg(),
+    ];
+    if random.once_in(2) {
+        random.pick(&huge)
+    } else {
+        random.pick(&[0, 9, 17, 33, 257, 300])
+    }
+}
+
+/// A shape, once in four with one or more numbers outside the limits.
+pub fn any_shape(random: &mut Random) -> Numbers {
+    let mut shape = lawful_shape(random);
+    if random.once_in(4) {
+        match random.below(8) {
+            0 => shape.w = refused_number(random, shape.w),
+            1 => shape.h = refused_number(random, shape.h),
+            2 => shape.d = refused_number(random, shape.d),
+            3 => (shape.w, shape.h, shape.d) = (256, random.from(129, 256), random.from(2, 16)),
+            4 => {
+                (shape.w, shape.h, shape.d) = random.pick(&[(1 << 32, 1 << 32, 1), (1 << 63, 2, 1), (usize::MAX, usize::MAX, 1)])
+            }
+            5 => (shape.w, shape.t) = (refused_number(random, shape.w), refused_number(random, shape.t)),
+            _ => shape.t = refused_number(random, shape.t),
+        }
+    }
+    shape
+}
+
+/// The largest shapes, flat and stacked, and the strengths to try there.
+pub fn large_shapes() -> Vec<Numbers> {
+    let mut shapes = Vec::new();
+    for t in [5, 8, 16, 31, 32] {
+        shapes.push(Numbers { w: 256, h: 256, d: 1, t });
+    }
+    for t in 4..=8 {
+        shapes.push(Numbers { w: 256, h: 16, d: 16, t });
+    }
+    for t in [5, 8] {
+        shapes.push(Numbers { w: 17, h: 241, d: 15, t });
+    }
+    for t in [1, 2, 3, 32] {
+        shapes.push(Numbers { w: 256, h: 1, d: 1, t });
+        shapes.push(Numbers { w: 1, h: 256, d: 1, t });
+    }
+    shapes
+}
+
+/// A length, once in six not the plan's.
+pub fn length(random: &mut Random, planned: usize) -> usize {
+    if !random.once_in(6) {
+        return planned;
+    }
+    let other = [planned + 1, planned.saturating_sub(1), 0, 1, planned + 8, planned * 2, planned / 2, random.below(40)];
+    random.pick(&other)
+}
+
+/// The cells of a random cluster of at most `size` cells, as bytes of the field.
+pub fn cluster(random: &mut Random, shape: &Numbers, size: usize) -> Vec<usize> {
+    let start = (random.below(shape.h), random.below(shape.d), random.below(shape.w));
+    let mut cells = vec![start];
+    for _ in 0..4 * size {
+        if cells.len() == size {
+            break;
+        }
+        let (row, plane, column) = random.pick(&cells);
+        let next = match random.below(6) {
+            0 => (row + 1, plane, column),
+            1 => (row.wrapping_sub(1), plane, column),
+            2 => (row, plane + 1, column),
+            3 => (row, plane.wrapping_sub(1), column),
+            4 => (row, plane, column + 1),
+            _ => (row, plane, column.wrapping_sub(1)),
+        };
+        if next.0 < shape.h && next.1 < shape.d && next.2 < shape.w && !cells.contains(&next) {
+            cells.push(next);
+        }
+    }
+    cells.iter().map(|&(row, plane, column)| reference::byte_of(&shape.shape(), row, plane, column)).collect()
+}
+
+/// Some of the cells of a list: none, all or a random choice.
+pub fn some_of(random: &mut Random, cells: &[usize]) -> Vec<usize> {
+    match random.below(4) {
+        0 => Vec::new(),
+        1 => cells.to_vec(),
+        _ => cells.iter().copied().filter(|_| random.once_in(2)).collect(),
+    }
+}
+
+/// A field that was encoded, perhaps with padding that is not 0, then damaged within or beyond the strength; or garbage.
+pub fn any_field(random: &mut Random, shape: &Numbers) -> Vec<u8> {
+    let plan = shape.plan().unwrap();
+    let mut data = random.bits(plan.capacity);
+    if !random.once_in(5) {
+        data[plan.bytes * 8..].fill(0);
+    }
+    let mut field = reference::field_of_bits(&shape.shape(), &data);
+    let flips = match random.below(12) {
+        0 => Vec::new(),
+        1..=5 => cluster(random, shape, shape.t),
+        6 => {
+            let size = shape.t + random.from(1, 6);
+            cluster(random, shape, size)
+        }
+        7 | 8 => (0..random.from(1, 3)).map(|_| random.below(plan.cells)).collect(),
+        9 => (0..random.from(1, plan.cells)).map(|_| random.below(plan.cells)).collect(),
+        10 => {
+            field = random.bits(plan.cells);
+            Vec::new()
+        }
+        _ => {
+            field = random.bytes(plan.cells);
+            Vec::new()
+        }
+    };
+    for cell in some_of(random, &flips) {
+        field[cell] ^= 1;
+    }
+    if random.once_in(10) {
+        let cell = random.below(plan.cells);
+        field[cell] = random.pick(&[2, 3, 128, 254, 255]);
+    }
+    field
+}
+
+/// A field of some length for a shape, within the limits or not.
+pub fn lent_field(random: &mut Random, shape: &Numbers) -> Vec<u8> {
+    let Ok(plan) = shape.plan() else {
+        let n = random.below(40);
+        return random.bytes(n);
+    };
+    let mut field = any_field(random, shape);
+    field.resize(length(random, plan.cells), 0);
+    field
+}
+
+/// A payload of some length for a shape, within the limits or not.
+pub fn lent_payload(random: &mut Random, shape: &Numbers) -> Vec<u8> {
+    let planned = shape.plan().map_or(10, |plan| plan.bytes);
+    let n = length(random, planned);
+    random.bytes(n)
+}
+
+/// How often each number came up, and how often a stack of three different sides succeeded at each strength.
+#[derive(Default)]
+pub struct Tally {
+    pub numbers: [usize; 10],
+    pub uneven_stacks: [usize; 9],
+}
+
+impl Tally {
+    pub fn note(&mut self, shape: &Numbers, number: usize) {
+        self.numbers[number] += 1;
+        if number == 0 && shape.uneven_stack() {
+            self.uneven_stacks[shape.t] += 1;
+        }
+    }
+
+    /// Each listed number came up often, and no other.
+    pub fn assert_numbers(&self, operation: &str, listed: &[usize]) {
+        println!("{operation}: {:?}, uneven stacks {:?}", self.numbers, self.uneven_stacks);
+        for (number, &times) in self.numbers.iter().enumerate() {
+            if number == 0 || listed.contains(&number) {
+                assert!(times >= 100, "{operation} gave {number} only {times} times");
+            } else {
+                assert_eq!(times, 0, "{operation} gave {number}, which is not listed");
+            }
+        }
+    }
+
+    /// Stacks of three different sides succeeded at each of the eight strengths.
+    pub fn assert_stacks(&self, operation: &str) {
+        for t in 1..=8 {
+            assert!(self.uneven_stacks[t] >= 100, "{operation}: few stacks of three different sides at strength {t}");
+        }
+    }
+}
+
+/// The number of a result.
+pub fn number_of<T>(result: &Result<T, usize>) -> usize {
+    *result.as_ref().err().unwrap_or(&0)
+}
+
+/// The three operations on buffers of an implementation that is compared with the reference.
+pub trait Codec {
+    fn encode(shape: &Numbers, payload: &[u8], field: &mut [u8]) -> Result<(), usize>;
+    fn decode(shape: &Numbers, payload: &mut [u8], field: &[u8]) -> Result<usize, usize>;
+    fn correct(shape: &Numbers, field: &mut [u8]) -> Result<usize, usize>;
+}
+
+/// One encoding, with all final bytes.
+pub fn compare_encode<C: Codec>(shape: &Numbers, payload: &[u8], field: &[u8], tally: &mut Tally) {
+    let mut expected = field.to_vec();
+    let mut actual = field.to_vec();
+    let answer = reference::encode(shape.w, shape.h, shape.d, shape.t, payload, &mut expected);
+    assert_eq!(C::encode(shape, payload, &mut actual), answer, "{shape:?} {payload:?} {field:?}");
+    assert_eq!(actual, expected, "{shape:?} {payload:?} {field:?}");
+    tally.note(shape, number_of(&answer));
+}
+
+/// One decoding, with all final bytes.
+pub fn compare_decode<C: Codec>(shape: &Numbers, payload: &[u8], field: &[u8], tally: &mut Tally) {
+    let mut expected = payload.to_vec();
+    let mut actual = payload.to_vec();
+    let lent = field.to_vec();
+    let answer = reference::decode(shape.w, shape.h, shape.d, shape.t, &mut expected, field);
+    assert_eq!(C::decode(shape, &mut actual, &lent), answer, "{shape:?} {payload:?} {field:?}");
+    assert_eq!(actual, expected, "{shape:?} {payload:?} {field:?}");
+    assert_eq!(lent, field, "{shape:?} {payload:?}");
+    tally.note(shape, number_of(&answer));
+}
+
+/// One correction, with all final bytes.
+pub fn compare_correct<C: Codec>(shape: &Numbers, field: &[u8], tally: &mut Tally) {
+    let mut expected = field.to_vec();
+    let mut actual = field.to_vec();
+    let answer = reference::correct(shape.w, shape.h, shape.d, shape.t, &mut expected);
+    assert_eq!(C::correct(shape, &mut actual), answer, "{shape:?} {field:?}");
+    assert_eq!(actual, expected, "{shape:?} {field:?}");
+    tally.note(shape, number_of(&answer));
+}
+
+/// Random encodings.
+pub fn compare_encodings<C: Codec>(times: usize) {
+    let mut random = Random::new(3);
+    let mut tally = Tally::default();
+    for _ in 0..times {
+        let shape = any_shape(&mut random);
+        let payload = lent_payload(&mut random, &shape);
+        let planned = shape.plan().map_or(20, |plan| plan.cells);
+        let n = length(&mut random, planned);
+        let field = random.bytes(n);
+        compare_encode::<C>(&shape, &payload, &field, &mut tally);
+    }
+    tally.assert_numbers("encode", &[1, 2, 3, 4]);
+    tally.assert_stacks("encode");
+}
+
+/// Random decodings.
+pub fn compare_decodings<C: Codec>(times: usize) {
+    let mut random = Random::new(4);
+    let mut tally = Tally::default();
+    for _ in 0..times {
+        let shape = any_shape(&mut random);
+        let payload = lent_payload(&mut random, &shape);
+        let field = lent_field(&mut random, &shape);
+        compare_decode::<C>(&shape, &payload, &field, &mut tally);
+    }
+    tally.assert_numbers("decode", &[1, 2, 3, 4, 5, 6, 7]);
+    tally.assert_stacks("decode");
+}
+
+/// Random corrections.
+pub fn compare_corrections<C: Codec>(times: usize) {
+    let mut random = Random::new(5);
+    let mut tally = Tally::default();
+    for _ in 0..times {
+        let shape = any_shape(&mut random);
+        let field = lent_field(&mut random, &shape);
+        compare_correct::<C>(&shape, &field, &mut tally);
+    }
+    tally.assert_numbers("correct", &[1, 2, 4, 5, 6, 7]);
+    tally.assert_stacks("correct");
+}
+
+/// The largest shapes: encoded, then decoded and corrected whole, damaged within the strength and beyond it.
+pub fn compare_large<C: Codec>() {
+    let mut random = Random::new(6);
+    let mut tally = Tally::default();
+    for shape in large_shapes() {
+        let plan = shape.plan().unwrap();
+        let payload = random.bytes(plan.bytes);
+        let mut field = random.bytes(plan.cells);
+        compare_encode::<C>(&shape, &payload, &field, &mut tally);
+        C::encode(&shape, &payload, &mut field).unwrap();
+        for size in [0, shape.t, 3 * shape.t] {
+            let mut damaged = field.clone();
+            for cell in cluster(&mut random, &shape, size) {
+                damaged[cell] ^= u8::from(size > 0);
+            }
+            let lent = random.bytes(plan.bytes);
+            compare_decode::<C>(&shape, &lent, &damaged, &mut tally);
+            compare_correct::<C>(&shape, &damaged, &mut tally);
+        }
+    }
+}
+
+/// The largest fields at low strengths, whose classes are long: one cell damaged, low in its class so that the reference's search ends
+/// soon.
+pub fn compare_long_classes<C: Codec>() {
+    let mut random = Random::new(7);
+    let mut tally = Tally::default();
+    for (w, h, d, t) in
+        [(256, 256, 1, 1), (256, 256, 1, 2), (256, 256, 1, 3), (256, 16, 16, 1), (16, 256, 16, 2), (17, 241, 15, 3)]
+    {
+        let shape = Numbers { w, h, d, t };
+        let plan = shape.plan().unwrap();
+        let payload = random.bytes(plan.bytes);
+        let mut field = random.bytes(plan.cells);
+        compare_encode::<C>(&shape, &payload, &field, &mut tally);
+        C::encode(&shape, &payload, &mut field).unwrap();
+        compare_decode::<C>(&shape, &payload, &field, &mut tally);
+        let cell = random.below(2000);
+        field[cell] ^= 1;
+        compare_decode::<C>(&shape, &random.bytes(plan.bytes), &field, &mut tally);
+        compare_correct::<C>(&shape, &field, &mut tally);
+        // The last cell, without the search.
+        field[cell] ^= 1;
+        let whole = field.clone();
+        field[plan.cells - 1] ^= 1;
+        let mut read = random.bytes(plan.bytes);
+        assert_eq!(C::decode(&shape, &mut read, &field), Ok(1));
+        assert_eq!(read, payload);
+        assert_eq!(C::correct(&shape, &mut field), Ok(1));
+        assert_eq!(field, whole);
+    }
+}
+
+/// Demand 3 itself: any cells of any one cluster of at most t cells are undone, and counted.
+pub fn undo_clusters<C: Codec>(times: usize) {
+    let mut random = Random::new(8);
+    let mut tally = Tally::default();
+    for _ in 0..times {
+        let shape = lawful_shape(&mut random);
+        let plan = shape.plan().unwrap();
+        let payload = random.bytes(plan.bytes);
+        let mut field = random.bytes(plan.cells);
+        C::encode(&shape, &payload, &mut field).unwrap();
+        let mut damaged = field.clone();
+        let hit = cluster(&mut random, &shape, shape.t);
+        let flips = some_of(&mut random, &hit);
+        for &cell in &flips {
+            damaged[cell] ^= 1;
+        }
+        let mut read = random.bytes(plan.bytes);
+        assert_eq!(C::decode(&shape, &mut read, &damaged), Ok(flips.len()), "{shape:?} {payload:?} {flips:?}");
+        assert_eq!(read, payload, "{shape:?} {flips:?}");
+        assert_eq!(C::correct(&shape, &mut damaged), Ok(flips.len()), "{shape:?} {payload:?} {flips:?}");
+        assert_eq!(damaged, field, "{shape:?} {payload:?} {flips:?}");
+        tally.note(&shape, 0);
+    }
+    tally.assert_stacks("clusters");
+}

@@ -1,0 +1,227 @@
+//! The proved library against the second implementation: every operation, at least 200,000 times each, numbers, figures and the final
+//! bytes of every buffer.
+
+mod common;
+
+use common::*;
+use varmintfoil::{ffi, reference, Refusal, Shape};
+
+/// How often each operation is compared.
+const TIMES: usize = 200_000;
+
+/// The C interface, with its figures of a refusal tested.
+struct Proved;
+
+/// The number as a result; the count of a refusal is 0.
+fn counted(answer: ffi::CountAnswer) -> Result<usize, usize> {
+    if answer.number == 0 {
+        return Ok(answer.count);
+    }
+    assert_eq!(answer.count, 0);
+    Err(answer.number)
+}
+
+impl Codec for Proved {
+    fn encode(s: &Numbers, payload: &[u8], field: &mut [u8]) -> Result<(), usize> {
+        match ffi::encode(s.w, s.h, s.d, s.t, payload, field) {
+            0 => Ok(()),
+            number => Err(number),
+        }
+    }
+
+    fn decode(s: &Numbers, payload: &mut [u8], field: &[u8]) -> Result<usize, usize> {
+        counted(ffi::decode(s.w, s.h, s.d, s.t, payload, field))
+    }
+
+    fn correct(s: &Numbers, field: &mut [u8]) -> Result<usize, usize> {
+        counted(ffi::correct(s.w, s.h, s.d, s.t, field))
+    }
+}
+
+/// The safe wrapper; a shape that it refuses has no further operation.
+struct Wrapper;
+
+fn shape_of(s: &Numbers) -> Result<Shape, usize> {
+    Shape::new(s.w, s.h, s.d, s.t).map_err(Refusal::number)
+}
+
+impl Codec for Wrapper {
+    fn encode(s: &Numbers, payload: &[u8], field: &mut [u8]) -> Result<(), usize> {
+        let shape = shape_of(s)?;
+        let answer = varmintfoil::encode_into(&shape, payload, field);
+        let owned = varmintfoil::encode(&shape, payload);
+        match answer {
+            Ok(()) => assert_eq!(owned.as_deref(), Ok(&*field)),
+            Err(Refusal::PayloadLength) => assert_eq!(owned, Err(Refusal::PayloadLength)),
+            Err(_) => assert!(owned.is_ok()),
+        }
+        answer.map_err(Refusal::number)
+    }
+
+    fn decode(s: &Numbers, payload: &mut [u8], field: &[u8]) -> Result<usize, usize> {
+        let shape = shape_of(s)?;
+        let answer = varmintfoil::decode_into(&shape, field, payload);
+        let owned = varmintfoil::decode(&shape, field);
+        match answer {
+            Ok(count) => {
+                let owned = owned.unwrap();
+                assert_eq!((owned.payload.as_slice(), owned.mended), (&*payload, count));
+            }
+            Err(Refusal::PayloadLength) => {}
+            Err(refusal) => assert_eq!(owned, Err(refusal)),
+        }
+        answer.map_err(Refusal::number)
+    }
+
+    fn correct(s: &Numbers, field: &mut [u8]) -> Result<usize, usize> {
+        varmintfoil::correct(&shape_of(s)?, field).map_err(Refusal::number)
+    }
+}
+
+#[test]
+fn plans() {
+    let mut random = Random::new(1);
+    let mut tally = Tally::default();
+    let large = large_shapes();
+    for round in 0..TIMES {
+        let shape = if round < large.len() { large[round] } else { any_shape(&mut random) };
+        let answer = shape.plan();
+        let figures = ffi::plan(shape.w, shape.h, shape.d, shape.t);
+        let expected = match answer {
+            Ok(plan) => [0, plan.classes, plan.capacity, plan.bytes, plan.cells],
+            Err(number) => [number, 0, 0, 0, 0],
+        };
+        let actual = [figures.number, figures.classes, figures.capacity, figures.bytes, figures.cells];
+        assert_eq!(actual, expected, "{shape:?}");
+        let wrapped = shape_of(&shape).map(|s| [0, s.classes(), s.capacity(), s.payload_bytes(), s.cells()]);
+        assert_eq!(wrapped, answer.map(|_| expected), "{shape:?}");
+        tally.note(&shape, number_of(&answer));
+    }
+    tally.assert_numbers("plan", &[1, 2]);
+    tally.assert_stacks("plan");
+}
+
+#[test]
+fn classes_of_cells() {
+    let mut random = Random::new(2);
+    let mut tally = Tally::default();
+    for _ in 0..TIMES {
+        let shape = any_shape(&mut random);
+        let side = |random: &mut Random, n: usize| match random.below(8) {
+            0 => refused_number(random, n),
+            1 => n,
+            _ => random.below(n.clamp(1, 256)),
+        };
+        let (row, plane, column) = (side(&mut random, shape.h), side(&mut random, shape.d), side(&mut random, shape.w));
+        let answer = reference::class_of(shape.w, shape.h, shape.d, shape.t, row, plane, column);
+        let actual = ffi::class_of(shape.w, shape.h, shape.d, shape.t, row, plane, column);
+        let expected = ffi::ClassAnswer { number: number_of(&answer), class_index: answer.unwrap_or(0) };
+        assert_eq!(actual, expected, "{shape:?} {row} {plane} {column}");
+        if let Ok(s) = shape_of(&shape) {
+            let wrapped = varmintfoil::class_of(&s, row, plane, column);
+            assert_eq!(wrapped, answer.map_err(|_| Refusal::OutsideShape), "{shape:?} {row} {plane} {column}");
+            assert_eq!(s.cell(row, plane, column).is_ok(), answer.is_ok());
+        }
+        tally.note(&shape, number_of(&answer));
+    }
+    tally.assert_numbers("class", &[1, 2, 4]);
+    tally.assert_stacks("class");
+}
+
+#[test]
+fn encodings() {
+    compare_encodings::<Proved>(TIMES);
+}
+
+#[test]
+fn decodings() {
+    compare_decodings::<Proved>(TIMES);
+}
+
+#[test]
+fn corrections() {
+    compare_corrections::<Proved>(TIMES);
+}
+
+#[test]
+fn the_wrapper() {
+    compare_encodings::<Wrapper>(TIMES / 10);
+    compare_decodings::<Wrapper>(TIMES / 10);
+    compare_corrections::<Wrapper>(TIMES / 10);
+}
+
+#[test]
+fn large_fields() {
+    compare_large::<Proved>();
+}
+
+#[test]
+fn long_classes() {
+    compare_long_classes::<Proved>();
+}
+
+#[test]
+fn clusters_are_undone() {
+    undo_clusters::<Proved>(TIMES);
+}
+
+#[test]
+fn distance_tests() {
+    let mut random = Random::new(9);
+    let mut numbers = [0usize; 10];
+    let mut holds = 0;
+    for _ in 0..TIMES {
+        let t = match random.below(8) {
+            0 => random.pick(&[0, 19, 256 + 3, 65_537, (1 << 32) + 3, usize::MAX]),
+            1 => random.from(1, 18),
+            _ => random.from(1, 7),
+        };
+        let m = match random.below(10) {
+            0 => random.pick(&[0, 4097, 65_536 + 7, (1 << 32) + 7, usize::MAX]),
+            1 => random.pick(&[1, 2, 4095, 4096]),
+            2..=4 => random.from(1, 4096),
+            _ => random.from(1, 100),
+        };
+        let below = |random: &mut Random| match random.below(12) {
+            0 => m,
+            1 => random.pick(&[(1 << 32) + 1, 65_536, usize::MAX, m.saturating_add(1)]),
+            _ => random.below(m.clamp(1, 5000)),
+        };
+        let (b, c) = (below(&mut random), below(&mut random));
+        compare_distance(m, b, c, t, &mut numbers, &mut holds);
+    }
+    // The settings of the stacks, each at its own strength and at all others; settings that hold at every strength.
+    for (m, b, c) in
+        [(1, 0, 0), (2, 1, 1), (7, 2, 3), (12, 3, 5), (27, 4, 10), (38, 7, 11), (70, 16, 25), (92, 9, 39), (4093, 550, 2331)]
+    {
+        for t in 0..=19 {
+            compare_distance(m, b, c, t, &mut numbers, &mut holds);
+        }
+    }
+    println!("distance test: {numbers:?}, {holds} hold");
+    assert!(holds >= 1000 && numbers[0] >= holds + 1000 && numbers[2] >= 1000 && numbers[9] >= 1000);
+    assert_eq!(numbers[0] + numbers[2] + numbers[9], TIMES + 9 * 20);
+}
+
+fn compare_distance(m: usize, b: usize, c: usize, t: usize, numbers: &mut [usize; 10], holds: &mut usize) {
+    let answer = reference::distance_test(m, b, c, t);
+    let expected = match answer {
+        Ok(reference::Distance { holds, row, plane, column, tried }) => {
+            ffi::DistanceAnswer { number: 0, holds: usize::from(holds), row, plane, column, tried }
+        }
+        Err(number) => ffi::DistanceAnswer { number, holds: 0, row: 0, plane: 0, column: 0, tried: 0 },
+    };
+    assert_eq!(ffi::distance_test(m, b, c, t), expected, "m {m}, b {b}, c {c}, t {t}");
+    let wrapped = match varmintfoil::distance_test(m, b, c, t) {
+        Ok(varmintfoil::Distance::Holds { tried }) => {
+            ffi::DistanceAnswer { number: 0, holds: 1, row: 0, plane: 0, column: 0, tried }
+        }
+        Ok(varmintfoil::Distance::Fails { row, plane, column, tried }) => {
+            ffi::DistanceAnswer { number: 0, holds: 0, row, plane, column, tried }
+        }
+        Err(refusal) => ffi::DistanceAnswer { number: refusal.number(), holds: 0, row: 0, plane: 0, column: 0, tried: 0 },
+    };
+    assert_eq!(wrapped, expected, "m {m}, b {b}, c {c}, t {t}");
+    numbers[expected.number] += 1;
+    *holds += expected.holds;
+}

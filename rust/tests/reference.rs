@@ -1,0 +1,93 @@
+//! The second implementation against the examples of document 01, and against itself where a class is small enough to try everything.
+
+use varmintfoil::reference::*;
+
+const CARD: &str = "columns=5\nrows=5\nplanes=1\nstrength=3\npayload=a5\n";
+const WRITTEN: &str =
+    "columns=5\nrows=5\nplanes=1\nstrength=3\nclasses=5\nrow=11011\nrow=00101\nrow=10100\nrow=00101\nrow=10100\n";
+const DAMAGED: &str = "columns=5\nrows=5\nplanes=1\nstrength=3\nrow=11011\nrow=00101\nrow=10010\nrow=00001\nrow=10100\n";
+const READ: &str = "columns=5\nrows=5\nplanes=1\nstrength=3\nmended=3\npayload=a5\n";
+
+#[test]
+fn the_worked_card() {
+    assert_eq!(String::from_utf8(card(CARD.as_bytes())).unwrap(), WRITTEN);
+    assert_eq!(String::from_utf8(card(DAMAGED.as_bytes())).unwrap(), READ);
+}
+
+#[test]
+fn the_examples() {
+    assert_eq!(class_of(256, 256, 1, 4, 1, 0, 0), Ok(3));
+    assert_eq!(class_of(256, 256, 1, 5, 12, 0, 0), Ok(5));
+    assert_eq!([0, 1, 2, 3, 7, 8].map(checks), [0, 1, 2, 2, 3, 4]);
+    assert_eq!(plan(5, 5, 1, 3), Ok(Plan { classes: 5, capacity: 10, bytes: 1, cells: 25 }));
+    assert_eq!(decode(2, 1, 1, 1, &mut [], &[0, 1]), Ok(1));
+    assert_eq!(decode(2, 1, 1, 1, &mut [], &[1, 1]), Err(6));
+    assert_eq!(distance_test(7, 2, 3, 3), Ok(Distance { holds: true, row: 0, plane: 0, column: 0, tried: 12 }));
+    assert_eq!(distance_test(7, 2, 3, 4), Ok(Distance { holds: false, row: 0, plane: 2, column: -1, tried: 9 }));
+    assert!(plan(256, 256, 1, 1).is_ok());
+    assert_eq!(plan(257, 1, 1, 1), Err(1));
+    assert_eq!(plan(256, 256, 2, 1), Err(1));
+    assert!(plan(256, 16, 16, 1).is_ok());
+    assert!(plan(256, 256, 1, 32).is_ok());
+    assert_eq!(plan(256, 256, 1, 33), Err(2));
+    assert!(plan(16, 16, 16, 8).is_ok());
+    assert_eq!(plan(16, 16, 16, 9), Err(2));
+}
+
+#[test]
+fn the_settings_hold() {
+    for t in 1..=32 {
+        let flat = settings(&shape(1, 1, 1, t).unwrap());
+        assert!(flat_holds(flat.m, flat.b, t as i64), "flat, strength {t}");
+    }
+    for t in 1..=8 {
+        let stack = settings(&shape(1, 1, 2, t).unwrap());
+        let tested = distance_test(stack.m as usize, stack.b as usize, stack.c as usize, t).unwrap();
+        assert!(tested.holds, "stack, strength {t}");
+        assert_eq!(tested.tried, (t - 1) * (2 * t * t - t + 3) / 3);
+    }
+}
+
+#[test]
+fn the_count_of_triples_when_none_is_found() {
+    for t in 1..=18 {
+        let tested = distance_test(4093, 550, 2331, t).unwrap();
+        assert_eq!((tested.holds, tested.tried), (true, (t - 1) * (2 * t * t - t + 3) / 3), "strength {t}");
+    }
+}
+
+/// No two cells of one class in a flat field are closer than t.
+fn flat_holds(m: i64, b: i64, t: i64) -> bool {
+    (0..t).all(|row| {
+        (1 - t..t).all(|column| {
+            let sum = row + column.abs();
+            sum == 0 || sum >= t || (column - b * row) % m != 0
+        })
+    })
+}
+
+#[test]
+fn never_more_than_one_codeword_in_reach() {
+    for n in 0..=12usize {
+        for value in 0..1usize << n {
+            let class: Vec<u8> = (0..n).map(|i| (value >> i & 1) as u8).collect();
+            let mut found = usize::from(is_codeword(&class));
+            for i in 0..n {
+                let mut other = class.clone();
+                other[i] ^= 1;
+                found += usize::from(is_codeword(&other));
+            }
+            assert!(found <= 1);
+            assert_eq!(found == 1, codeword_in_reach(&class).is_some());
+        }
+    }
+}
+
+#[test]
+fn one_codeword_for_each_choice_of_data() {
+    for n in 0..=12usize {
+        let codewords =
+            (0..1usize << n).filter(|value| is_codeword(&(0..n).map(|i| (value >> i & 1) as u8).collect::<Vec<u8>>())).count();
+        assert_eq!(codewords, 1 << (n - checks(n)));
+    }
+}
