@@ -1,7 +1,8 @@
 -- The number that tests give in their order: the shape's refusals, and the lengths of the plan.
 use Prim.Native.Nat.{ℕ, _/_}
 use mathlib.Core.Bool.{Bool, true, false}
-use mathlib.Core.Path.{_≡_, refl, sym, ap}
+use mathlib.Core.List.{List}
+use mathlib.Core.Path.{_≡_, refl, sym, ap, _∙_}
 use native.Mathlib.Omega.{arith}
 use lib.Dec.{eqb}
 use borrow.Author.Tests.{eq-eqb, ne-eqb}
@@ -9,10 +10,12 @@ use Rattle.lattice.specs.declared.shape.Shape.{Shape}
 use Rattle.lattice.specs.Refusal.{unless, figure}
 use Rattle.lattice.specs.Shape.{shapeNumber, numberOf, sizeOk, strengthOk, Accepted, cellsOf}
 use Rattle.lattice.specs.Class.{classAt}
-use Rattle.lattice.specs.Position.{capacity}
+use Rattle.lattice.specs.Position.{capacity, dataIn}
+use Rattle.lattice.proofs.CapacityGiven.{capacity-accepted}
 use Rattle.lattice.proofs.Figure.{figure-given}
 use Rattle.codec.specs.Payload.{payloadBytes}
 use Rattle.codec.specs.Plan.{planCapacity, planBytes, planCells}
+use Rattle.codec.specs.Working.{HoldsSizes}
 
 -- a shape that is refused settles the number, and one that is accepted leaves it to the later tests
 refused : (a b : Bool) (later k : ℕ) → unless a 1 (unless b 2 0) ≡ k → (k ≡ 0 → ⊥) → unless a 1 (unless b 2 later) ≡ k
@@ -67,3 +70,9 @@ module _ (s : Shape) where
   pub cells-accepted : Accepted s → planCells s ≡ cellsOf s
   unfolding planCells
   cells-accepted a = figure-given (numberOf s) (cellsOf s) a
+
+  -- and so are those that the sizes of the classes give
+  pub bytes-in : (sizes : List ℕ) (k : ℕ) → Accepted s → HoldsSizes (classAt s) sizes (cellsOf s)
+      → k ≡ dataIn sizes → k / 8 ≡ payloadBytes (classAt s) (cellsOf s)
+  unfolding payloadBytes
+  bytes-in sizes k e p q = ap (λ (n : ℕ). n / 8) (q ∙ capacity-accepted s sizes e (p .at))

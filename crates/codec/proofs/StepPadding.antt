@@ -1,18 +1,18 @@
 -- The test of the padding cells after correction, cell by cell.
 use Prim.Native.Nat.{ℕ, _-_, _*_, _/_, _<_, _≤_}
 use mathlib.Core.Bool.{Bool, true, false, not, _&&_, _||_, true≢false, false≢true}
+use mathlib.Core.List.{List}
 use mathlib.Core.Path.{_≡_, refl, ap, _∙_}
 use lib.Dec.{eqb, leb}
 use borrow.Author.Tests.{le-leb, lt-leb}
 use Rattle.lattice.specs.declared.shape.Shape.{Shape}
-use Rattle.lattice.specs.Refusal.{figure}
-use Rattle.lattice.specs.Shape.{Accepted, numberOf, cellsOf}
+use Rattle.lattice.specs.Shape.{Accepted, cellsOf}
 use Rattle.lattice.specs.Class.{classAt}
-use Rattle.lattice.specs.Position.{holdsData, capacity}
+use Rattle.lattice.specs.Position.{holdsData, dataIn}
 use Rattle.codec.specs.Field.{Field}
 use Rattle.codec.specs.Payload.{payloadBytes, padding, isPadding, paddingOk}
-use Rattle.codec.specs.Working.{rankAt, rightAt}
-use Rattle.codec.proofs.StepNumber.{bytes-given, bytes-accepted}
+use Rattle.codec.specs.Working.{HoldsSizes, rankAt, rightAt}
+use Rattle.codec.proofs.StepNumber.{bytes-in}
 use Rattle.codec.proofs.StepTest.{Passed, passed-all, failed-at}
 
 -- a cell that is no padding passes, and a padding cell passes by its value
@@ -48,10 +48,10 @@ unfoldable pub right : Shape → Field → ℕ → Bool
 right s f i =
     not (isPadding (classAt s) (cellsOf s) i) || eqb (f i) (padding (rankAt s i - 8 * payloadBytes (classAt s) (cellsOf s)))
 
--- the bits of the payload, as the shape gives them
-pub bits-given : (s : Shape) (k : ℕ) → Accepted s → k ≡ figure (numberOf s) (capacity (classAt s) (cellsOf s))
-    → 8 * (k / 8) ≡ 8 * payloadBytes (classAt s) (cellsOf s)
-bits-given s k a e = ap (λ (n : ℕ). 8 * n) (bytes-given s k e ∙ bytes-accepted s a)
+-- the bits of the payload, from the sizes of the classes
+pub bits-in : (s : Shape) (sizes : List ℕ) (k : ℕ) → Accepted s → HoldsSizes (classAt s) sizes (cellsOf s)
+    → k ≡ dataIn sizes → 8 * (k / 8) ≡ 8 * payloadBytes (classAt s) (cellsOf s)
+bits-in s sizes k e p q = ap (λ (n : ℕ). 8 * n) (bytes-in s sizes k e p q)
 
 pub right-is : (s : Shape) (f : Field) (i r bits v : ℕ) (d b : Bool) → d ≡ holdsData (classAt s) (cellsOf s) i → r ≡ rankAt s i
     → bits ≡ 8 * payloadBytes (classAt s) (cellsOf s) → v ≡ f i

@@ -17,6 +17,7 @@ use crate::walk::padding_value;
 use crate::walk::place_of;
 use crate::walk::take_in;
 use lattice::capacity::class_sizes;
+use lattice::capacity::data_in;
 use lattice::shape::Shape;
 
 // Is every cell 0 or 1?
@@ -93,7 +94,7 @@ fn padding_ok(
     ensures { λ r. ⌜ r ≡ paddingOk (classAt shape) (cellsOf shape) (correctedField shape (now (field .entry))) ⌝ }
 {
     let settings = shape.settings();
-    let bits = 8 * (shape.capacity() / 8);
+    let bits = 8 * (data_in(sizes) / 8);
     let mut counts = [0u32; Shape::MAX_CLASSES];
     let mut rank = 0;
     let mut i = 0;

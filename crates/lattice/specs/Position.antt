@@ -1,7 +1,10 @@
 -- Positions in a class, check cells and the capacity, for any placement of cells in classes: `cls i` is the class of cell i.
 use Prim.Native.Nat.{ℕ, zero, suc, _+_, _^_}
 use mathlib.Core.Bool.{Bool, true, false, cond, not, _&&_, _||_}
+use mathlib.Core.List.{List}
 use lib.Dec.{eqb}
+use lib.ListN.{getD}
+use Rattle.lattice.specs.Shape.{maxClasses}
 
 -- how many of the numbers below n pass the test
 abbrev pub count : (ℕ → Bool) → ℕ → ℕ
@@ -54,3 +57,7 @@ holdsData cls n i = not (isCheck (size cls (cls i) n) (position cls i))
 -- the capacity: the number of cells that hold no check
 unfoldable pub capacity : (ℕ → ℕ) → ℕ → ℕ
 capacity cls n = count (holdsData cls n) n
+
+-- the number of cells that hold no check, where the list holds the size of each class
+unfoldable pub dataIn : List ℕ → ℕ
+dataIn sizes = sumBelow (λ a. dataCells (getD sizes a 0)) maxClasses

@@ -5,7 +5,7 @@ ghost use lib.ListN.{length, getD};
 ghost use Rattle.lattice.specs.Refusal.{figure};
 ghost use Rattle.lattice.specs.Shape.{maxClasses, numberOf, cellsOf};
 ghost use Rattle.lattice.specs.Class.{classAt};
-ghost use Rattle.lattice.specs.Position.{size, checks, dataCells, capacity};
+ghost use Rattle.lattice.specs.Position.{size, checks, dataCells, capacity, dataIn};
 use crate::class::class_at;
 use crate::shape::Shape;
 
@@ -58,6 +58,19 @@ pub fn class_sizes(shape: Shape, sizes: &mut [u32; Shape::MAX_CLASSES])
     }
 }
 
+// The number of cells that hold no check, where `sizes` holds the size of each class.
+pub fn data_in(sizes: &[u32; Shape::MAX_CLASSES]) -> usize
+    ensures { λ r. ⌜ r ≡ dataIn (now (sizes .entry)) ⌝ }
+{
+    let mut sum: usize = 0;
+    let mut a = 0;
+    while a < Shape::MAX_CLASSES {
+        sum += data_cells(sizes[a]) as usize;
+        a += 1;
+    }
+    sum
+}
+
 impl Shape {
     // The number of cells that hold no check; 0 for a shape that the constructor refuses.
     pub fn capacity(self) -> usize
@@ -65,13 +78,6 @@ impl Shape {
     {
         let mut sizes = [0u32; Shape::MAX_CLASSES];
         class_sizes(self, &mut sizes);
-        let classes = self.classes();
-        let mut sum: usize = 0;
-        let mut a = 0;
-        while a < classes {
-            sum += data_cells(sizes[a]) as usize;
-            a += 1;
-        }
-        sum
+        data_in(&sizes)
     }
 }

@@ -12,7 +12,7 @@ use Rattle.codec.specs.Decode.{correctedField}
 use Rattle.codec.specs.Working.{HoldsSizes, rankAt}
 use Rattle.codec.proofs.StepData.{data-is, rank-none, rank-more, rank-limit}
 use Rattle.codec.proofs.StepCorrected.{mended-is}
-use Rattle.codec.proofs.StepPadding.{right, right-is, bits-given, padding-passes, padding-fails}
+use Rattle.codec.proofs.StepPadding.{right, right-is, bits-in, padding-passes, padding-fails}
 use Rattle.codec.proofs.StepPlace.{cell-below, cell-limit, counts-none, zeros}
 use Rattle.codec.proofs.StepTest.{Passed, passed-none, passed-more}
 use Rattle.codec.proofs.examine.padding_ok.Statement.{statement}
@@ -43,7 +43,13 @@ tested c =
     _ _ _ _ _ _ _ _
     (held (c .before .before .before))
     (c .before .before .before .before .before .before .before .loop .inv .2)
-    (bits-given _ _ (c .before .before .before .before .before .before .before .before .before .before .before .pre .0 .accepted) (c .before .before .before .before .before .before .before .before .capacity .ensures))
+    (bits-in
+    _
+    (c .before .before .before .before .before .before .before .before .before .before .before .args .sizes .now)
+    _
+    (c .before .before .before .before .before .before .before .before .before .before .before .pre .0 .accepted)
+    (c .before .before .before .before .before .before .before .before .before .before .before .pre .1 .sized)
+    (c .before .before .before .before .before .before .before .before .data-in .ensures))
     (mended-is
     _
     (c .before .before .before .before .before .before .before .before .before .before .before .args .field .now)
@@ -58,8 +64,8 @@ tested c =
 settings-requires : tie.Need-settings-requires Inv-loop μ-loop
 settings-requires c κs = tt
 
-capacity-requires : tie.Need-capacity-requires Inv-loop μ-loop
-capacity-requires c κs = tt
+data-in-requires : tie.Need-data-in-requires Inv-loop μ-loop
+data-in-requires c κs = tt
 
 mul-bits : tie.Need-mul-bits Inv-loop μ-loop
 mul-bits c = omega arith
@@ -131,7 +137,7 @@ padding-ok-spec =
     Inv-loop
     μ-loop
     settings-requires
-    capacity-requires
+    data-in-requires
     mul-bits
     loop-holds
     cast-place-of

@@ -1,0 +1,77 @@
+-- `data_in` meets its contract. The loop's invariant: the sum is that of the data cells of the classes before a.
+use Prim.Native.Nat.{_*_, _≤_, _-_, zero-le}
+use mathlib.Core.Path.{_≡_, refl, ap, _∙_}
+use native.Mathlib.Omega.{arith}
+use lib.ListN.{getD}
+use Rattle.lattice.specs.Position.{sumBelow, dataCells, dataIn}
+use Rattle.lattice.specs.Shape.{maxClasses}
+use Rattle.lattice.proofs.Counting.{sum-more}
+use Rattle.lattice.proofs.capacity.data_in.Statement.{statement}
+use Rattle.lattice.proofs.capacity.data_in.Tie as tie
+
+abbrev Inv-loop : tie.InvT-loop
+Inv-loop sizes sum₀ a₀ sum a =
+    (a ≤ maxClasses) × (sum ≤ 4294967295 * a) × (sum ≡ sumBelow (λ b. dataCells (getD sizes b 0)) a)
+
+abbrev μ-loop : tie.MeasureT-loop
+μ-loop sizes sum₀ a₀ sum a = maxClasses - a
+
+loop-holds : tie.Need-loop-holds Inv-loop μ-loop
+loop-holds c = (zero-le, zero-le, refl)
+
+mul-data-cells : tie.Need-mul-data-cells Inv-loop μ-loop
+mul-data-cells c = omega arith
+
+element-copy-out-data-cells : tie.Need-element-copy-out-data-cells Inv-loop μ-loop
+element-copy-out-data-cells c = omega arith
+
+data-cells-requires : tie.Need-data-cells-requires Inv-loop μ-loop
+data-cells-requires c κs = tt
+
+cast-sum : tie.Need-cast-sum Inv-loop μ-loop
+cast-sum c = omega arith
+
+add-sum : tie.Need-add-sum Inv-loop μ-loop
+add-sum c = omega arith
+
+add-a : tie.Need-add-a Inv-loop μ-loop
+add-a c = omega arith
+
+loop-less : tie.Need-loop-less Inv-loop μ-loop
+loop-less c = omega arith
+
+loop-again : tie.Need-loop-again Inv-loop μ-loop
+loop-again c = (
+  omega arith,
+  omega arith,
+  sum-more
+      (λ b. dataCells (getD (c .before .before .before .before .args .sizes .now) b 0))
+      (c .before .before .before .loop .a)
+      (c .before .before .before .loop .sum)
+      (c .data-cells .result)
+      (c .before .before .before .loop .inv .2)
+      (c .data-cells .ensures),
+)
+
+returns : tie.Need-returns Inv-loop μ-loop
+unfolding dataIn
+returns c =
+    let a : c .before .loop .a ≡ maxClasses = omega arith in
+    c .before .loop .inv .2 ∙ ap (sumBelow (λ b. dataCells (getD (c .before .before .args .sizes .now) b 0))) a
+
+pub data-in-spec : {M : Type 1} → statement M
+data-in-spec =
+    tie.close
+    (tie.spec
+    Inv-loop
+    μ-loop
+    loop-holds
+    mul-data-cells
+    element-copy-out-data-cells
+    data-cells-requires
+    cast-sum
+    add-sum
+    add-a
+    loop-less
+    loop-again
+    returns)
