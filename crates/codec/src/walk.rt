@@ -115,12 +115,11 @@ fn flip(value: u8) -> u8
     if value == 0 { 1 } else { 0 }
 }
 
-// The syndrome of a class.
-fn syndrome_of(syndromes: &[u32; Shape::MAX_CLASSES], class: usize) -> u32
-    requires { ⌜ class < maxClasses ⌝ }
+// The syndrome of a class; 0 for a class that the array has no entry for.
+fn syndrome_of(syndromes: &[u32], class: usize) -> u32
     ensures { λ r. ⌜ r ≡ getD (now (syndromes .entry)) class 0 ⌝ }
 {
-    if class < Shape::MAX_CLASSES {
+    if class < syndromes.len() {
         syndromes[class]
     } else {
         0
@@ -129,7 +128,6 @@ fn syndrome_of(syndromes: &[u32; Shape::MAX_CLASSES], class: usize) -> u32
 
 // The value of the cell at a place after correction: turned over where the syndrome of its class is its position.
 pub(crate) fn corrected_value(syndromes: &[u32; Shape::MAX_CLASSES], place: Place, value: u8) -> u8
-    requires { ⌜ place .class < maxClasses ⌝ }
     ensures { λ r. ⌜ r ≡ cond (eqb (getD (now (syndromes .entry)) (place .class) 0) (place .position)) (flip value) value ⌝ }
 {
     if syndrome_of(syndromes, place.class) == place.position {

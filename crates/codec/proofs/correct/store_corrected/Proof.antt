@@ -46,7 +46,7 @@ slice-read-before : tie.Need-slice-read-before Inv-loop μ-loop
 slice-read-before c = omega arith
 
 corrected-value-requires : tie.Need-corrected-value-requires Inv-loop μ-loop
-corrected-value-requires c κs = c .before .place-of .ensures .below
+corrected-value-requires c κs = tt
 
 slice-write-field : tie.Need-slice-write-field Inv-loop μ-loop
 slice-write-field c = omega arith

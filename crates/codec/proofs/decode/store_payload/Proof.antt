@@ -84,7 +84,7 @@ shared-slice-read-before : tie.Need-shared-slice-read-before Inv-loop μ-loop
 shared-slice-read-before c = omega arith
 
 corrected-value-requires : tie.Need-corrected-value-requires Inv-loop μ-loop
-corrected-value-requires c κs = c .before .before .place-of .ensures .below
+corrected-value-requires c κs = tt
 
 store-bit-requires : tie.Need-store-bit-requires Inv-loop μ-loop
 store-bit-requires c κs = tt

@@ -92,7 +92,7 @@ shared-slice-read-corrected-value : tie.Need-shared-slice-read-corrected-value I
 shared-slice-read-corrected-value c = omega arith
 
 corrected-value-requires : tie.Need-corrected-value-requires Inv-loop μ-loop
-corrected-value-requires c κs = c .before .before .place-of .ensures .below
+corrected-value-requires c κs = tt
 
 is-right-requires : tie.Need-is-right-requires Inv-loop μ-loop
 is-right-requires c κs = tt

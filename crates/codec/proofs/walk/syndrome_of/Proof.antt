@@ -1,4 +1,6 @@
--- `syndrome_of` meets its contract: a class at or above the number of classes is not asked for.
+-- `syndrome_of` meets its contract: past the end of the array stands 0.
+use mathlib.Core.Path.{sym}
+use lib.ListN.{List·getD-eq-default}
 use borrow.Author.Needs.{needs}
 use Rattle.codec.proofs.walk.syndrome_of.Statement.{statement}
 use Rattle.codec.proofs.walk.syndrome_of.Tie as tie
@@ -6,14 +8,14 @@ use Rattle.codec.proofs.walk.syndrome_of.Tie as tie
 mul-result : tie.Need-mul-result
 mul-result c = search needs
 
-element-copy-out-result : tie.Need-element-copy-out-result
-element-copy-out-result c = search needs
+shared-slice-read-result : tie.Need-shared-slice-read-result
+shared-slice-read-result c = search needs
 
 returns : tie.Need-returns
 returns c = search needs
 
 returns-2 : tie.Need-returns-2
-returns-2 c = search needs
+returns-2 c = sym (List·getD-eq-default (c .before .args .syndromes .now) 0 (c .if1 .left))
 
 pub syndrome-of-spec : {M : Type 1} → statement M
-syndrome-of-spec = tie.close (tie.spec mul-result element-copy-out-result returns returns-2)
+syndrome-of-spec = tie.close (tie.spec mul-result shared-slice-read-result returns returns-2)
