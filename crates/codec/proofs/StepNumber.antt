@@ -53,11 +53,15 @@ unless-passed ok k later e = rw e
 pub unless-failed : (ok : Bool) (k later : ℕ) → ok ≡ false → unless ok k later ≡ k
 unless-failed ok k later e = rw e
 
--- the lengths that the shape's methods give are the plan's
+-- the lengths that the sizes of the classes and the shape give are the plan's
 module _ (s : Shape) where
-  pub bytes-given : (k : ℕ) → k ≡ figure (numberOf s) (capacity (classAt s) (cellsOf s)) → k / 8 ≡ planBytes s
+  pub bytes-given : (sizes : List ℕ) (k : ℕ) → Accepted s → HoldsSizes (classAt s) sizes (cellsOf s) → k ≡ dataIn sizes
+      → k / 8 ≡ planBytes s
   unfolding planBytes planCapacity
-  bytes-given k e = ap (λ (n : ℕ). n / 8) e
+  bytes-given sizes k a p e =
+      ap
+      (λ (n : ℕ). n / 8)
+      (e ∙ capacity-accepted s sizes a (p .at) ∙ sym (figure-given (numberOf s) (capacity (classAt s) (cellsOf s)) a))
 
   pub cells-given : (n : ℕ) → n ≡ figure (numberOf s) (cellsOf s) → n ≡ planCells s
   unfolding planCells
@@ -70,9 +74,3 @@ module _ (s : Shape) where
   pub cells-accepted : Accepted s → planCells s ≡ cellsOf s
   unfolding planCells
   cells-accepted a = figure-given (numberOf s) (cellsOf s) a
-
-  -- and so are those that the sizes of the classes give
-  pub bytes-in : (sizes : List ℕ) (k : ℕ) → Accepted s → HoldsSizes (classAt s) sizes (cellsOf s)
-      → k ≡ dataIn sizes → k / 8 ≡ payloadBytes (classAt s) (cellsOf s)
-  unfolding payloadBytes
-  bytes-in sizes k e p q = ap (λ (n : ℕ). n / 8) (q ∙ capacity-accepted s sizes e (p .at))

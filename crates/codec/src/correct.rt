@@ -10,6 +10,7 @@ use crate::examine::examine;
 use crate::walk::corrected_value;
 use crate::walk::count_if;
 use crate::walk::place_of;
+use lattice::capacity::class_sizes;
 use lattice::shape::Shape;
 
 // The number of cells turned over, or the refusal 1, 2, 4, 5, 6 or 7.
@@ -60,8 +61,9 @@ pub fn correct(shape: Shape, field: &mut [u8]) -> CorrectAnswer
         return CorrectAnswer::FieldLength;
     }
     let mut sizes = [0u32; Shape::MAX_CLASSES];
+    class_sizes(shape, &mut sizes);
     let mut syndromes = [0u32; Shape::MAX_CLASSES];
-    let tested = examine(shape, field, &mut sizes, &mut syndromes);
+    let tested = examine(shape, field, &sizes, &mut syndromes);
     if tested == 5 {
         return CorrectAnswer::BadCell;
     }

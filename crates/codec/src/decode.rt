@@ -14,6 +14,8 @@ use crate::walk::corrected_value;
 use crate::walk::count_if;
 use crate::walk::holds_data;
 use crate::walk::place_of;
+use lattice::capacity::class_sizes;
+use lattice::capacity::data_in;
 use lattice::shape::Shape;
 
 // The number of cells turned over, or the refusal 1, 2, 3, 4, 5, 6 or 7.
@@ -96,15 +98,16 @@ pub fn decode(shape: Shape, payload: &mut [u8], field: &[u8]) -> DecodeAnswer
     if number == 2 {
         return DecodeAnswer::BadStrength;
     }
-    if payload.len() != shape.capacity() / 8 {
+    let mut sizes = [0u32; Shape::MAX_CLASSES];
+    class_sizes(shape, &mut sizes);
+    if payload.len() != data_in(&sizes) / 8 {
         return DecodeAnswer::PayloadLength;
     }
     if field.len() != shape.cells() {
         return DecodeAnswer::FieldLength;
     }
-    let mut sizes = [0u32; Shape::MAX_CLASSES];
     let mut syndromes = [0u32; Shape::MAX_CLASSES];
-    let tested = examine(shape, field, &mut sizes, &mut syndromes);
+    let tested = examine(shape, field, &sizes, &mut syndromes);
     if tested == 5 {
         return DecodeAnswer::BadCell;
     }

@@ -3,9 +3,7 @@ ghost use mathlib.Core.Path.{_≡_};
 ghost use mathlib.Core.Bool.{cond};
 ghost use Prim.Native.Nat.{_/_, _%_, _<_};
 ghost use lib.ListN.{getD, length};
-ghost use Rattle.lattice.specs.Shape.{maxClasses, Accepted, cellsOf};
-ghost use Rattle.lattice.specs.Class.{classAt};
-ghost use Rattle.codec.specs.Payload.{payloadBytes};
+ghost use Rattle.lattice.specs.Shape.{maxClasses, cellsOf};
 ghost use Rattle.codec.specs.Encode.{encodedField};
 ghost use Rattle.codec.specs.Answer.{IsEncoded};
 ghost use Rattle.codec.specs.Working.{HoldsZeros, HoldsData, PayloadFits, AtPlane, Filled, planeCells, valueAt};
@@ -17,6 +15,7 @@ use crate::walk::payload_bit;
 use crate::walk::place_of;
 use crate::walk::take_in;
 use lattice::capacity::class_sizes;
+use lattice::capacity::data_in;
 use lattice::shape::Shape;
 
 // Done, or the refusal 1, 2, 3 or 4.
@@ -155,18 +154,15 @@ fn fill_planes(
     }
 }
 
-// Writes the field of a payload.
-fn write_field(shape: Shape, payload: &[u8], field: &mut [u8])
-    requires { ⌜ Accepted shape ⌝ }
-    requires { ⌜ length (now payload) ≡ payloadBytes (classAt shape) (cellsOf shape) ⌝ }
+// Writes the field of a payload, where `sizes` holds the size of each class.
+fn write_field(shape: Shape, payload: &[u8], sizes: &[u32; Shape::MAX_CLASSES], field: &mut [u8])
+    requires { ⌜ PayloadFits shape (now payload) (now sizes) ⌝ }
     requires { ⌜ length (now field) ≡ cellsOf shape ⌝ }
     ensures { λ _. ⌜ now (field .exit) ≡ encodedField shape (now (payload .entry)) ⌝ }
 {
-    let mut sizes = [0u32; Shape::MAX_CLASSES];
-    class_sizes(shape, &mut sizes);
     let mut syndromes = [0u32; Shape::MAX_CLASSES];
-    data_syndromes(shape, payload, &sizes, &mut syndromes);
-    fill_planes(shape, payload, &sizes, &syndromes, field);
+    data_syndromes(shape, payload, sizes, &mut syndromes);
+    fill_planes(shape, payload, sizes, &syndromes, field);
 }
 
 // Writes the field of a payload, or gives the refusal 1, 2, 3 or 4.
@@ -180,12 +176,14 @@ pub fn encode(shape: Shape, payload: &[u8], field: &mut [u8]) -> EncodeAnswer
     if number == 2 {
         return EncodeAnswer::BadStrength;
     }
-    if payload.len() != shape.capacity() / 8 {
+    let mut sizes = [0u32; Shape::MAX_CLASSES];
+    class_sizes(shape, &mut sizes);
+    if payload.len() != data_in(&sizes) / 8 {
         return EncodeAnswer::PayloadLength;
     }
     if field.len() != shape.cells() {
         return EncodeAnswer::FieldLength;
     }
-    write_field(shape, payload, field);
+    write_field(shape, payload, &sizes, field);
     EncodeAnswer::Encoded
 }

@@ -9,14 +9,13 @@ ghost use Rattle.lattice.specs.Position.{allBelow};
 ghost use Rattle.codec.specs.Field.{fieldOf, cellsOk};
 ghost use Rattle.codec.specs.Payload.{paddingOk};
 ghost use Rattle.codec.specs.Decode.{correctedField, fieldNumber};
-ghost use Rattle.codec.specs.Working.{HoldsZeros, HoldsSyndromes, FieldFits, Examined, rightAt};
+ghost use Rattle.codec.specs.Working.{HoldsZeros, HoldsSizes, HoldsSyndromes, FieldFits, Examined, rightAt};
 use crate::walk::corrected_value;
 use crate::walk::count_if;
 use crate::walk::holds_data;
 use crate::walk::padding_value;
 use crate::walk::place_of;
 use crate::walk::take_in;
-use lattice::capacity::class_sizes;
 use lattice::capacity::data_in;
 use lattice::shape::Shape;
 
@@ -115,19 +114,19 @@ fn padding_ok(
     true
 }
 
-// The number that the field's own tests give, 0, 5, 6 or 7; the sizes and the syndromes of the classes are stored.
+// The number that the field's own tests give, 0, 5, 6 or 7, where `sizes` holds the size of each class; the syndromes of the classes are stored.
 pub(crate) fn examine(
     shape: Shape,
     field: &[u8],
-    sizes: &mut [u32; Shape::MAX_CLASSES],
+    sizes: &[u32; Shape::MAX_CLASSES],
     syndromes: &mut [u32; Shape::MAX_CLASSES],
 ) -> u8
     requires { ⌜ FieldFits shape (now field) ⌝ }
+    requires { ⌜ HoldsSizes (classAt shape) (now sizes) (cellsOf shape) ⌝ }
     requires { ⌜ HoldsZeros (now syndromes) ⌝ }
     ensures { λ r. ⌜ r ≡ fieldNumber shape (now (field .entry)) ⌝ }
-    ensures { λ r. ⌜ Examined shape (now (field .entry)) (now (sizes .exit)) (now (syndromes .exit)) ⌝ }
+    ensures { λ r. ⌜ Examined shape (now (field .entry)) (now (sizes .entry)) (now (syndromes .exit)) ⌝ }
 {
-    class_sizes(shape, sizes);
     field_syndromes(shape, field, syndromes);
     if !cells_ok(field) {
         return 5;

@@ -2,13 +2,14 @@
 use mathlib.Core.Path.{_≡_, sym, _∙_}
 use lib.ListN.{length}
 use borrow.Author.Needs.{needs}
-use Rattle.lattice.specs.Shape.{Accepted}
+use Rattle.lattice.specs.Shape.{Accepted, cellsOf}
+use Rattle.lattice.specs.Class.{classAt}
 use Rattle.lattice.proofs.Limits.{neither}
 use Rattle.codec.specs.Plan.{planCells}
-use Rattle.codec.specs.Working.{FieldFits}
+use Rattle.codec.specs.Working.{HoldsSizes, FieldFits}
 use Rattle.codec.proofs.OnCorrect.{bad-size, bad-strength, field-length, bad-cell, out-of-reach, bad-padding, given}
 use Rattle.codec.proofs.StepNumber.{cells-given, cells-accepted}
-use Rattle.codec.proofs.StepPlace.{zeros}
+use Rattle.codec.proofs.StepPlace.{zeros, sizes-given}
 use Rattle.codec.proofs.correct.correct.Statement.{statement}
 use Rattle.codec.proofs.correct.correct.Tie as tie
 
@@ -24,6 +25,10 @@ cells c = c .if3 .left ∙ cells-given _ _ (c .before .cells .ensures)
 
 fits : (c : tie.Else3) → FieldFits (c .before .before .before .before .before .before .args .shape) (c .before .before .before .before .before .before .args .field .now)
 fits c = record { accepted = accepted (c .before .before); long = cells c ∙ cells-accepted _ (accepted (c .before .before)) }
+
+sized : (c : tie.After-class-sizes)
+    → HoldsSizes (classAt (c .before .before .before .before .before .before .before .before .args .shape)) (c .class-sizes .last .1 .0) (cellsOf (c .before .before .before .before .before .before .before .before .args .shape))
+sized c = sizes-given _ _ (accepted (c .before .before .before .before)) (c .class-sizes .ensures)
 
 refusal-requires : tie.Need-refusal-requires
 refusal-requires c κs = search needs
@@ -44,8 +49,11 @@ returns-3 c =
     (accepted (c .before .before))
     (λ e. c .if3 .taken (e ∙ sym (cells-given _ _ (c .before .cells .ensures))))
 
+class-sizes-requires : tie.Need-class-sizes-requires
+class-sizes-requires c κs = search needs
+
 examine-requires : tie.Need-examine-requires
-examine-requires c κs = (fits (c .before .before .before), zeros)
+examine-requires c κs = (fits (c .before .before .before .before .before), (sized (c .before .before .before), zeros))
 
 same-length : tie.Need-same-length
 same-length c = search needs
@@ -54,8 +62,8 @@ returns-4 : tie.Need-returns-4
 returns-4 c =
     bad-cell
     _ _
-    (accepted (c .before .before .before .before .before .before .before))
-    (cells (c .before .before .before .before .before))
+    (accepted (c .before .before .before .before .before .before .before .before .before))
+    (cells (c .before .before .before .before .before .before .before))
     _
     (c .before .examine .ensures .0)
     (c .if4 .taken)
@@ -67,8 +75,8 @@ returns-5 : tie.Need-returns-5
 returns-5 c =
     out-of-reach
     _ _
-    (accepted (c .before .before .before .before .before .before .before .before))
-    (cells (c .before .before .before .before .before .before))
+    (accepted (c .before .before .before .before .before .before .before .before .before .before))
+    (cells (c .before .before .before .before .before .before .before .before))
     _
     (c .before .before .examine .ensures .0)
     (c .if5 .taken)
@@ -80,14 +88,14 @@ returns-6 : tie.Need-returns-6
 returns-6 c =
     bad-padding
     _ _
-    (accepted (c .before .before .before .before .before .before .before .before .before))
-    (cells (c .before .before .before .before .before .before .before))
+    (accepted (c .before .before .before .before .before .before .before .before .before .before .before))
+    (cells (c .before .before .before .before .before .before .before .before .before))
     _
     (c .before .before .before .examine .ensures .0)
     (c .if6 .taken)
 
 store-corrected-requires : tie.Need-store-corrected-requires
-store-corrected-requires c κs = (fits (c .before .before .before .before .before .before .before .before .before), c .before .before .before .before .before .examine .ensures .1 .held)
+store-corrected-requires c κs = (fits (c .before .before .before .before .before .before .before .before .before .before .before), c .before .before .before .before .before .examine .ensures .1 .held)
 
 same-length-4 : tie.Need-same-length-4
 same-length-4 c = search needs
@@ -96,8 +104,8 @@ returns-7 : tie.Need-returns-7
 returns-7 c =
     given
     _ _
-    (accepted (c .before .before .before .before .before .before .before .before .before .before .before .before .before .before))
-    (cells (c .before .before .before .before .before .before .before .before .before .before .before .before))
+    (accepted (c .before .before .before .before .before .before .before .before .before .before .before .before .before .before .before .before))
+    (cells (c .before .before .before .before .before .before .before .before .before .before .before .before .before .before))
     _
     (c .before .before .before .before .before .before .before .before .examine .ensures .0)
     (c .before .before .before .before .before .before .before .if4 .left)
@@ -117,6 +125,7 @@ correct-spec =
     returns-2
     cells-requires
     returns-3
+    class-sizes-requires
     examine-requires
     same-length
     returns-4

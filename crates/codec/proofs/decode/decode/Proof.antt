@@ -1,16 +1,18 @@
 -- `decode` meets its contract.
+use Prim.Native.Nat.{_/_}
 use mathlib.Core.Path.{_≡_, sym, _∙_}
 use lib.ListN.{length}
 use borrow.Author.Needs.{needs}
-use Rattle.lattice.specs.Shape.{Accepted}
+use Rattle.lattice.specs.Shape.{Accepted, cellsOf}
+use Rattle.lattice.specs.Class.{classAt}
 use Rattle.lattice.proofs.Limits.{neither}
 use Rattle.codec.specs.Plan.{planBytes, planCells}
 use Rattle.codec.specs.Decode.{fieldNumber}
-use Rattle.codec.specs.Working.{FieldFits}
+use Rattle.codec.specs.Working.{HoldsSizes, FieldFits}
 use Rattle.codec.proofs.OnDecode.{bad-size, bad-strength, payload-length, field-length, bad-cell, out-of-reach, bad-padding, given}
 use Rattle.codec.proofs.StepExamine.{number-zero, zero-cells}
 use Rattle.codec.proofs.StepNumber.{bytes-given, cells-given, bytes-accepted, cells-accepted}
-use Rattle.codec.proofs.StepPlace.{zeros}
+use Rattle.codec.proofs.StepPlace.{zeros, sizes-given}
 use Rattle.codec.proofs.decode.decode.Statement.{statement}
 use Rattle.codec.proofs.decode.decode.Tie as tie
 
@@ -21,16 +23,24 @@ accepted c =
     (λ e. c .before .if1 .left (c .before .before .refusal .ensures ∙ e))
     (λ e. c .if2 .left (c .before .before .refusal .ensures ∙ e))
 
-bytes : (c : tie.Else3) → length (c .before .before .before .before .before .before .before .args .payload .now) ≡ planBytes (c .before .before .before .before .before .before .before .args .shape)
-bytes c = c .if3 .left ∙ bytes-given _ _ (c .before .capacity .ensures)
+sized : (c : tie.After-class-sizes)
+    → HoldsSizes (classAt (c .before .before .before .before .before .before .before .args .shape)) (c .class-sizes .last .1 .0) (cellsOf (c .before .before .before .before .before .before .before .args .shape))
+sized c = sizes-given _ _ (accepted (c .before .before)) (c .class-sizes .ensures)
 
-cells : (c : tie.Else4) → length (c .before .before .before .before .before .before .before .before .before .args .field .now) ≡ planCells (c .before .before .before .before .before .before .before .before .before .args .shape)
+planned : (c : tie.After-data-in) → c .data-in .result / 8 ≡ planBytes (c .before .before .before .before .before .before .before .before .before .args .shape)
+planned c =
+    bytes-given _ (c .before .before .class-sizes .last .1 .0) _ (accepted (c .before .before .before .before)) (sized (c .before .before)) (c .data-in .ensures)
+
+bytes : (c : tie.Else3) → length (c .before .before .before .before .before .before .before .before .before .before .args .payload .now) ≡ planBytes (c .before .before .before .before .before .before .before .before .before .before .args .shape)
+bytes c = c .if3 .left ∙ planned (c .before)
+
+cells : (c : tie.Else4) → length (c .before .before .before .before .before .before .before .before .before .before .before .before .args .field .now) ≡ planCells (c .before .before .before .before .before .before .before .before .before .before .before .before .args .shape)
 cells c = c .if4 .left ∙ cells-given _ _ (c .before .cells .ensures)
 
-fits : (c : tie.Else4) → FieldFits (c .before .before .before .before .before .before .before .before .before .args .shape) (c .before .before .before .before .before .before .before .before .before .args .field .now)
-fits c = record { accepted = accepted (c .before .before .before .before); long = cells c ∙ cells-accepted _ (accepted (c .before .before .before .before)) }
+fits : (c : tie.Else4) → FieldFits (c .before .before .before .before .before .before .before .before .before .before .before .before .args .shape) (c .before .before .before .before .before .before .before .before .before .before .before .before .args .field .now)
+fits c = record { accepted = accepted (c .before .before .before .before .before .before .before); long = cells c ∙ cells-accepted _ (accepted (c .before .before .before .before .before .before .before)) }
 
-none : (c : tie.Else7) → fieldNumber (c .before .before .before .before .before .before .before .before .before .before .before .before .before .before .before .args .shape) (c .before .before .before .before .before .before .before .before .before .before .before .before .before .before .before .args .field .now) ≡ 0
+none : (c : tie.Else7) → fieldNumber (c .before .before .before .before .before .before .before .before .before .before .before .before .before .before .before .before .before .before .args .shape) (c .before .before .before .before .before .before .before .before .before .before .before .before .before .before .before .before .before .before .args .field .now) ≡ 0
 none c =
     sym (c .before .before .before .examine .ensures .0)
     ∙ number-zero
@@ -49,15 +59,18 @@ returns c = bad-size _ _ _ (sym (c .before .refusal .ensures) ∙ c .if1 .taken)
 returns-2 : tie.Need-returns-2
 returns-2 c = bad-strength _ _ _ (sym (c .before .before .refusal .ensures) ∙ c .if2 .taken)
 
-capacity-requires : tie.Need-capacity-requires
-capacity-requires c κs = search needs
+class-sizes-requires : tie.Need-class-sizes-requires
+class-sizes-requires c κs = search needs
+
+data-in-requires : tie.Need-data-in-requires
+data-in-requires c κs = search needs
 
 returns-3 : tie.Need-returns-3
 returns-3 c =
     payload-length
     _ _ _
-    (accepted (c .before .before))
-    (λ e. c .if3 .taken (e ∙ sym (bytes-given _ _ (c .before .capacity .ensures))))
+    (accepted (c .before .before .before .before .before))
+    (λ e. c .if3 .taken (e ∙ sym (planned (c .before))))
 
 cells-requires : tie.Need-cells-requires
 cells-requires c κs = search needs
@@ -66,18 +79,18 @@ returns-4 : tie.Need-returns-4
 returns-4 c =
     field-length
     _ _ _
-    (accepted (c .before .before .before .before))
+    (accepted (c .before .before .before .before .before .before .before))
     (bytes (c .before .before))
     (λ e. c .if4 .taken (e ∙ sym (cells-given _ _ (c .before .cells .ensures))))
 
 examine-requires : tie.Need-examine-requires
-examine-requires c κs = (fits (c .before .before), zeros)
+examine-requires c κs = (fits (c .before .before), (sized (c .before .before .before .before .before .before .before), zeros))
 
 returns-5 : tie.Need-returns-5
 returns-5 c =
     bad-cell
     _ _ _
-    (accepted (c .before .before .before .before .before .before .before .before))
+    (accepted (c .before .before .before .before .before .before .before .before .before .before .before))
     (bytes (c .before .before .before .before .before .before))
     (cells (c .before .before .before .before))
     _
@@ -88,7 +101,7 @@ returns-6 : tie.Need-returns-6
 returns-6 c =
     out-of-reach
     _ _ _
-    (accepted (c .before .before .before .before .before .before .before .before .before))
+    (accepted (c .before .before .before .before .before .before .before .before .before .before .before .before))
     (bytes (c .before .before .before .before .before .before .before))
     (cells (c .before .before .before .before .before))
     _
@@ -99,7 +112,7 @@ returns-7 : tie.Need-returns-7
 returns-7 c =
     bad-padding
     _ _ _
-    (accepted (c .before .before .before .before .before .before .before .before .before .before))
+    (accepted (c .before .before .before .before .before .before .before .before .before .before .before .before .before))
     (bytes (c .before .before .before .before .before .before .before .before))
     (cells (c .before .before .before .before .before .before))
     _
@@ -111,7 +124,7 @@ store-payload-requires c κs = (
   fits (c .before .before .before .before .before .before .before .before .before),
   (
     c .before .before .before .before .before .before .examine .ensures .1,
-    (zero-cells _ _ (none (c .before .before .before)), bytes (c .before .before .before .before .before .before .before .before .before .before .before) ∙ bytes-accepted _ (accepted (c .before .before .before .before .before .before .before .before .before .before .before .before .before))),
+    (zero-cells _ _ (none (c .before .before .before)), bytes (c .before .before .before .before .before .before .before .before .before .before .before) ∙ bytes-accepted _ (accepted (c .before .before .before .before .before .before .before .before .before .before .before .before .before .before .before .before))),
   ),
 )
 
@@ -122,7 +135,7 @@ returns-8 : tie.Need-returns-8
 returns-8 c =
     given
     _ _ _
-    (accepted (c .before .before .before .before .before .before .before .before .before .before .before .before .before .before .before .before))
+    (accepted (c .before .before .before .before .before .before .before .before .before .before .before .before .before .before .before .before .before .before .before))
     (bytes (c .before .before .before .before .before .before .before .before .before .before .before .before .before .before))
     (cells (c .before .before .before .before .before .before .before .before .before .before .before .before))
     _
@@ -142,7 +155,8 @@ decode-spec =
     refusal-requires
     returns
     returns-2
-    capacity-requires
+    class-sizes-requires
+    data-in-requires
     returns-3
     cells-requires
     returns-4

@@ -12,7 +12,7 @@ use Rattle.codec.specs.Decode.{correctedField}
 use Rattle.codec.specs.Working.{HoldsSizes, rankAt}
 use Rattle.codec.proofs.StepData.{data-is, rank-none, rank-more, rank-limit}
 use Rattle.codec.proofs.StepCorrected.{mended-is}
-use Rattle.codec.proofs.StepPadding.{right, right-is, bits-in, padding-passes, padding-fails}
+use Rattle.codec.proofs.StepPadding.{right, right-is, bits-given, padding-passes, padding-fails}
 use Rattle.codec.proofs.StepPlace.{cell-below, cell-limit, counts-none, zeros}
 use Rattle.codec.proofs.StepTest.{Passed, passed-none, passed-more}
 use Rattle.codec.proofs.examine.padding_ok.Statement.{statement}
@@ -43,7 +43,7 @@ tested c =
     _ _ _ _ _ _ _ _
     (held (c .before .before .before))
     (c .before .before .before .before .before .before .before .loop .inv .2)
-    (bits-in
+    (bits-given
     _
     (c .before .before .before .before .before .before .before .before .before .before .before .args .sizes .now)
     _
