@@ -1,13 +1,11 @@
 -- An accepted shape: the plan's figures, and the numbers of the operations on buffers of the plan's lengths.
 use Prim.Native.Nat.{ℕ, _/_, _<_}
-use mathlib.Core.Bool.{Bool, true}
+use mathlib.Core.Bool.{true}
 use mathlib.Core.List.{List}
-use mathlib.Core.Path.{_≡_, refl, sym, _∙_, ap}
+use mathlib.Core.Path.{_≡_, sym, _∙_, ap}
 use borrow.Author.Tests.{eq-eqb}
-use lib.Dec.{eqb}
 use lib.ListN.{length}
 use Rattle.lattice.specs.declared.shape.Shape.{Shape}
-use Rattle.lattice.specs.Refusal.{unless}
 use Rattle.lattice.specs.Shape.{sizeOk, strengthOk, cellsOf}
 use Rattle.lattice.specs.Settings.{settingsOf}
 use Rattle.lattice.specs.Cell.{cellAt}

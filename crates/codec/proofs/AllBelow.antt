@@ -1,7 +1,7 @@
 -- Laws of tests that all the numbers below a bound pass.
 use Prim.Native.Nat.{ℕ, zero, suc, _+_, _-_, _<_, _≤_}
 use mathlib.Core.Bool.{Bool, true, false, _&&_, true≢false}
-use mathlib.Core.Logic.{_↔_, ⊎-elim}
+use mathlib.Core.Logic.{⊎-elim}
 use mathlib.Core.Path.{_≡_, refl, sym, ap, ap₂, _∙_}
 use native.Mathlib.Nat.{le-refl, not-suc-le-zero, eq-or-lt-of-le, le-of-suc-le-suc}
 use native.Mathlib.Numerals.{add-one}
@@ -24,9 +24,6 @@ below-all f (suc n) p i l =
     (λ (e : i ≡ n). ap f e ∙ and-left (f n) (allBelow f n) p)
     (λ (k : i < n). below-all f n (and-right (f n) (allBelow f n) p) i k)
     (eq-or-lt-of-le (le-of-suc-le-suc l))
-
-pub all-iff : (f : ℕ → Bool) (n : ℕ) → (allBelow f n ≡ true) ↔ ((i : ℕ) → i < n → f i ≡ true)
-all-iff f n = (below-all f n, all-below f n)
 
 -- where not all pass, some number fails
 pub some-fails : (f : ℕ → Bool) (n : ℕ) → allBelow f n ≡ false → (i : ℕ) × (i < n) × (f i ≡ false)

@@ -1,12 +1,11 @@
 -- Correcting a field, for any placement of n cells in classes: it gives the one lawful field that differs in at most one cell of each class.
 use Prim.Native.Nat.{ℕ, zero, suc, _<_, _≤_}
-use mathlib.Core.Bool.{true, cond}
+use mathlib.Core.Bool.{true}
 use mathlib.Core.Logic.{_≢_, _⊎_, inl, inr, ⊎-elim}
-use mathlib.Core.Path.{_≡_, refl, sym, ap, ap₂, subst, _∙_}
+use mathlib.Core.Path.{_≡_, refl, sym, ap, subst, _∙_}
 use native.Mathlib.Decide.{ℕ-discrete}
 use native.Mathlib.Nat.{le-refl, not-suc-le-zero, eq-or-lt-of-le, le-of-suc-le-suc}
 use native.Mathlib.Omega.{arith}
-use lib.Dec.{leb, eqb}
 use borrow.Author.Tests.{eq-eqb, ne-eqb, le-leb, leb-true}
 use Rattle.lattice.specs.Position.{size, position}
 use Rattle.lattice.proofs.Positions.{position-least, position-most, position-one, position-some}
@@ -179,13 +178,7 @@ near-self cls n f a i j l m c d e k = absurd (e refl)
 pub lawful-nearest : (cls : ℕ → ℕ) (n : ℕ) (f : Field) → Lawful cls n f → Nearest cls n f f
 lawful-nearest cls n f h = record { lawful = h; near = near-self cls n f }
 
-pub lawful-corrected : (cls : ℕ → ℕ) (n : ℕ) (f : Field) → Lawful cls n f → Same (corrected cls n f) f n
-lawful-corrected cls n f h = nearest-corrected cls n f (h .cells) f (lawful-nearest cls n f h)
-
-pub lawful-reach : (cls : ℕ → ℕ) (n : ℕ) (f : Field) → Lawful cls n f → (a : ℕ) → inReach cls n f a ≡ true
-lawful-reach cls n f h = nearest-reach cls n f (h .cells) f (lawful-nearest cls n f h)
-
--- fields that agree on the first n cells are corrected alike
+-- fields that agree on the first n cells are lawful alike
 module _ (cls : ℕ → ℕ) (n : ℕ) (f g : Field) (s : Same f g n) where
   pub codeword-same : (a : ℕ) → Codeword cls n f a → Codeword cls n g a
   unfolding Codeword
@@ -193,15 +186,6 @@ module _ (cls : ℕ → ℕ) (n : ℕ) (f g : Field) (s : Same f g n) where
 
   pub lawful-same : Lawful cls n f → Lawful cls n g
   lawful-same h = record { cells = cells-same f g n s (h .cells); classes = λ a. codeword-same a (h .classes a) }
-
-  pub reach-same : (a : ℕ) → inReach cls n f a ≡ inReach cls n g a
-  unfolding inReach
-  reach-same a = ap (λ (k : ℕ). leb k (size cls a n)) (syndrome-same cls f g a n (λ i l c. s i l))
-
-  pub corrected-same : Same (corrected cls n f) (corrected cls n g) n
-  unfolding corrected
-  corrected-same i l =
-      ap₂ (λ (k v : ℕ). cond (eqb k (position cls i)) (flip v) v) (syndrome-same cls f g (cls i) n (λ j m c. s j m)) (s i l)
 
 -- and have the same fields near them
 pub near-same : (cls : ℕ → ℕ) (n : ℕ) (f g h k : Field) → Same f g n → Same h k n → (a : ℕ) → Near cls n f h a → Near cls n g k a
@@ -212,7 +196,3 @@ near-same cls n f g h k s t a p i j l m c d x y =
 pub nearest-same : (cls : ℕ → ℕ) (n : ℕ) (f g h k : Field) → Same f g n → Same h k n → Nearest cls n f h → Nearest cls n g k
 nearest-same cls n f g h k s t p =
     record { lawful = lawful-same cls n h k t (p .lawful); near = λ a. near-same cls n f g h k s t a (p .near a) }
-
-pub near-comm : (cls : ℕ → ℕ) (n : ℕ) (f g : Field) (a : ℕ) → Near cls n f g a → Near cls n g f a
-unfolding Near
-near-comm cls n f g a p i j l m c d x y = p i j l m c d (λ z. x (sym z)) (λ z. y (sym z))

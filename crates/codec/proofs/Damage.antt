@@ -4,11 +4,9 @@ use mathlib.Core.Bool.{Bool, true, false}
 use mathlib.Core.Logic.{_≢_}
 use mathlib.Core.Path.{_≡_, refl, sym, _∙_}
 use native.Mathlib.Omega.{arith}
-use Rattle.codec.specs.Field.{Field, Cells, Same, flip, differences}
-use Rattle.codec.specs.Hamming.{Lawful, Near, Nearest, inReach, corrected}
+use Rattle.codec.specs.Field.{Field, Cells, flip}
+use Rattle.codec.specs.Hamming.{Lawful, Near, Nearest}
 use Rattle.codec.specs.Recovery.{damaged}
-use Rattle.codec.proofs.Correction.{nearest-corrected, nearest-reach}
-use Rattle.codec.proofs.Differences.{differences-comm, differences-nearest}
 
 module _ (f : Field) (selected : ℕ → Bool) where
   pub damaged-turned : (i : ℕ) → selected i ≡ true → damaged f selected i ≡ flip (f i)
@@ -48,19 +46,3 @@ module _ (cls : ℕ → ℕ) (n : ℕ) (f : Field) (selected : ℕ → Bool) (on
   -- a lawful field is the nearest to it after the damage
   pub damaged-nearest : Lawful cls n f → Nearest cls n (damaged f selected) f
   damaged-nearest h = record { lawful = h; near = damaged-near }
-
-  -- so correction gives it back, with a codeword in reach of each class
-  pub damaged-corrected : Lawful cls n f → Same (corrected cls n (damaged f selected)) f n
-  damaged-corrected h =
-      nearest-corrected cls n (damaged f selected) (damaged-cells f selected n (h .cells)) f (damaged-nearest h)
-
-  pub damaged-reach : Lawful cls n f → (a : ℕ) → inReach cls n (damaged f selected) a ≡ true
-  damaged-reach h =
-      nearest-reach cls n (damaged f selected) (damaged-cells f selected n (h .cells)) f (damaged-nearest h)
-
-  -- and turns over as many cells as the damage did
-  pub damaged-differences : Lawful cls n f
-      → differences (damaged f selected) (corrected cls n (damaged f selected)) n ≡ differences f (damaged f selected) n
-  damaged-differences h =
-      differences-nearest cls n (damaged f selected) (damaged-cells f selected n (h .cells)) f (damaged-nearest h)
-      ∙ differences-comm (damaged f selected) f n

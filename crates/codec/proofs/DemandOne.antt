@@ -1,5 +1,5 @@
 -- Demand 1: each operation's number is settled by its conditions in the listed order, and a refusal changes nothing.
-use Prim.Native.Nat.{ℕ, _<_, zero}
+use Prim.Native.Nat.{ℕ, _<_}
 use mathlib.Core.Bool.{Bool, true, false, cond}
 use mathlib.Core.List.{List, [], _∷_, _++_}
 use mathlib.Core.Logic.{_≢_}

@@ -1,14 +1,13 @@
 -- Demand 3: recovery from damage to one cluster of at most t cells, and the classes that every labelling needs.
 use Prim.Native.Nat.{ℕ, zero, suc, _<_, _≤_}
-use mathlib.Core.Bool.{Bool, true}
+use mathlib.Core.Bool.{true}
 use mathlib.Core.Path.{_≡_, sym, _∙_, ap}
 use native.Mathlib.Nat.{le-trans, le-refl}
 use native.Mathlib.Omega.{arith}
-use Rattle.lattice.specs.declared.shape.Shape.{Shape}
 use Rattle.lattice.specs.Refusal.{figure}
 use Rattle.lattice.specs.Shape.{cellsOf}
 use Rattle.lattice.specs.Settings.{settingsOf}
-use Rattle.lattice.specs.Cell.{Cell, cellAt, cellNumber}
+use Rattle.lattice.specs.Cell.{cellAt, cellNumber}
 use Rattle.lattice.specs.Class.{classAt}
 use Rattle.lattice.proofs.Numbering.{numbering}
 use Rattle.lattice.proofs.ClusterClasses.{clusterClasses}

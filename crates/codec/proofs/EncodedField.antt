@@ -1,5 +1,5 @@
 -- The field written from a payload is lawful, carries the payload, and is the only such field.
-use Prim.Native.Nat.{ℕ, _/_, _%_, _<_, zero-le}
+use Prim.Native.Nat.{ℕ, _/_, _%_, _<_}
 use mathlib.Core.Bool.{Bool, true, false, cond}
 use mathlib.Core.List.{List}
 use mathlib.Core.Path.{_≡_, refl, sym, ap, _∙_}
@@ -13,11 +13,7 @@ use Rattle.codec.proofs.PayloadBits.{data-value-most}
 use Rattle.codec.proofs.Syndrome.{syndrome-same}
 
 module _ (cls : ℕ → ℕ) (n : ℕ) (p : List ℕ) where
-  -- the cells of the data and of the field written are 0 or 1
-  pub data-field-cells : (m : ℕ) → Cells (dataField cls n p) m
-  unfolding dataField
-  data-field-cells m i l = cond-cell (holdsData cls n i) (data-value-most cls n p (rank cls n i)) zero-le
-
+  -- the cells of the field written are 0 or 1
   pub encoded-cells : (m : ℕ) → Cells (encoded cls n p) m
   unfolding encoded
   encoded-cells m i l = cond-cell (holdsData cls n i) (data-value-most cls n p (rank cls n i)) (omega arith)

@@ -1,22 +1,16 @@
 -- Fields and the buffers that hold them.
 use Prim.Native.Nat.{ℕ, zero, suc, _+_, _<_, _≤_}
-use mathlib.Core.Bool.{true, false, cond}
+use mathlib.Core.Bool.{true, false}
 use mathlib.Core.List.{List, [], _∷_, _++_}
-use mathlib.Core.Logic.{_↔_, _≢_, ⊎-elim}
+use mathlib.Core.Logic.{⊎-elim}
 use mathlib.Core.Path.{_≡_, refl, sym, ap, ap₂, _∙_}
-use native.Mathlib.Decide.{ℕ-discrete}
 use native.Mathlib.Nat.{le-refl, not-suc-le-zero, eq-or-lt-of-le, le-of-suc-le-suc}
-use native.Mathlib.Numerals.{add-one}
 use native.Mathlib.Omega.{arith}
-use lib.Dec.{eqb}
-use lib.ListN.{length, getD, set, length-append, length-set, List·getD-append, List·getD-eq-default}
-use lib.Seq.{getD-at, getD-set-same, getD-set-other, ext-getD}
-use borrow.Author.Tests.{eq-eqb, ne-eqb, le-leb, leb-true, leb-false}
+use lib.ListN.{length, getD, length-append, List·getD-append, List·getD-eq-default}
+use lib.Seq.{getD-at, ext-getD}
+use borrow.Author.Tests.{le-leb, leb-true, leb-false}
 use Rattle.codec.specs.Field.{Field, fieldOf, listOf, isCell, cellsOk, Cells, Same}
 use Rattle.codec.proofs.AllBelow.{all-below, below-all, some-fails}
-
-pub listOf-step : (f : Field) (n : ℕ) → listOf f (n + 1) ≡ listOf f n ++ (f n ∷ [])
-listOf-step f n = rw (add-one n)
 
 pub length-listOf : (f : Field) (n : ℕ) → length (listOf f n) ≡ n
 length-listOf f zero = refl
@@ -52,37 +46,6 @@ list-field l f n e p =
 pub listOf-fieldOf : (l : List ℕ) → listOf (fieldOf l) (length l) ≡ l
 listOf-fieldOf l = sym (list-field l (fieldOf l) (length l) refl (λ i k. refl))
 
-pub fieldOf-same : (l k : List ℕ) (n : ℕ) → length l ≡ n → length k ≡ n → Same (fieldOf l) (fieldOf k) n → l ≡ k
-fieldOf-same l k n e d p = list-field l (fieldOf k) n e p ∙ sym (list-field k (fieldOf k) n d (λ i m. refl))
-
--- a field with one cell changed
-abbrev pub put : Field → ℕ → ℕ → Field
-put f i v j = cond (eqb j i) v (f j)
-
-pub put-same : (f : Field) (i v : ℕ) → put f i v i ≡ v
-put-same f i v = rw (eq-eqb i i refl)
-
-pub put-other : (f : Field) (i v j : ℕ) → j ≢ i → put f i v j ≡ f j
-put-other f i v j d = rw (ne-eqb j i d)
-
-pub fieldOf-set : (l : List ℕ) (i v : ℕ) → i < length l → (j : ℕ) → fieldOf (set l i v) j ≡ put (fieldOf l) i v j
-fieldOf-set l i v k j = go (ℕ-discrete j i)
-  where
-    go : Dec (j ≡ i) → fieldOf (set l i v) j ≡ put (fieldOf l) i v j
-    go (yes e) = rw (e, put-same (fieldOf l) i v) (getD-set-same l i v 0 k)
-    go (no d) = getD-set-other l i j v 0 d ∙ sym (put-other (fieldOf l) i v j d)
-
-pub set-listOf : (f : Field) (n i v : ℕ) → i < n → set (listOf f n) i v ≡ listOf (put f i v) n
-set-listOf f n i v l =
-    list-field
-    (set (listOf f n) i v)
-    (put f i v)
-    n
-    (length-set (listOf f n) i v ∙ length-listOf f n)
-    (λ j k.
-    fieldOf-set (listOf f n) i v (omega (arith, length-listOf f n)) j
-    ∙ ap (λ (x : ℕ). cond (eqb j i) v x) (getD-listOf f n j k))
-
 -- the test of the cells
 pub cells-ok : (f : Field) (n : ℕ) → Cells f n → cellsOk f n ≡ true
 unfolding cellsOk
@@ -95,9 +58,6 @@ ok-cells f n p i l = leb-true (f i) 1 (below-all (λ i. isCell (f i)) n p i l)
 pub not-cells : (f : Field) (n : ℕ) → cellsOk f n ≡ false → (i : ℕ) × (i < n) × (1 < f i)
 unfolding cellsOk
 not-cells f n p = let r = some-fails (λ i. isCell (f i)) n p in (r .0, r .1, leb-false (f (r .0)) 1 (r .2))
-
-pub cells-iff : (f : Field) (n : ℕ) → (cellsOk f n ≡ true) ↔ Cells f n
-cells-iff f n = (ok-cells f n, cells-ok f n)
 
 pub cells-same : (f g : Field) (n : ℕ) → Same f g n → Cells f n → Cells g n
 cells-same f g n s p i l = omega (arith, s i l, p i l)

@@ -68,11 +68,6 @@ module _ (cls : ℕ → ℕ) (n : ℕ) where
   pub held-bytes : (f : Field) → Cells f n → Bytes (heldPayload cls n f)
   held-bytes f c = bytes f (data-cells f c)
 
-  pub held-bit : (f : Field) → Cells f n → (i k : ℕ) → i < n → holdsData cls n i ≡ true → rank cls n i ≡ k → k < 8 * payloadBytes cls n
-      → payloadBit (heldPayload cls n f) k ≡ f i
-  held-bit f c i k l h e r =
-      ap (payloadBit (heldPayload cls n f)) (sym e) ∙ bits f (data-cells f c) i l h (omega arith)
-
   -- a field with right padding carries the payload that it holds
   pub held-carries : (f : Field) → Cells f n → PaddingRight cls n f → Carries cls n f (heldPayload cls n f)
   held-carries f c p i l h = go (decLt (rank cls n i) (8 * payloadBytes cls n))

@@ -5,7 +5,7 @@ use mathlib.Core.List.{List}
 use mathlib.Core.Path.{_≡_, refl, sym, _∙_, ap, subst}
 use native.Mathlib.Omega.{arith}
 use borrow.Author.Tests.{eqb-true}
-use lib.Dec.{eqb, lit<}
+use lib.Dec.{lit<}
 use lib.ListN.{length}
 use Rattle.lattice.specs.declared.shape.Shape.{Shape}
 use Rattle.lattice.specs.Refusal.{unless}
@@ -13,7 +13,7 @@ use Rattle.lattice.specs.Shape.{cellsOf}
 use Rattle.lattice.specs.Cell.{Cell}
 use Rattle.lattice.specs.Class.{classAt}
 use Rattle.lattice.proofs.Limits.{number-accepted}
-use Rattle.codec.specs.Field.{Field, fieldOf, listOf, Same, differences}
+use Rattle.codec.specs.Field.{fieldOf, listOf, Same, differences}
 use Rattle.codec.specs.Payload.{Bytes}
 use Rattle.codec.specs.Plan.{planNumber, planBytes, planCells}
 use Rattle.codec.specs.Encode.{encodedField}

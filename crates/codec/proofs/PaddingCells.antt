@@ -2,15 +2,14 @@
 use Prim.Native.Nat.{ℕ, _-_, _*_}
 use mathlib.Core.Bool.{Bool, true, false, not, _||_, true≢false, false≢true}
 use mathlib.Core.List.{List}
-use mathlib.Core.Logic.{_↔_}
-use mathlib.Core.Path.{_≡_, refl, sym, ap, _∙_}
+use mathlib.Core.Path.{_≡_, refl, sym, _∙_}
 use lib.Dec.{eqb}
 use borrow.Author.Tests.{eq-eqb, eqb-true, le-leb, leb-true}
 use Rattle.lattice.specs.Position.{holdsData}
 use Rattle.lattice.proofs.Bools.{and-true, and-left, and-right}
 use Rattle.codec.specs.Field.{Field, Same}
 use Rattle.codec.specs.Payload.{payloadBytes, rank, padding, Carries, PaddingRight, isPadding, paddingOk}
-use Rattle.codec.proofs.AllBelow.{all-below, below-all, all-same}
+use Rattle.codec.proofs.AllBelow.{all-below, below-all}
 use Rattle.codec.proofs.PayloadBits.{value-padding}
 
 -- a test under a condition: from the condition to the test, and back
@@ -64,16 +63,9 @@ module _ (cls : ℕ → ℕ) (n : ℕ) where
       (below-all (λ i. not (isPadding cls n i) || eqb (f i) (paddingAt i)) n e i l)
       (and-true (holdsData cls n i) _ h (le-leb (8 * payloadBytes cls n) (rank cls n i) r)))
 
-  pub padding-iff : (f : Field) → (paddingOk cls n f ≡ true) ↔ PaddingRight cls n f
-  padding-iff f = (ok-padding f, padding-ok f)
-
   pub not-padding : (f : Field) → paddingOk cls n f ≡ false → ¬ PaddingRight cls n f
   not-padding f e p = true≢false (sym (padding-ok f p) ∙ e)
 
   -- only the cells of the field matter
-  pub padding-same : (f g : Field) → Same f g n → paddingOk cls n f ≡ paddingOk cls n g
-  unfolding paddingOk paddingAt
-  padding-same f g s = all-same _ _ n (λ i l. ap (λ (v : ℕ). not (isPadding cls n i) || eqb v (paddingAt i)) (s i l))
-
   pub padding-right-same : (f g : Field) → Same f g n → PaddingRight cls n f → PaddingRight cls n g
   padding-right-same f g s p i l h r = sym (s i l) ∙ p i l h r

@@ -3,14 +3,13 @@ use Prim.Native.Nat.{ℕ, zero, suc, _-_, _^_, _<_, _≤_}
 use mathlib.Core.Bool.{true, false, not}
 use mathlib.Core.Logic.{_↔_}
 use mathlib.Core.Path.{_≡_, ap, subst}
-use native.Mathlib.Decide.{decLt}
 use native.Mathlib.Omega.{arith}
 use lib.Pow.{pow-pos, pow-mono}
-use borrow.Author.Tests.{not-true, not-false}
+use borrow.Author.Tests.{not-false}
 use Rattle.lattice.specs.Position.{size, position, isPower, isCheck, checks, holdsData}
 use Rattle.lattice.proofs.Powers.{power, exponent}
 use Rattle.lattice.proofs.BitLength.{checksAreBitLength}
-use Rattle.lattice.proofs.Positions.{position-most, position-some}
+use Rattle.lattice.proofs.Positions.{position-some}
 
 -- the numbers that pass the test are 2 to the power of some k
 pub power-iff : (p : ℕ) → (isPower p ≡ true) ↔ ((k : ℕ) × (2 ^ k ≡ p))
@@ -28,13 +27,6 @@ check-fits (suc n) k l =
     let m : k ≤ checks (suc n) - 1 = omega arith in
     omega (arith, h .1, pow-mono m)
 
-pub check-below : (n k : ℕ) → 2 ^ k ≤ n → k < checks n
-check-below n k l = go (decLt k (checks n))
-  where
-    go : Dec (k < checks n) → k < checks n
-    go (yes d) = d
-    go (no d) = let m : checks n ≤ k = omega arith in absurd (omega (arith, below-checks n, pow-mono m))
-
 module _ (cls : ℕ → ℕ) (n : ℕ) where
   -- the cells that hold a check are those whose position is a power of two
   pub check-exponent : (i : ℕ) → holdsData cls n i ≡ false → (k : ℕ) × (2 ^ k ≡ position cls i)
@@ -45,14 +37,6 @@ module _ (cls : ℕ → ℕ) (n : ℕ) where
   unfolding holdsData isCheck
   check-power i k e = ap not (power-iff (position cls i) .1 (k, e))
 
-  pub data-power : (i : ℕ) → holdsData cls n i ≡ true → isPower (position cls i) ≡ false
-  unfolding holdsData isCheck
-  data-power i e = not-true (isPower (position cls i)) e
-
   -- each of the class's check positions is a cell's
   pub check-cell : (a k : ℕ) → k < checks (size cls a n) → (i : ℕ) × (i < n) × (cls i ≡ a) × (position cls i ≡ 2 ^ k)
   check-cell a k l = position-some cls a n (2 ^ k) (pow-pos k) (check-fits (size cls a n) k l)
-
-  -- and the check cells are at those positions
-  pub cell-check : (i k : ℕ) → i < n → 2 ^ k ≡ position cls i → k < checks (size cls (cls i) n)
-  cell-check i k l e = check-below (size cls (cls i) n) k (omega (arith, position-most cls i n l))

@@ -2,11 +2,10 @@
 use Prim.Native.Nat.{ℕ, suc, _+_, _*_, _<_, _≤_}
 use mathlib.Core.Bool.{true, false}
 use mathlib.Core.Path.{_≡_, refl}
-use native.Mathlib.Decide.{decLt}
 use native.Mathlib.Numerals.{add-one}
 use native.Mathlib.Omega.{arith}
 use Rattle.lattice.specs.Position.{holdsData, capacity}
-use Rattle.lattice.proofs.Counting.{count-yes, count-no, count-most, count-mono, count-more, count-reach}
+use Rattle.lattice.proofs.Counting.{count-yes, count-no, count-more, count-reach}
 use Rattle.codec.specs.Payload.{rank, payloadBytes}
 
 -- eight bits of the capacity make a byte, and fewer than eight are left
@@ -38,14 +37,6 @@ module _ (cls : ℕ → ℕ) (n : ℕ) where
   pub rank-check-suc : (i : ℕ) → holdsData cls n i ≡ false → rank cls n (suc i) ≡ rank cls n i
   rank-check-suc i e = rw (← (add-one i)) (rank-check i e)
 
-  pub rank-most : (i : ℕ) → rank cls n i ≤ i
-  unfolding rank
-  rank-most i = count-most (holdsData cls n) i
-
-  pub rank-mono : (i j : ℕ) → i ≤ j → rank cls n i ≤ rank cls n j
-  unfolding rank
-  rank-mono i j p = count-mono (holdsData cls n) i j p
-
   -- a data cell has a rank below that of every later cell
   pub rank-rises : (i j : ℕ) → i < j → holdsData cls n i ≡ true → rank cls n i < rank cls n j
   unfolding rank
@@ -55,18 +46,6 @@ module _ (cls : ℕ → ℕ) (n : ℕ) where
   pub rank-all : rank cls n n ≡ capacity cls n
   unfolding rank capacity
   rank-all = refl
-
-  pub rank-below : (i : ℕ) → i < n → holdsData cls n i ≡ true → rank cls n i < capacity cls n
-  rank-below i l e = omega (arith, rank-rises i n l e, rank-all)
-
-  -- two data cells of one rank are one cell
-  pub rank-one : (i j : ℕ) → holdsData cls n i ≡ true → holdsData cls n j ≡ true → rank cls n i ≡ rank cls n j → i ≡ j
-  rank-one i j a b e = go (decLt i j) (decLt j i)
-    where
-      go : Dec (i < j) → Dec (j < i) → i ≡ j
-      go (yes l) d = absurd (omega (arith, rank-rises i j l a))
-      go (no l) (yes r) = absurd (omega (arith, rank-rises j i r b))
-      go (no l) (no r) = omega arith
 
   -- each number below the capacity is the rank of a data cell
   pub rank-some : (k : ℕ) → k < capacity cls n → (i : ℕ) × (i < n) × (holdsData cls n i ≡ true) × (rank cls n i ≡ k)

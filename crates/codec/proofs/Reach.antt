@@ -1,14 +1,13 @@
 -- Whether a codeword is in reach of each class, for any placement of n cells in m classes.
 use Prim.Native.Nat.{ℕ, _<_}
 use mathlib.Core.Bool.{true, false, true≢false}
-use mathlib.Core.Logic.{_↔_}
 use mathlib.Core.Path.{_≡_, sym, _∙_}
 use native.Mathlib.Decide.{decLt}
 use native.Mathlib.Omega.{arith}
-use Rattle.codec.specs.Field.{Field, Cells, Same}
+use Rattle.codec.specs.Field.{Field, Cells}
 use Rattle.codec.specs.Hamming.{Codeword, Near, Nearest, inReach, allInReach, corrected}
-use Rattle.codec.proofs.AllBelow.{all-below, below-all, some-fails, all-same}
-use Rattle.codec.proofs.Correction.{size-reach, near-reach, corrected-cells, corrected-near, corrected-codeword, corrected-nearest, nearest-reach, reach-same}
+use Rattle.codec.proofs.AllBelow.{all-below, below-all, some-fails}
+use Rattle.codec.proofs.Correction.{size-reach, near-reach, corrected-cells, corrected-near, corrected-codeword, corrected-nearest, nearest-reach}
 use Rattle.codec.proofs.Syndrome.{syndrome-empty}
 
 module _ (cls : ℕ → ℕ) (n : ℕ) (f : Field) (p : Cells f n) where
@@ -34,9 +33,6 @@ module _ (cls : ℕ → ℕ) (n m : ℕ) (below : (i : ℕ) → i < n → cls i 
   unfolding allInReach
   reach-all p = all-below (inReach cls n f) m (λ a l. p a)
 
-  pub reach-iff : (allInReach cls n m f ≡ true) ↔ ((a : ℕ) → inReach cls n f a ≡ true)
-  reach-iff = (all-reach, reach-all)
-
   -- where it fails, some class fails
   pub not-all-reach : allInReach cls n m f ≡ false → (a : ℕ) × (a < m) × (inReach cls n f a ≡ false)
   unfolding allInReach
@@ -49,14 +45,7 @@ module _ (cls : ℕ → ℕ) (n m : ℕ) (below : (i : ℕ) → i < n → cls i 
   pub nearest-all : Cells f n → (g : Field) → Nearest cls n f g → allInReach cls n m f ≡ true
   nearest-all p g h = reach-all (nearest-reach cls n f p g h)
 
-  pub none-nearest : Cells f n → allInReach cls n m f ≡ false → (g : Field) → ¬ Nearest cls n f g
-  none-nearest p e g h = true≢false (sym (nearest-all p g h) ∙ e)
-
   -- where it fails, some class has no codeword in reach
   pub none-in-reach : Cells f n → allInReach cls n m f ≡ false
       → (a : ℕ) × ((g : Field) → Cells g n → Near cls n f g a → Codeword cls n g a → ⊥)
   none-in-reach p e = let r = not-all-reach e in (r .0, none-reach cls n f p (r .0) (r .2))
-
-pub all-reach-same : (cls : ℕ → ℕ) (n m : ℕ) (f g : Field) → Same f g n → allInReach cls n m f ≡ allInReach cls n m g
-unfolding allInReach
-all-reach-same cls n m f g s = all-same (inReach cls n f) (inReach cls n g) m (λ a l. reach-same cls n f g s a)

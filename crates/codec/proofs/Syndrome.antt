@@ -64,12 +64,6 @@ module _ (cls : ℕ → ℕ) where
       go (no e) = rw (ne-eqb (cls i) a e)
 
   -- the syndrome over one cell more
-  pub syndrome-none : (f : Field) (a : ℕ) → syndrome cls f a 0 ≡ 0
-  syndrome-none f a = refl
-
-  pub syndrome-suc : (f : Field) (a n : ℕ) → syndrome cls f a (suc n) ≡ bitXor (syndrome cls f a n) (term cls f a n)
-  syndrome-suc f a n = refl
-
   pub syndrome-step : (f : Field) (a n : ℕ) → syndrome cls f a (n + 1) ≡ bitXor (syndrome cls f a n) (term cls f a n)
   syndrome-step f a n = rw (add-one n)
 

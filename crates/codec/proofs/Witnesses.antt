@@ -1,6 +1,6 @@
 -- Examples that meet the hypotheses of the theorems on coding: the field of 5 by 5 of strength 3, its payload byte 165, and damage to one of its cells.
 use Prim.Native.Nat.{ℕ, zero, suc, _<_}
-use mathlib.Core.Bool.{Bool, true, false, _&&_}
+use mathlib.Core.Bool.{Bool, true, _&&_}
 use mathlib.Core.List.{List, [], _∷_, List·Memᴰ·head}
 use mathlib.Core.Logic.{_≢_}
 use mathlib.Core.Path.{_≡_, refl, sym, _∙_, ap}
@@ -18,7 +18,7 @@ use Rattle.lattice.proofs.Numbering.{numbering}
 use Rattle.lattice.proofs.Witnesses.{field, corner, OfThree}
 use Rattle.codec.specs.Field.{fieldOf}
 use Rattle.codec.specs.Hamming.{syndrome, Lawful}
-use Rattle.codec.specs.Payload.{Bytes, Carries, PaddingRight, encoded}
+use Rattle.codec.specs.Payload.{Bytes, Carries, PaddingRight}
 use Rattle.codec.specs.Plan.{planNumber, planCapacity, planBytes, planCells}
 use Rattle.codec.specs.Encode.{encodeNumber, encodedField}
 use Rattle.codec.specs.Decode.{decodeNumber}

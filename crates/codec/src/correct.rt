@@ -4,7 +4,7 @@ ghost use Rattle.lattice.specs.Shape.{cellsOf};
 ghost use Rattle.lattice.specs.Class.{classAt};
 ghost use Rattle.codec.specs.Field.{fieldOf, listOf};
 ghost use Rattle.codec.specs.Decode.{correctedField, correctedCount};
-ghost use Rattle.codec.specs.Answer.{IsCorrected};
+ghost use Rattle.codec.specs.Answer.{IsCorrected, correctAnswerNumber, correctAnswerCount};
 ghost use Rattle.codec.specs.Working.{HoldsSyndromes, FieldFits};
 use crate::examine::examine;
 use crate::walk::corrected_value;
@@ -22,6 +22,38 @@ pub enum CorrectAnswer {
     BadCell,
     OutOfReach,
     BadPadding,
+}
+
+impl CorrectAnswer {
+    // The papers' number.
+    pub fn number(self) -> usize
+        ensures { λ r. ⌜ r ≡ correctAnswerNumber self ⌝ }
+    {
+        match self {
+            CorrectAnswer::Corrected(_) => 0,
+            CorrectAnswer::BadSize => 1,
+            CorrectAnswer::BadStrength => 2,
+            CorrectAnswer::FieldLength => 4,
+            CorrectAnswer::BadCell => 5,
+            CorrectAnswer::OutOfReach => 6,
+            CorrectAnswer::BadPadding => 7,
+        }
+    }
+
+    // The number of cells turned over, 0 beside a refusal.
+    pub fn count(self) -> usize
+        ensures { λ r. ⌜ r ≡ correctAnswerCount self ⌝ }
+    {
+        match self {
+            CorrectAnswer::Corrected(count) => count,
+            CorrectAnswer::BadSize => 0,
+            CorrectAnswer::BadStrength => 0,
+            CorrectAnswer::FieldLength => 0,
+            CorrectAnswer::BadCell => 0,
+            CorrectAnswer::OutOfReach => 0,
+            CorrectAnswer::BadPadding => 0,
+        }
+    }
 }
 
 // Stores the mended cells; gives the number of cells turned over.

@@ -7,7 +7,7 @@ ghost use Rattle.lattice.specs.Class.{classAt};
 ghost use Rattle.codec.specs.Field.{fieldOf, Cells};
 ghost use Rattle.codec.specs.Payload.{payloadBytes, heldPayload};
 ghost use Rattle.codec.specs.Decode.{correctedField, correctedCount};
-ghost use Rattle.codec.specs.Answer.{IsDecoded};
+ghost use Rattle.codec.specs.Answer.{IsDecoded, decodeAnswerNumber, decodeAnswerCount};
 ghost use Rattle.codec.specs.Working.{FieldFits, Examined, BitStored};
 use crate::examine::examine;
 use crate::walk::corrected_value;
@@ -28,6 +28,40 @@ pub enum DecodeAnswer {
     BadCell,
     OutOfReach,
     BadPadding,
+}
+
+impl DecodeAnswer {
+    // The papers' number.
+    pub fn number(self) -> usize
+        ensures { λ r. ⌜ r ≡ decodeAnswerNumber self ⌝ }
+    {
+        match self {
+            DecodeAnswer::Decoded(_) => 0,
+            DecodeAnswer::BadSize => 1,
+            DecodeAnswer::BadStrength => 2,
+            DecodeAnswer::PayloadLength => 3,
+            DecodeAnswer::FieldLength => 4,
+            DecodeAnswer::BadCell => 5,
+            DecodeAnswer::OutOfReach => 6,
+            DecodeAnswer::BadPadding => 7,
+        }
+    }
+
+    // The number of cells turned over, 0 beside a refusal.
+    pub fn count(self) -> usize
+        ensures { λ r. ⌜ r ≡ decodeAnswerCount self ⌝ }
+    {
+        match self {
+            DecodeAnswer::Decoded(count) => count,
+            DecodeAnswer::BadSize => 0,
+            DecodeAnswer::BadStrength => 0,
+            DecodeAnswer::PayloadLength => 0,
+            DecodeAnswer::FieldLength => 0,
+            DecodeAnswer::BadCell => 0,
+            DecodeAnswer::OutOfReach => 0,
+            DecodeAnswer::BadPadding => 0,
+        }
+    }
 }
 
 // Sets every byte to 0.

@@ -5,7 +5,7 @@ ghost use Prim.Native.Nat.{_/_, _%_, _<_};
 ghost use lib.ListN.{getD, length};
 ghost use Rattle.lattice.specs.Shape.{maxClasses, cellsOf};
 ghost use Rattle.codec.specs.Encode.{encodedField};
-ghost use Rattle.codec.specs.Answer.{IsEncoded};
+ghost use Rattle.codec.specs.Answer.{IsEncoded, encodeAnswerNumber};
 ghost use Rattle.codec.specs.Working.{HoldsZeros, HoldsData, PayloadFits, AtPlane, Filled, planeCells, valueAt};
 use crate::walk::Place;
 use crate::walk::count_if;
@@ -25,6 +25,21 @@ pub enum EncodeAnswer {
     BadStrength,
     PayloadLength,
     FieldLength,
+}
+
+impl EncodeAnswer {
+    // The papers' number.
+    pub fn number(self) -> usize
+        ensures { λ r. ⌜ r ≡ encodeAnswerNumber self ⌝ }
+    {
+        match self {
+            EncodeAnswer::Encoded => 0,
+            EncodeAnswer::BadSize => 1,
+            EncodeAnswer::BadStrength => 2,
+            EncodeAnswer::PayloadLength => 3,
+            EncodeAnswer::FieldLength => 4,
+        }
+    }
 }
 
 // The value of the k-th of the cells that hold no check: a bit of the payload, or padding behind its last bit.

@@ -1,5 +1,6 @@
 // The plan of a field.
-ghost use Rattle.codec.specs.Answer.{IsPlan};
+ghost use mathlib.Core.Path.{_≡_};
+ghost use Rattle.codec.specs.Answer.{IsPlan, planAnswerNumber, planFigures};
 use lattice::shape::Shape;
 
 // The classes m, the capacity K, the payload's bytes and the cells.
@@ -15,6 +16,36 @@ pub enum PlanAnswer {
     Planned(FieldPlan),
     BadSize,
     BadStrength,
+}
+
+impl PlanAnswer {
+    // The papers' number.
+    pub fn number(self) -> usize
+        ensures { λ r. ⌜ r ≡ planAnswerNumber self ⌝ }
+    {
+        match self {
+            PlanAnswer::Planned(_) => 0,
+            PlanAnswer::BadSize => 1,
+            PlanAnswer::BadStrength => 2,
+        }
+    }
+
+    // The four figures, each 0 beside a refusal.
+    pub fn figures(self) -> FieldPlan
+        ensures { λ r. ⌜ r ≡ planFigures self ⌝ }
+    {
+        let none = FieldPlan {
+            classes: 0,
+            capacity: 0,
+            bytes: 0,
+            cells: 0,
+        };
+        match self {
+            PlanAnswer::Planned(figures) => figures,
+            PlanAnswer::BadSize => none,
+            PlanAnswer::BadStrength => none,
+        }
+    }
 }
 
 pub fn plan(shape: Shape) -> PlanAnswer

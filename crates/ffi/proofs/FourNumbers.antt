@@ -1,6 +1,6 @@
 -- The shape of four numbers, by the constructor's answer to them.
 use Prim.Native.Nat.{ℕ}
-use mathlib.Core.Path.{_≡_, refl, sym, subst, ap, _∙_}
+use mathlib.Core.Path.{_≡_, sym, subst, ap, _∙_}
 use Rattle.lattice.specs.declared.shape.Shape.{Shape}
 use Rattle.lattice.specs.declared.shape.NewShape.{NewShape}
 use Rattle.lattice.specs.declared.shape.NewShape.the-variants as new

@@ -1,21 +1,10 @@
 // The C interface: each operation on plain numbers and lent buffers. `include/varmintfoil.h` declares it for C.
+ghost use mathlib.Core.Path.{_≡_};
 ghost use Rattle.lattice.specs.Cell.{cell};
-ghost use Rattle.ffi.specs.Boundary.{shapeFrom, IsPlanResult, IsClassResult, IsEncodeResult, IsDecodeResult, IsCorrectResult, IsDistanceResult};
-mod answers;
+ghost use Rattle.ffi.specs.Boundary.{shapeFrom, asNumber, IsPlanResult, IsClassResult, IsEncodeResult, IsDecodeResult, IsCorrectResult, IsDistanceResult};
+
 mod operations;
-use crate::answers::class_given;
-use crate::answers::class_number;
-use crate::answers::correct_count;
-use crate::answers::correct_number;
-use crate::answers::decode_count;
-use crate::answers::decode_number;
-use crate::answers::distance_holds;
-use crate::answers::distance_number;
-use crate::answers::distance_tried;
-use crate::answers::distance_triple;
-use crate::answers::encode_number;
-use crate::answers::plan_figures;
-use crate::answers::plan_number;
+
 use crate::operations::class_of;
 use crate::operations::correct_in;
 use crate::operations::decode_in;
@@ -54,6 +43,13 @@ pub struct DistanceResult {
     pub tried: usize,
 }
 
+// A verdict as a number: 1 for yes and 0 for no.
+fn as_number(verdict: bool) -> usize
+    ensures { λ r. ⌜ r ≡ asNumber verdict ⌝ }
+{
+    verdict as usize
+}
+
 // The classes, the capacity, the payload's bytes and the cells of a shape, or the refusal 1 or 2.
 #[no_mangle]
 pub extern "C" fn varmintfoil_plan(
@@ -65,9 +61,9 @@ pub extern "C" fn varmintfoil_plan(
     ensures { λ r. ⌜ IsPlanResult (shapeFrom columns rows planes strength) r ⌝ }
 {
     let answer = plan_of(columns, rows, planes, strength);
-    let figures = plan_figures(answer);
+    let figures = answer.figures();
     PlanResult {
-        number: plan_number(answer),
+        number: answer.number(),
         classes: figures.classes,
         capacity: figures.capacity,
         bytes: figures.bytes,
@@ -90,8 +86,8 @@ pub extern "C" fn varmintfoil_class(
 {
     let answer = class_of(columns, rows, planes, strength, row, plane, column);
     ClassResult {
-        number: class_number(answer),
-        class_index: class_given(answer),
+        number: answer.number(),
+        class_index: answer.class(),
     }
 }
 
@@ -108,7 +104,7 @@ pub extern "C" fn varmintfoil_encode(
     ensures { λ r. ⌜ IsEncodeResult (shapeFrom columns rows planes strength) (now (payload .entry)) (now (field .entry)) (now (field .exit)) r ⌝ }
 {
     let answer = encode_in(columns, rows, planes, strength, payload, field);
-    encode_number(answer)
+    answer.number()
 }
 
 // Fills the payload and gives the number of cells turned over, or gives the refusal 1, 2, 3, 4, 5, 6 or 7.
@@ -125,8 +121,8 @@ pub extern "C" fn varmintfoil_decode(
 {
     let answer = decode_in(columns, rows, planes, strength, payload, field);
     CountResult {
-        number: decode_number(answer),
-        count: decode_count(answer),
+        number: answer.number(),
+        count: answer.count(),
     }
 }
 
@@ -143,8 +139,8 @@ pub extern "C" fn varmintfoil_correct(
 {
     let answer = correct_in(columns, rows, planes, strength, field);
     CountResult {
-        number: correct_number(answer),
-        count: correct_count(answer),
+        number: answer.number(),
+        count: answer.count(),
     }
 }
 
@@ -159,13 +155,14 @@ pub extern "C" fn varmintfoil_distance_test(
     ensures { λ r. ⌜ IsDistanceResult m b c t r ⌝ }
 {
     let answer = distance_test(m, b, c, t);
-    let triple = distance_triple(answer);
+    let triple = answer.triple();
+    let tried = answer.tried() as usize;
     DistanceResult {
-        number: distance_number(answer),
-        holds: distance_holds(answer),
+        number: answer.number(),
+        holds: as_number(answer.holds()),
         row: triple.row,
         plane: triple.plane,
         column: triple.column,
-        tried: distance_tried(answer),
+        tried,
     }
 }

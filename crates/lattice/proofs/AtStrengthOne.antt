@@ -1,8 +1,6 @@
 -- At strength 1 the distance test tries no triple, and condemns no settings.
-use mathlib.Core.Bool.{true}
-use mathlib.Core.Path.{_≡_, refl}
 use Rattle.lattice.specs.Order.{order}
-use Rattle.lattice.specs.DistanceTest.{testNumber, outcome, verdict, triplesTried}
+use Rattle.lattice.specs.DistanceTest.{outcome, verdict, triplesTried}
 use Rattle.lattice.specs.Testing.{TestAtOne}
 
 -- Theorem. At t = 1, where there is no triple to try, accepted settings hold with the counter 0.

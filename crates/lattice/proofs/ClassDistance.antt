@@ -1,18 +1,18 @@
 -- In a field that the constructor accepts, two different cells of one class are never closer than t.
-use Prim.Native.Nat.{ℕ, _<_, _≤_}
+use Prim.Native.Nat.{_≤_}
 use mathlib.Core.Logic.{_≢_}
-use mathlib.Core.Path.{_≡_, refl, sym, _∙_, ap, subst}
+use mathlib.Core.Path.{_≡_, sym, ap, subst}
 use native.Mathlib.Decide.{ℕ-discrete}
 use native.Mathlib.Omega.{arith}
-use lib.IntN.{ℤ, pos, natAbs}
+use lib.IntN.{pos, natAbs}
 use Rattle.lattice.specs.declared.settings.Settings.{Settings}
 use Rattle.lattice.specs.declared.shape.Shape.{Shape}
 use Rattle.lattice.specs.Shape.{Accepted}
-use Rattle.lattice.specs.Settings.{settingsOf, flatSettings, stackSettings}
+use Rattle.lattice.specs.Settings.{settingsOf}
 use Rattle.lattice.specs.Cell.{Cell, cell, InField}
 use Rattle.lattice.specs.Cluster.{distance}
-use Rattle.lattice.specs.Class.{classWith, classOf}
-use Rattle.lattice.specs.Endless.{Point, pointOf, HasClass, Apart, ApartOnPlane}
+use Rattle.lattice.specs.Class.{classOf}
+use Rattle.lattice.specs.Endless.{pointOf, HasClass, Apart, ApartOnPlane}
 use Rattle.lattice.specs.Placing.{ClassDistance}
 use Rattle.lattice.proofs.Limits.{Legal, legal, strength-stack}
 use Rattle.lattice.proofs.SettingsLaws.{settings-flat, settings-stack, classes-some}

@@ -1,21 +1,19 @@
 -- The triples between points: which settings fail at the triple between two points of one class, and the points that a failing triple sets apart.
-use Prim.Native.Nat.{ℕ, zero, suc, _+_, _-_, _*_, _%_, _<_, _≤_}
-use mathlib.Core.Bool.{Bool, true, false, true≢false}
+use Prim.Native.Nat.{ℕ, suc, _+_, _-_, _*_, _%_, _<_, _≤_}
+use mathlib.Core.Bool.{true, false, true≢false}
 use mathlib.Core.Logic.{_⊎_, inl, inr, ⊎-elim}
 use mathlib.Core.Path.{_≡_, refl, sym, _∙_, ap, ap₂}
-use native.Mathlib.Nat.{lt-of-not-le, zero-mod}
+use native.Mathlib.Nat.{lt-of-not-le}
 use native.Mathlib.Decide.{decLe, decLt}
 use native.Mathlib.Omega.{arith}
 use borrow.Author.Tests.{eq-eqb, eqb-true}
 use lib.IntN.{ℤ, pos, subℕ, natAbs, _-ℤ_, _*ℤ_, +ℤ-idr, +ℤ-invr}
 use Rattle.lattice.specs.declared.settings.Settings.{Settings}
 use Rattle.lattice.specs.declared.distance.Triple.{Triple}
-use Rattle.lattice.specs.Settings.{settings}
 use Rattle.lattice.specs.Cluster.{apart}
 use Rattle.lattice.specs.Endless.{Point, HasClass, Apart, pointDistance}
-use Rattle.lattice.specs.Order.{triple, origin, order, OrderLists, Leading, Less, magnitude}
-use Rattle.lattice.specs.DistanceTest.{failsAt, testNumber, verdict}
-use Rattle.lattice.specs.Testing.{TestMeaning, TestFinds, TestHolds}
+use Rattle.lattice.specs.Order.{triple, Leading, Less, magnitude}
+use Rattle.lattice.specs.DistanceTest.{failsAt}
 use Rattle.lattice.proofs.Integers.{up, down, sub-is, divides-sub}
 use Rattle.lattice.proofs.Residue.{residue, residue-sub, same-class, mod-class, gained, lost}
 use Rattle.lattice.proofs.Points.{coordinate-eq, coordinate-apart, difference, point-eq}

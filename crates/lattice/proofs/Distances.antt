@@ -20,10 +20,6 @@ pub apart-sym : (a b : ℕ) → apart a b ≡ apart b a
 unfolding apart
 apart-sym a b = omega arith
 
-pub apart-zero : (a b : ℕ) → apart a b ≡ 0 → a ≡ b
-unfolding apart
-apart-zero a b h = omega arith
-
 pub apart-triangle : (a b c : ℕ) → apart a c ≤ apart a b + apart b c
 unfolding apart
 apart-triangle a b c = omega arith

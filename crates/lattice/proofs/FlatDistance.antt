@@ -5,7 +5,6 @@ use native.Mathlib.Nat.{lt-of-not-le, div-eq-of-eq-mul-right, mod-lt}
 use native.Mathlib.Decide.{decLe, ℕ-discrete}
 use native.Mathlib.Omega.{arith}
 use lib.Dec.{lit<}
-use lib.IntN.{pos}
 use Rattle.lattice.specs.Settings.{oddSettings, evenSettings, flatSettings}
 use Rattle.lattice.specs.Endless.{Point, HasClass, pointDistance}
 use Rattle.lattice.specs.Placing.{FlatDistance}

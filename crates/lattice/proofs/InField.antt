@@ -35,6 +35,3 @@ module _ (s : Shape) (x : Cell) where
         plane = ltb-true _ _ (and-right r d rd);
         column = ltb-true _ _ (and-right (r && d) c p);
       }
-
-  pub field-inside : InField s x → inside s x ≡ true
-  field-inside f = rw (inside-column (f .row) (f .plane)) (lt-ltb _ _ (f .column))

@@ -7,7 +7,7 @@ use native.Mathlib.Decide.{decLe}
 use native.Mathlib.Nat.{add-zero, add-mod-mod, mul-mod-left, mul-mod-right, mul-sub, mod-add-div, mod-add-div'}
 use native.Mathlib.Omega.{arith}
 use lib.Dec.{T, ltb, ltb→lt, nltb→le}
-use lib.IntN.{ℤ, pos, negsuc, negℤ, sucℤ, natAbs, subℕ, _+ℤ_, _-ℤ_, _*ℤ_}
+use lib.IntN.{ℤ, pos, negsuc, negℤ, natAbs, subℕ, _+ℤ_, _-ℤ_, _*ℤ_}
 use Rattle.lattice.specs.Endless.{Multiple}
 
 -- an integer's positive and negative part
@@ -44,23 +44,12 @@ sub-is a b z e = parts-one (subℕ a b) z (omega (arith, sub-parts a b))
 pub sub-eq : (a b c d : ℕ) → a + d ≡ c + b → subℕ a b ≡ subℕ c d
 sub-eq a b c d e = sub-is a b (subℕ c d) (omega (arith, sub-parts c d))
 
-pub sub-inj : (a b c d : ℕ) → subℕ a b ≡ subℕ c d → a + d ≡ c + b
-sub-inj a b c d e = omega (arith, sub-parts a b, sub-parts c d, ap up e, ap down e)
-
 -- each integer is a difference: of its two parts
 pub sub-of : (z : ℤ) → subℕ (up z) (down z) ≡ z
 sub-of z = sub-is (up z) (down z) z (omega arith)
 
 pub sub-zero : (a : ℕ) → subℕ a 0 ≡ pos a
 sub-zero a = sub-is a 0 (pos a) (omega arith)
-
-pub sub-suc : (a b : ℕ) → sucℤ (subℕ a b) ≡ subℕ (suc a) b
-sub-suc a b = sym (sub-is (suc a) b (sucℤ (subℕ a b)) (omega (arith, sub-parts a b, suc-parts (subℕ a b))))
-  where
-    suc-parts : (z : ℤ) → up (sucℤ z) + down z ≡ suc (up z + down (sucℤ z))
-    suc-parts (pos n) = omega arith
-    suc-parts (negsuc zero) = omega arith
-    suc-parts (negsuc (suc n)) = omega arith
 
 up-neg : (z : ℤ) → up (negℤ z) ≡ down z
 up-neg (pos zero) = refl

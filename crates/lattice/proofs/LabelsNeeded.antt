@@ -1,12 +1,11 @@
 -- The lower bound on labels: the cells of the sphere lie pairwise in small clusters, so they have as many labels as cells.
 use Prim.Native.Nat.{ℕ, _≤_, _<_}
 use mathlib.Core.List.{List, map, List·Memᴰ, Memᴰ·of-map}
-use mathlib.Core.Path.{_≡_, refl, ap, _∙_, sym}
+use mathlib.Core.Path.{_≡_, ap, _∙_, sym}
 use native.Mathlib.Omega.{arith}
 use lib.ListN.{length, length-map}
 use Rattle.lattice.specs.declared.shape.Shape.{Shape}
 use Rattle.lattice.specs.Shape.{cellsOf}
-use Rattle.lattice.specs.Settings.{settingsOf}
 use Rattle.lattice.specs.Cell.{Cell, InField, cellNumber, cellAt}
 use Rattle.lattice.specs.Cluster.{distance}
 use Rattle.lattice.specs.Labelling.{labels, Separates}

@@ -8,7 +8,7 @@ use native.Mathlib.Omega.{arith}
 use lib.Dec.{eqb}
 use borrow.Author.Tests.{eq-eqb, ne-eqb, eqb-true}
 use Rattle.lattice.specs.Position.{count, sumBelow, size, position}
-use Rattle.lattice.proofs.Counting.{count-step, count-yes, count-no, count-most, count-mono, count-same, count-none, count-all, count-reach, sum-same, sum-none, sum-add, sum-one}
+use Rattle.lattice.proofs.Counting.{count-step, count-yes, count-no, count-most, count-mono, count-reach, sum-same, sum-none, sum-add, sum-one}
 
 module _ (cls : ℕ → ℕ) where
   -- a class has one cell more after each of its cells, and no more after the others
@@ -33,10 +33,6 @@ module _ (cls : ℕ → ℕ) where
   size-mono a m n p = count-mono (λ i. eqb (cls i) a) m n p
 
   -- a class with none of the cells is empty
-  pub size-empty : (a n : ℕ) → ((i : ℕ) → i < n → cls i ≡ a → ⊥) → size cls a n ≡ 0
-  unfolding size
-  size-empty a n p = count-none (λ i. eqb (cls i) a) n (λ i l. ne-eqb (cls i) a (p i l))
-
   pub position-least : (i : ℕ) → 1 ≤ position cls i
   unfolding position
   position-least i = omega arith
@@ -72,12 +68,6 @@ module _ (cls : ℕ → ℕ) where
       let e : cls (r .0) ≡ a = eqb-true (cls (r .0)) a (r .2) in
       (r .0, r .1, e, omega (arith, ap (λ (b : ℕ). size cls b (r .0)) e, r .3))
 
--- two placements that agree on the cells have the same sizes
-pub size-same : (f g : ℕ → ℕ) (a n : ℕ) → ((i : ℕ) → i < n → f i ≡ g i) → size f a n ≡ size g a n
-unfolding size
-size-same f g a n p =
-    count-same (λ i. eqb (f i) a) (λ i. eqb (g i) a) n (λ i l. ap (λ (k : ℕ). eqb k a) (p i l))
-
 -- how often a test of class and position holds over the cells: the sum over the classes of how often it holds over their positions
 module _ (cls : ℕ → ℕ) (P : ℕ → ℕ → Bool) (m : ℕ) where
   one-more : (b : Bool) (f : ℕ → Bool) (k : ℕ) → count f (cond b 1 0 + k) ≡ cond b (cond (f k) 1 0) 0 + count f k
@@ -98,10 +88,3 @@ module _ (cls : ℕ → ℕ) (P : ℕ → ℕ → Bool) (m : ℕ) where
       _+_
       (sum-one (λ a. cond (P a (size cls a n + 1)) 1 0) (cls n) m (p n (le-refl _)))
       (by-class n (λ i l. p i (omega arith)))
-
--- the sizes of the classes add up to the number of cells
-pub sizes-sum : (cls : ℕ → ℕ) (m n : ℕ) → ((i : ℕ) → i < n → cls i < m) → sumBelow (λ a. size cls a n) m ≡ n
-sizes-sum cls m n p =
-    sum-same _ _ m (λ a l. sym (count-all (λ q. true) (size cls a n) (λ i r. refl)))
-    ∙ by-class cls (λ a q. true) m n p
-    ∙ count-all (λ i. true) n (λ i l. refl)

@@ -11,7 +11,7 @@ use lib.Pow.{pow-mono}
 use borrow.Author.Tests.{eq-eqb, eqb-true}
 use Rattle.lattice.specs.Position.{anyBelow, isPower, checks}
 use Rattle.lattice.proofs.Bools.{or-true-left, or-true-right, or-cases, not-true}
-use Rattle.lattice.proofs.Counting.{count-yes, count-no, count-most, count-mono}
+use Rattle.lattice.proofs.Counting.{count-yes, count-no, count-most}
 
 -- some number below n passes the test: from a witness, and back
 pub any-below : (f : ℕ → Bool) (i n : ℕ) → i < n → f i ≡ true → anyBelow f n ≡ true
@@ -68,7 +68,3 @@ checks-other n e = count-no (λ i. isPower (i + 1)) n e
 pub checks-most : (n : ℕ) → checks n ≤ n
 unfolding checks
 checks-most n = count-most (λ i. isPower (i + 1)) n
-
-pub checks-mono : (m n : ℕ) → m ≤ n → checks m ≤ checks n
-unfolding checks
-checks-mono m n p = count-mono (λ i. isPower (i + 1)) m n p

@@ -6,7 +6,7 @@ use mathlib.Core.Logic.{_≢_, _⊎_, inl, inr, ⊎-elim}
 use mathlib.Core.Path.{_≡_, refl, _∙_}
 use native.Mathlib.Nat.{lt-trans}
 use native.Mathlib.Omega.{arith}
-use Rattle.lattice.specs.Refusal.{Refusal, refusal, NoneHolds, Settled, SettledAfter, unless}
+use Rattle.lattice.specs.Refusal.{Refusal, NoneHolds, Settled, SettledAfter, unless}
 
 -- a test that passes exactly where the condition does not hold
 pub record Decides (ok : Bool) (P : Type 0) : Type 0 where

@@ -1,6 +1,6 @@
 -- Remainders: numbers with one remainder differ by a multiple, and the remainder of a difference.
 use Prim.Native.Nat.{ℕ, _+_, _-_, _*_, _/_, _%_, _<_, _≤_}
-use mathlib.Core.Path.{_≡_, refl, sym, _∙_, ap, ap₂}
+use mathlib.Core.Path.{_≡_, sym, _∙_, ap, ap₂}
 use native.Mathlib.Nat.{mul-comm, mul-sub, add-mod, mod-add-div, mod-lt, add-mul-mod-self-left, mod-add-mod, mod-eq-of-lt, lt-of-not-le}
 use native.Mathlib.Decide.{decLe}
 use native.Mathlib.Omega.{arith}
@@ -58,19 +58,3 @@ module _ (m : ℕ) (some : 0 < m) where
       sym (mod-eq-of-lt l)
       ∙ cancel-same r (minusMod a z m) z m (e ∙ sym (minus-adds a z))
       ∙ mod-eq-of-lt (minus-below a z)
-
-  -- two differences of one remainder
-  pub minus-same : (a₁ z₁ a₂ z₂ : ℕ) → minusMod a₁ z₁ m ≡ minusMod a₂ z₂ m → (a₁ + z₂) % m ≡ (a₂ + z₁) % m
-  minus-same a₁ z₁ a₂ z₂ e =
-      add-same a₁ (r₁ + z₁) z₂ z₂ m (sym (minus-adds a₁ z₁)) refl
-      ∙ ap (λ (n : ℕ). n % m) swap
-      ∙ add-same (r₂ + z₂) a₂ z₁ z₁ m (minus-adds a₂ z₂) refl
-    where
-      r₁ : ℕ
-      r₁ = minusMod a₁ z₁ m
-
-      r₂ : ℕ
-      r₂ = minusMod a₂ z₂ m
-
-      swap : r₁ + z₁ + z₂ ≡ r₂ + z₂ + z₁
-      swap = omega (arith, e)

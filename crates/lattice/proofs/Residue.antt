@@ -1,12 +1,11 @@
 -- The residue of a point, column − b × row − c × plane, as a difference of two natural numbers, and what one class tells of two points.
 use Prim.Native.Nat.{ℕ, _+_, _*_, _%_, _<_}
-use mathlib.Core.Logic.{_↔_}
-use mathlib.Core.Path.{_≡_, refl, sym, _∙_, ap, ap₂}
+use mathlib.Core.Path.{_≡_, sym, _∙_, ap, ap₂}
 use native.Mathlib.Nat.{add-zero}
 use native.Mathlib.Omega.{arith}
-use lib.IntN.{ℤ, pos, subℕ, natAbs, _-ℤ_, _*ℤ_}
+use lib.IntN.{ℤ, pos, subℕ, _-ℤ_, _*ℤ_}
 use Rattle.lattice.specs.declared.settings.Settings.{Settings}
-use Rattle.lattice.specs.Endless.{Point, HasClass, Multiple}
+use Rattle.lattice.specs.Endless.{Point, HasClass}
 use Rattle.lattice.proofs.Integers.{up, down, sub-of, sub-zero, sub-sub, sub-scale, multiple-sub}
 use Rattle.lattice.proofs.Remainder.{add-same, cancel-same}
 

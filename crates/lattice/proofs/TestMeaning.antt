@@ -1,13 +1,13 @@
 -- What the distance test means: its verdict is yes exactly when different points of one class are at least t apart in the endless stack.
 use Prim.Native.Nat.{ℕ, _<_, _≤_}
 use mathlib.Core.Bool.{Bool, true, false}
-use mathlib.Core.Logic.{inl, inr}
-use mathlib.Core.Path.{_≡_, refl, sym, _∙_, ap}
+use mathlib.Core.Logic.{inl}
+use mathlib.Core.Path.{_≡_, refl}
 use native.Mathlib.Nat.{lt-of-not-le}
 use native.Mathlib.Decide.{decLe}
 use Rattle.lattice.specs.Settings.{settings}
 use Rattle.lattice.specs.Endless.{Apart}
-use Rattle.lattice.specs.DistanceTest.{failsAt, testNumber, verdict, BadTestSettings}
+use Rattle.lattice.specs.DistanceTest.{testNumber, verdict, BadTestSettings}
 use Rattle.lattice.specs.Testing.{TestMeaning}
 use Rattle.lattice.proofs.Refusals.{testRefused}
 use Rattle.lattice.proofs.OrderLists.{orderLists}

@@ -3,7 +3,7 @@ ghost use mathlib.Core.Path.{_≡_};
 ghost use Prim.Native.Nat.{_/_, _%_, _<_};
 ghost use Rattle.lattice.specs.Cell.{cell, cellAt};
 ghost use Rattle.lattice.specs.Class.{minusMod, classWith, inside};
-ghost use Rattle.lattice.specs.Answer.{IsCellClass};
+ghost use Rattle.lattice.specs.Answer.{IsCellClass, cellClassNumber, cellClass};
 use crate::settings::Settings;
 use crate::shape::Shape;
 
@@ -12,6 +12,32 @@ pub enum CellClass {
     BadSize,
     BadStrength,
     OutsideShape,
+}
+
+impl CellClass {
+    // The papers' number.
+    pub fn number(self) -> usize
+        ensures { λ r. ⌜ r ≡ cellClassNumber self ⌝ }
+    {
+        match self {
+            CellClass::Class(_) => 0,
+            CellClass::BadSize => 1,
+            CellClass::BadStrength => 2,
+            CellClass::OutsideShape => 4,
+        }
+    }
+
+    // The class, 0 beside a refusal.
+    pub fn class(self) -> usize
+        ensures { λ r. ⌜ r ≡ cellClass self ⌝ }
+    {
+        match self {
+            CellClass::Class(class) => class,
+            CellClass::BadSize => 0,
+            CellClass::BadStrength => 0,
+            CellClass::OutsideShape => 0,
+        }
+    }
 }
 
 // The quotient, 0 where b is 0.

@@ -4,7 +4,7 @@ ghost use Prim.Native.Nat.{_+_, _-_, _<_, _≤_};
 ghost use lib.IntN.{pos, negℤ, natAbs, _+ℤ_, _*ℤ_};
 ghost use Rattle.lattice.specs.Order.{columnsAt, planesAt, rowsAt, order, run, span};
 ghost use Rattle.lattice.specs.DistanceTest.{nothing, after, scan, failsAt, maxTestStrength, maxTestClasses, testSettingsOk};
-ghost use Rattle.lattice.specs.Answer.{IsDistanceTest};
+ghost use Rattle.lattice.specs.Answer.{IsDistanceTest, distanceNumber, distanceVerdict, distanceTriple, distanceTried};
 use crate::settings::Settings;
 use crate::shape::within;
 
@@ -31,6 +31,61 @@ pub enum DistanceTest {
     Fails(Triple, u32),
     BadStrength,
     BadSettings,
+}
+
+impl DistanceTest {
+    // The papers' number.
+    pub fn number(self) -> usize
+        ensures { λ r. ⌜ r ≡ distanceNumber self ⌝ }
+    {
+        match self {
+            DistanceTest::Holds(_) => 0,
+            DistanceTest::Fails(_, _) => 0,
+            DistanceTest::BadStrength => 2,
+            DistanceTest::BadSettings => 9,
+        }
+    }
+
+    // The verdict, no beside a refusal.
+    pub fn holds(self) -> bool
+        ensures { λ r. ⌜ r ≡ distanceVerdict self ⌝ }
+    {
+        match self {
+            DistanceTest::Holds(_) => true,
+            DistanceTest::Fails(_, _) => false,
+            DistanceTest::BadStrength => false,
+            DistanceTest::BadSettings => false,
+        }
+    }
+
+    // The triple found, (0, 0, 0) where none is.
+    pub fn triple(self) -> Triple
+        ensures { λ r. ⌜ r ≡ distanceTriple self ⌝ }
+    {
+        let origin = Triple {
+            row: 0,
+            plane: 0,
+            column: 0,
+        };
+        match self {
+            DistanceTest::Holds(_) => origin,
+            DistanceTest::Fails(triple, _) => triple,
+            DistanceTest::BadStrength => origin,
+            DistanceTest::BadSettings => origin,
+        }
+    }
+
+    // The number of triples tried, 0 beside a refusal.
+    pub fn tried(self) -> u32
+        ensures { λ r. ⌜ r ≡ distanceTried self ⌝ }
+    {
+        match self {
+            DistanceTest::Holds(tried) => tried,
+            DistanceTest::Fails(_, tried) => tried,
+            DistanceTest::BadStrength => 0,
+            DistanceTest::BadSettings => 0,
+        }
+    }
 }
 
 // −n

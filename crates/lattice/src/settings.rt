@@ -2,7 +2,7 @@
 ghost use mathlib.Core.Path.{_≡_};
 ghost use Prim.Native.Nat.{_<_};
 ghost use Rattle.lattice.specs.Refusal.{figure};
-ghost use Rattle.lattice.specs.Settings.{flatSettings, stackSettings, settingsFor, settingsOf, settingsGiven};
+ghost use Rattle.lattice.specs.Settings.{flatSettings, stackSettings, settingsOf, settingsGiven};
 ghost use Rattle.lattice.specs.Shape.{numberOf};
 use crate::shape::Shape;
 

@@ -2,7 +2,7 @@
 ghost use mathlib.Core.Path.{_≡_};
 ghost use Rattle.lattice.specs.Refusal.{figure};
 ghost use Rattle.lattice.specs.Shape.{maxSide, maxPlanes, maxCells, maxFlatStrength, maxStackStrength, maxClasses, maxStrength, inRange, sizeOk, strengthOk, shapeNumber, numberOf, cellsOf};
-ghost use Rattle.lattice.specs.Answer.{IsNewShape};
+ghost use Rattle.lattice.specs.Answer.{IsNewShape, newNumber};
 
 // W columns, H rows and D planes of cells, and the strength t.
 pub struct Shape {
@@ -17,6 +17,19 @@ pub enum NewShape {
     Accepted(Shape),
     BadSize,
     BadStrength,
+}
+
+impl NewShape {
+    // The papers' number.
+    pub fn number(self) -> usize
+        ensures { λ r. ⌜ r ≡ newNumber self ⌝ }
+    {
+        match self {
+            NewShape::Accepted(_) => 0,
+            NewShape::BadSize => 1,
+            NewShape::BadStrength => 2,
+        }
+    }
 }
 
 // Is x at least low and at most high?

@@ -9,29 +9,35 @@ use Rattle.ffi.proofs.varmintfoil_distance_test.Tie as tie
 distance-test-requires : tie.Need-distance-test-requires
 distance-test-requires c κs = search needs
 
-distance-triple-requires : tie.Need-distance-triple-requires
-distance-triple-requires c κs = search needs
+triple-requires : tie.Need-triple-requires
+triple-requires c κs = search needs
 
-distance-number-requires : tie.Need-distance-number-requires
-distance-number-requires c κs = search needs
+tried-requires : tie.Need-tried-requires
+tried-requires c κs = search needs
 
-distance-holds-requires : tie.Need-distance-holds-requires
-distance-holds-requires c κs = search needs
+cast-tried : tie.Need-cast-tried
+cast-tried c = search needs
 
-distance-tried-requires : tie.Need-distance-tried-requires
-distance-tried-requires c κs = search needs
+number-requires : tie.Need-number-requires
+number-requires c κs = search needs
+
+holds-requires : tie.Need-holds-requires
+holds-requires c κs = search needs
+
+as-number-requires : tie.Need-as-number-requires
+as-number-requires c κs = search needs
 
 returns : tie.Need-returns
 returns c =
-    let answer = c .before .before .before .before .before .distance-test .ensures .0 in
-    let triple = c .before .before .before .before .distance-triple .ensures ∙ answer .triple in
+    let answer = c .before .before .before .before .before .before .distance-test .ensures .0 in
+    let triple = c .before .before .before .before .before .triple .ensures ∙ answer .triple in
     record {
-      number = c .before .before .before .distance-number .ensures ∙ answer .number;
-      holds = c .before .before .distance-holds .ensures ∙ ap asNumber (answer .verdict);
+      number = c .before .before .before .number .ensures ∙ answer .number;
+      holds = c .before .as-number .ensures ∙ ap asNumber (c .before .before .holds .ensures ∙ answer .verdict);
       row = (search needs) ∙ ap (λ (x : Triple). x .row) triple;
       plane = (search needs) ∙ ap (λ (x : Triple). x .plane) triple;
       column = (search needs) ∙ ap (λ (x : Triple). x .column) triple;
-      tried = c .before .distance-tried .ensures ∙ answer .tried;
+      tried = c .before .before .before .before .tried .ensures ∙ answer .tried;
     }
 
 pub varmintfoil-distance-test-spec : {M : Type 1} → statement M
@@ -39,8 +45,10 @@ varmintfoil-distance-test-spec =
     tie.close
     (tie.spec
     distance-test-requires
-    distance-triple-requires
-    distance-number-requires
-    distance-holds-requires
-    distance-tried-requires
+    triple-requires
+    tried-requires
+    cast-tried
+    number-requires
+    holds-requires
+    as-number-requires
     returns)

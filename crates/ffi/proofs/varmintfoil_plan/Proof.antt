@@ -8,18 +8,18 @@ use Rattle.ffi.proofs.varmintfoil_plan.Tie as tie
 plan-of-requires : tie.Need-plan-of-requires
 plan-of-requires c κs = search needs
 
-plan-figures-requires : tie.Need-plan-figures-requires
-plan-figures-requires c κs = search needs
+figures-requires : tie.Need-figures-requires
+figures-requires c κs = search needs
 
-plan-number-requires : tie.Need-plan-number-requires
-plan-number-requires c κs = search needs
+number-requires : tie.Need-number-requires
+number-requires c κs = search needs
 
 returns : tie.Need-returns
 returns c =
     let answer = c .before .before .plan-of .ensures in
-    let figures = c .before .plan-figures .ensures in
+    let figures = c .before .figures .ensures in
     record {
-      number = c .plan-number .ensures ∙ answer .number;
+      number = c .number .ensures ∙ answer .number;
       classes = ap (λ (p : FieldPlan). p .classes) figures ∙ answer .classes;
       capacity = ap (λ (p : FieldPlan). p .capacity) figures ∙ answer .capacity;
       bytes = ap (λ (p : FieldPlan). p .bytes) figures ∙ answer .bytes;
@@ -28,4 +28,4 @@ returns c =
 
 pub varmintfoil-plan-spec : {M : Type 1} → statement M
 varmintfoil-plan-spec =
-    tie.close (tie.spec plan-of-requires plan-figures-requires plan-number-requires returns)
+    tie.close (tie.spec plan-of-requires figures-requires number-requires returns)

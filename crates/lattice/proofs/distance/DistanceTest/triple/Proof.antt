@@ -1,15 +1,15 @@
--- `distance_triple` meets its contract: a case gives its triple.
+-- `lattice::distance::DistanceTest::triple` meets its contract: a case gives its triple.
 use mathlib.Core.Path.{sym, ap}
 use borrow.Author.Needs.{needs}
 use Rattle.lattice.specs.Answer.{distanceTriple}
-use Rattle.ffi.proofs.answers.distance_triple.Statement.{statement}
-use Rattle.ffi.proofs.answers.distance_triple.Tie as tie
+use Rattle.lattice.proofs.distance.DistanceTest.triple.Statement.{statement}
+use Rattle.lattice.proofs.distance.DistanceTest.triple.Tie as tie
 
 enum-told : tie.Need-enum-told
 enum-told c = search needs
 
-enum-known-answer : tie.Need-enum-known-answer
-enum-known-answer c = search needs
+enum-known-self : tie.Need-enum-known-self
+enum-known-self c = search needs
 
 enum-told-2 : tie.Need-enum-told-2
 enum-told-2 c = search needs
@@ -29,12 +29,12 @@ returns-3 c = sym (ap distanceTriple (c .enum-told2 .given .1))
 returns-4 : tie.Need-returns-4
 returns-4 c = sym (ap distanceTriple (c .enum-told3 .given .1))
 
-pub distance-triple-spec : {M : Type 1} → statement M
-distance-triple-spec =
+pub triple-spec : {M : Type 1} → statement M
+triple-spec =
     tie.close
     (tie.spec
     enum-told
-    enum-known-answer
+    enum-known-self
     enum-told-2
     enum-told-3
     returns
