@@ -1,0 +1,42 @@
+-- The limits of a card's header: its numbers, its rows and its payload.
+use Prim.Native.Nat.{_*_, _<_, _≤_}
+use native.Mathlib.Nat.{mul-le-mul}
+use native.Mathlib.Omega.{arith}
+use Rattle.lattice.specs.Shape.{cellsOf}
+use Rattle.lattice.specs.Position.{capacity, holdsData}
+use Rattle.lattice.specs.Class.{classAt}
+use Rattle.lattice.proofs.Counting.{count-most}
+use Rattle.lattice.proofs.Limits.{Legal, legal, strength-most}
+use Rattle.codec.specs.Payload.{payloadBytes}
+use Rattle.codec.specs.Plan.{planBytes}
+use Rattle.codec.proofs.Accepted.{plan-bytes}
+use Rattle.card.specs.declared.header.Header.{Header}
+use Rattle.card.specs.Card.{shapeOf, Small, CardHeader}
+
+-- a card's header is within the limits
+module _ (h : Header) (x : CardHeader h) where
+  pub limits : Legal (h .columns) (h .rows) (h .planes) (h .strength)
+  limits = legal (h .columns) (h .rows) (h .planes) (h .strength) (x .accepted)
+
+  pub card-small : Small h
+  card-small =
+      record {
+        columns = omega (arith, limits .width-high);
+        rows = omega (arith, limits .height-high);
+        planes = omega (arith, limits .planes-high);
+        strength = omega (arith, strength-most (h .columns) (h .rows) (h .planes) (h .strength) (x .accepted));
+      }
+
+  -- it has a row, and at most 4,096
+  pub rows-some : 0 < h .planes * h .rows
+  rows-some = mul-le-mul {n₁ = 1} {m₁ = 1} (limits .planes-low) (limits .height-low)
+
+  pub rows-most : h .planes * h .rows ≤ 4096
+  rows-most = mul-le-mul {n₂ = 16} {m₂ = 256} (limits .planes-high) (limits .height-high)
+
+  -- a payload has at most one byte for 8 cells
+  pub bytes-most : planBytes (shapeOf h) ≤ 2048
+  unfolding payloadBytes capacity
+  bytes-most =
+      let n = cellsOf (shapeOf h) in
+      omega (arith, plan-bytes (shapeOf h) (x .accepted), count-most (holdsData (classAt (shapeOf h)) n) n, x .cells)

@@ -1,0 +1,57 @@
+-- A header's text followed by anything: it is read back, what is read is such a text, and it is the text of one header alone.
+use Prim.Native.Nat.{ℕ, _+_, _≤_}
+use mathlib.Core.List.{List, _++_}
+use mathlib.Core.Path.{_≡_, refl, sym, ap, _∙_}
+use native.Mathlib.Omega.{arith}
+use lib.ListN.{length, drop}
+use lib.Seq.{drop-append-seam}
+use Rattle.card.specs.declared.header.Header.{Header}
+use Rattle.card.specs.declared.header.HeaderAnswer.the-variants as head
+use Rattle.card.specs.Text.{headerText}
+use Rattle.card.specs.Card.{Small}
+use Rattle.card.specs.Parse.{headerOf}
+use Rattle.card.specs.Form.{HeaderFirst}
+use Rattle.card.proofs.StandsAt.{stands-first, stands-drop}
+use Rattle.card.proofs.HeaderText.{header-at, at-header, header-inside}
+
+-- a header's text is read back, whatever follows
+pub header-back : (h : Header) (rest : List ℕ) → Small h → headerOf (headerText h ++ rest) ≡ head.Found h (length (headerText h))
+header-back h rest small =
+    header-at (headerText h ++ rest) h (length (headerText h))
+    (record { small = small; stands = stands-first (headerText h) rest; next-line = refl })
+
+-- what a header is read from is its text, followed by the rest
+pub record ReadFrom (s : List ℕ) (h : Header) (next : ℕ) : Type 0 where
+  pub small : Small h
+  pub text : s ≡ headerText h ++ drop next s
+  pub next-line : next ≡ length (headerText h)
+  pub inside : next ≤ length s
+
+pub header-found : (s : List ℕ) (h : Header) (next : ℕ) → headerOf s ≡ head.Found h next → ReadFrom s h next
+header-found s h next p =
+    let x = at-header s h next p in
+    let fits = header-inside s h next p in
+    let ends : 0 + length (headerText h) ≡ next = omega (arith, x .next-line) in
+    record {
+      small = x .small;
+      text = rw ends at (stands-drop (headerText h) s 0 (x .stands) (omega (arith, x .next-line)));
+      next-line = x .next-line;
+      inside = fits;
+    }
+
+-- two headers' texts with their rests are the same only where the headers and the rests are
+pub header-same : (h k : Header) (r q : List ℕ) → headerText h ++ r ≡ headerText k ++ q → Small h → Small k → (h ≡ k) × (r ≡ q)
+header-same h k r q e sh sk =
+    let both : head.Found h (length (headerText h)) ≡ head.Found k (length (headerText k))
+    = sym (header-back h r sh) ∙ ap headerOf e ∙ header-back k q sk in
+    let same : h ≡ k = cc both in (
+      same,
+      sym (drop-append-seam (headerText h) r)
+          ∙ ap (drop (length (headerText h))) e
+          ∙ ap (λ (i : Header). drop (length (headerText i)) (headerText k ++ q)) same
+          ∙ drop-append-seam (headerText k) q,
+    )
+
+-- an input that starts with a header's text is read so
+pub first-found : (s : List ℕ) (x : HeaderFirst s) → headerOf s ≡ head.Found (x .header) (length (headerText (x .header)))
+first-found s x = ap headerOf (x .text) ∙ header-back (x .header) (x .rest) (x .small)

@@ -1,0 +1,137 @@
+-- Demand 1 for the program: its number is that of the first of the listed conditions that holds.
+use Prim.Native.Nat.{ℕ}
+use mathlib.Core.List.{List, [], _∷_}
+use mathlib.Core.Logic.{inl}
+use mathlib.Core.Path.{_≡_, refl, sym, _∙_, subst}
+use native.Mathlib.Omega.{arith}
+use borrow.Author.Tests.{eq-eqb, eqb-true}
+use lib.Dec.{eqb}
+use lib.ListN.{length}
+use Rattle.lattice.specs.Refusal.{Refusal, refusal, unless}
+use Rattle.lattice.specs.Settings.{settingsOf}
+use Rattle.lattice.specs.Shape.{cellsOf}
+use Rattle.lattice.specs.Class.{classAt}
+use Rattle.lattice.proofs.Limits.{size-held, strength-held}
+use Rattle.lattice.proofs.Refusals.{at-most}
+use Rattle.codec.specs.Field.{fieldOf}
+use Rattle.codec.specs.Hamming.{allInReach}
+use Rattle.codec.specs.Payload.{paddingOk}
+use Rattle.codec.specs.Plan.{planBytes, planCells}
+use Rattle.codec.specs.Encode.{encodeNumber}
+use Rattle.codec.specs.Decode.{correctedField, fieldNumber, decodeNumber}
+use Rattle.codec.specs.Refused.{NoneInReach, WrongPadding}
+use Rattle.codec.proofs.Accepted.{plan-cells, decode-number}
+use Rattle.codec.proofs.FieldLists.{cells-ok}
+use Rattle.card.specs.declared.header.Header.{Header}
+use Rattle.card.specs.declared.header.HeaderAnswer.{HeaderAnswer}
+use Rattle.card.specs.declared.header.HeaderAnswer.the-variants as head
+use Rattle.card.specs.Card.{maxInput, shapeOf, FieldCells, CardHeader}
+use Rattle.card.specs.Parse.{headerOf, payloadOf}
+use Rattle.card.specs.Program.{blankField, blankPayload, cellsIn, operationNumber, numberAfter, programNumber}
+use Rattle.card.specs.Form.{NoHeader, SizeRefused, StrengthRefused, TooManyCells, NoBody, PayloadRefused, ReachRefused, PaddingRefused, programRefusals, ProgramRefused}
+use Rattle.card.proofs.FirstRefusal.{Due, first-due, due-none, due-test, due-skip, due-settled}
+use Rattle.card.proofs.ProgramParts.{
+  blank-field,
+  blank-payload,
+  operation-payload,
+  operation-rows,
+}
+use Rattle.card.proofs.CardRead.{CardRead, of-payload, of-field, card-read}
+use Rattle.card.proofs.HeaderRest.{first-found}
+use Rattle.card.proofs.ParsedInput.{card-header, first}
+use Rattle.card.proofs.Passed.{test-passed}
+use Rattle.card.proofs.RefusalConditions.{
+  size-condition,
+  strength-condition,
+  cells-condition,
+  body-condition,
+  payload-condition,
+  no-field,
+  no-payload,
+  reach-condition,
+  padding-condition,
+}
+
+-- encoding into the lent field refuses a payload's length alone
+encode-length : (h : Header) → CardHeader h → (p : List ℕ)
+    → encodeNumber (shapeOf h) p (blankField h) ≡ unless (eqb (length p) (planBytes (shapeOf h))) 3 0
+unfolding encodeNumber
+encode-length h card p =
+    rw (
+      size-held (h .columns) (h .rows) (h .planes) (h .strength) (card .accepted),
+      strength-held (h .columns) (h .rows) (h .planes) (h .strength) (card .accepted),
+      eq-eqb (length (blankField h)) (planCells (shapeOf h)) (blank-field h ∙ sym (plan-cells (shapeOf h) (card .accepted))),
+    )
+
+-- and what it does not refuse has the plan's length
+pub encoded-long : (h : Header) → CardHeader h → (p : List ℕ) → encodeNumber (shapeOf h) p (blankField h) ≡ 0 → length p ≡ planBytes (shapeOf h)
+encoded-long h card p e =
+    eqb-true (length p) (planBytes (shapeOf h)) (test-passed 2 (eqb (length p) (planBytes (shapeOf h))) 0 (sym (encode-length h card p) ∙ e) .0)
+
+-- decoding a field of 0s and 1s refuses its classes and its padding alone
+decode-cells : (h : Header) → CardHeader h → (cells : List ℕ) → FieldCells h cells
+    → decodeNumber (shapeOf h) (blankPayload h) cells
+    ≡ unless (allInReach (classAt (shapeOf h)) (cellsOf (shapeOf h)) (settingsOf (shapeOf h) .m) (fieldOf cells)) 6
+    (unless (paddingOk (classAt (shapeOf h)) (cellsOf (shapeOf h)) (correctedField (shapeOf h) cells)) 7 0)
+unfolding fieldNumber
+decode-cells h card cells each =
+    decode-number (shapeOf h) (card .accepted) (blankPayload h) cells (blank-payload h) (each .long)
+    ∙ rw (cells-ok (fieldOf cells) (cellsOf (shapeOf h)) (each .each))
+
+-- the conditions on what is written and read, and those after the first four lines
+abbrev operationRefusals : List ℕ → List Refusal
+operationRefusals s = refusal 3 (PayloadRefused s) ∷ refusal 6 (ReachRefused s) ∷ refusal 7 (PaddingRefused s) ∷ []
+
+abbrev headerRefusals : List ℕ → List Refusal
+headerRefusals s =
+    refusal 1 (SizeRefused s)
+    ∷ refusal 2 (StrengthRefused s)
+    ∷ refusal 8 (TooManyCells s)
+    ∷ refusal 8 (NoBody s)
+    ∷ operationRefusals s
+
+module _ (s : List ℕ) (h : Header) (next : ℕ) (found : headerOf s ≡ head.Found h next) where
+  -- the operation's own number
+  operation-due : CardHeader h → CardRead s h next → Due (operationRefusals s) (operationNumber s h next)
+  operation-due card (of-payload e bytes text) =
+      let p = payloadOf s next in
+      subst (Due (operationRefusals s)) (sym (operation-payload s h next e ∙ encode-length h card p))
+      (due-test 2 _ (payload-condition s h next found card p bytes text)
+      (λ _.
+      due-skip (no-field s h next found card p bytes text (λ g c. NoneInReach (shapeOf g) c))
+      (due-skip (no-field s h next found card p bytes text (λ g c. WrongPadding (shapeOf g) c)) due-none)))
+  operation-due card (of-field e each text) =
+      let cells = cellsIn s h next in
+      subst (Due (operationRefusals s)) (sym (operation-rows s h next e ∙ decode-cells h card cells each))
+      (due-skip (no-payload s h next found card cells each text)
+      (due-test 5 _ (reach-condition s h next found card cells each text)
+      (λ reach. due-test 6 _ (padding-condition s h next found card cells each text reach) (λ _. due-none))))
+
+  -- the number after the header
+  header-due : Due (headerRefusals s) (numberAfter s (head.Found h next))
+  unfolding numberAfter
+  header-due =
+      due-test 0 _ (size-condition s h next found)
+      (λ size. due-test 1 _ (strength-condition s h next found)
+      (λ strength. due-test 7 _ (cells-condition s h next found)
+      (λ few.
+      let card = card-header h size strength few in
+      due-test 7 _ (body-condition s h next found card)
+      (λ right. operation-due card (card-read s h next found right)))))
+
+-- the number after the input's length
+after-due : (s : List ℕ) (a : HeaderAnswer) → headerOf s ≡ a → Due (refusal 8 (NoHeader s) ∷ headerRefusals s) (numberAfter s a)
+unfolding numberAfter
+after-due s (head.Found h next) found =
+    due-skip (λ none. none (first s h next found)) (header-due s h next found)
+after-due s head.Fault fault = first-due 7 refl (inl (none, refl))
+  where
+    none : NoHeader s
+    none x = let e = first-found s x in let z : _≡_ {A = ℕ} 0 1 = cc in omega arith
+
+-- Theorem (demand 1). The program's number is settled by its conditions in the listed order.
+pub programRefused : ProgramRefused
+unfolding programNumber
+programRefused s =
+    due-settled (programRefusals s) (programNumber s)
+    (due-test 7 _ (at-most (length s) maxInput) (λ _. after-due s (headerOf s) refl))

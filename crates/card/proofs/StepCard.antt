@@ -1,0 +1,185 @@
+-- A card's shape, and the operations on it: what encoding and decoding leave, and the answers that are made of it.
+use Prim.Native.Nat.{ℕ, _*_, _/_, _<_, _≤_}
+use mathlib.Core.Bool.{Bool}
+use mathlib.Core.List.{List, _++_, append-assoc}
+use mathlib.Core.Path.{_≡_, sym, ap, ap₂, _∙_}
+use native.Mathlib.Nat.{le-trans}
+use lib.Dec.{lit≤}
+use lib.ListN.{length}
+use borrow.Author.Tests.{eq-eqb, ne-eqb}
+use Rattle.lattice.specs.declared.shape.Shape.{Shape}
+use Rattle.lattice.specs.declared.shape.NewShape.{NewShape}
+use Rattle.lattice.specs.declared.shape.NewShape.the-variants as new
+use Rattle.lattice.specs.Refusal.{figure}
+use Rattle.lattice.specs.Answer.{newNumber, newShape, IsNewShape}
+use Rattle.lattice.specs.Shape.{shapeNumber, numberOf, cellsOf}
+use Rattle.lattice.specs.Settings.{settingsOf}
+use Rattle.lattice.specs.Class.{classAt}
+use Rattle.lattice.specs.Position.{capacity}
+use Rattle.lattice.proofs.CapacityGiven.{classes-given}
+use Rattle.lattice.proofs.Figure.{figure-given}
+use Rattle.codec.specs.declared.decode.DecodeAnswer.{DecodeAnswer}
+use Rattle.codec.specs.declared.decode.DecodeAnswer.the-variants as dec
+use Rattle.codec.specs.Answer.{decodeAnswerNumber}
+use Rattle.codec.specs.Payload.{Bytes}
+use Rattle.codec.specs.Plan.{planClasses, planCapacity, planBytes}
+use Rattle.codec.specs.Encode.{encodedField, encodeLeaves}
+use Rattle.codec.specs.Decode.{decodeNumber, decodeCount, decodeLeaves}
+use Rattle.codec.proofs.Accepted.{encode-number}
+use Rattle.codec.proofs.FieldLists.{length-listOf}
+use Rattle.card.specs.declared.header.Header.{Header}
+use Rattle.card.specs.Text.{numberLine, headerText, payloadText, fieldText, refusalText, classesKey, mendedKey}
+use Rattle.card.specs.Card.{shapeOf, FieldCells}
+use Rattle.card.specs.Parse.{rowsOk, cellsAt}
+use Rattle.card.specs.Program.{blankPayload, rowsFit, cellsIn, writtenText, readText}
+use Rattle.card.specs.Working.{CardShape, headText, decodedText}
+use Rattle.card.proofs.CardLimits.{limits, rows-most, bytes-most}
+use Rattle.card.proofs.CardPlan.{count-cells, leaves-long}
+use Rattle.card.proofs.PrintedIsRead.{written-cells}
+use Rattle.card.proofs.ProgramParts.{blank-payload}
+use Rattle.card.proofs.StepRows.{cellByte}
+
+-- a shape is its four numbers
+shape-is : (s : Shape) (w h d t : ℕ) → s .columns ≡ w → s .rows ≡ h → s .planes ≡ d → s .strength ≡ t
+    → s ≡ record { columns = w; rows = h; planes = d; strength = t }
+shape-is s w h d t p q r u = rw (← p, ← q, ← r, ← u)
+
+-- the constructor's answer to a header
+module _ (h : Header) (r : NewShape) (x : IsNewShape (h .columns) (h .rows) (h .planes) (h .strength) r) where
+  pub new-size : r ≡ new.BadSize → shapeNumber (h .columns) (h .rows) (h .planes) (h .strength) ≡ 1
+  new-size e = sym (x .number) ∙ ap newNumber e
+
+  pub new-strength : r ≡ new.BadStrength → shapeNumber (h .columns) (h .rows) (h .planes) (h .strength) ≡ 2
+  new-strength e = sym (x .number) ∙ ap newNumber e
+
+  module _ (s : Shape) (e : r ≡ new.Accepted s) where
+    pub new-accepted : shapeNumber (h .columns) (h .rows) (h .planes) (h .strength) ≡ 0
+    new-accepted = sym (x .number) ∙ ap newNumber e
+
+    -- a field of the shape is the header's
+    part : (f : Shape → ℕ) (y : ℕ) → f (newShape r) ≡ figure (shapeNumber (h .columns) (h .rows) (h .planes) (h .strength)) y → f s ≡ y
+    part f y p = ap (λ (t : NewShape). f (newShape t)) (sym e) ∙ p ∙ figure-given _ y new-accepted
+
+    new-shape : s ≡ shapeOf h
+    new-shape =
+        shape-is s (h .columns) (h .rows) (h .planes) (h .strength)
+        (part (λ t. t .columns) _ (x .columns))
+        (part (λ t. t .rows) _ (x .rows))
+        (part (λ t. t .planes) _ (x .planes))
+        (part (λ t. t .strength) _ (x .strength))
+
+    cells-given : (n : ℕ) → n ≡ figure (numberOf s) (cellsOf s) → n ≡ cellsOf (shapeOf h)
+    cells-given n p =
+        p
+        ∙ ap (λ (t : Shape). figure (numberOf t) (cellsOf t)) new-shape
+        ∙ figure-given _ (cellsOf (shapeOf h)) new-accepted
+
+    pub new-many : (n : ℕ) → n ≡ figure (numberOf s) (cellsOf s) → 16384 < n → 16384 < cellsOf (shapeOf h)
+    new-many n p l = rw (cells-given n p) at l
+
+    pub new-card : (n : ℕ) → n ≡ figure (numberOf s) (cellsOf s) → n ≤ 16384 → CardShape h s
+    new-card n p l = record { card = record { accepted = new-accepted; cells = rw (cells-given n p) at l }; shape = new-shape }
+
+-- the number of decoding's answer is at most 7
+pub number-most : (a : DecodeAnswer) → decodeAnswerNumber a ≤ 7
+number-most (dec.Decoded k) = lit≤ tt
+number-most dec.BadSize = lit≤ tt
+number-most dec.BadStrength = lit≤ tt
+number-most dec.PayloadLength = lit≤ tt
+number-most dec.FieldLength = lit≤ tt
+number-most dec.BadCell = lit≤ tt
+number-most dec.OutOfReach = lit≤ tt
+number-most dec.BadPadding = lit≤ tt
+
+-- the figures of a card's shape
+module _ (h : Header) (s : Shape) (x : CardShape h s) where
+  accepted : numberOf s ≡ 0
+  accepted = rw (x .shape) (x .card .accepted)
+
+  pub cells-are : (n : ℕ) → n ≡ figure (numberOf s) (cellsOf s) → n ≡ cellsOf s
+  cells-are n e = e ∙ figure-given (numberOf s) (cellsOf s) accepted
+
+  pub cells-fit : (n : ℕ) → n ≡ figure (numberOf s) (cellsOf s) → n ≤ 16384
+  cells-fit n e = rw (cells-are n e, x .shape) (x .card .cells)
+
+  pub bytes-are : (k : ℕ) → k ≡ figure (numberOf s) (capacity (classAt s) (cellsOf s)) → k / 8 ≡ planBytes s
+  unfolding planBytes planCapacity
+  bytes-are k e = ap (λ (n : ℕ). n / 8) e
+
+  pub bytes-fit : planBytes s ≤ 2048
+  bytes-fit = rw (x .shape) (bytes-most h (x .card))
+
+  pub classes-fit : (m : ℕ) → m ≡ figure (numberOf s) (settingsOf s .m) → m ≤ 512
+  classes-fit m e = rw e (classes-given s)
+
+  pub columns-some : 0 < s .columns
+  columns-some = rw (x .shape) (limits h (x .card) .width-low)
+
+  pub columns-narrow : s .columns ≤ 256
+  columns-narrow = rw (x .shape) (limits h (x .card) .width-high)
+
+  pub lines-most : s .planes * s .rows ≤ 4096
+  lines-most = rw (x .shape) (rows-most h (x .card))
+
+  -- encoding leaves the field written
+  module _ (payload field last : List ℕ) (long : length payload ≡ planBytes s) (cells : length field ≡ cellsOf s) (leaves : last ≡ encodeLeaves s payload field) where
+    pub field-encoded : last ≡ encodedField (shapeOf h) payload
+    unfolding encodeLeaves
+    field-encoded =
+        leaves
+        ∙ rw (encode-number s accepted payload field long cells)
+        (ap (λ (t : Shape). encodedField t payload) (x .shape))
+
+    pub encoded-cells : Bytes payload → FieldCells h last
+    encoded-cells bytes =
+        rw field-encoded (written-cells h (x .card) payload (long ∙ ap planBytes (x .shape)) bytes)
+
+    pub card-written : (m : ℕ) → m ≡ figure (numberOf s) (settingsOf s .m)
+        → headText h classesKey m ++ fieldText h last ≡ writtenText h payload
+    unfolding headText writtenText planClasses
+    card-written m e =
+        append-assoc (headerText h) (numberLine classesKey m) (fieldText h last)
+        ∙ ap₂
+        (λ (n : ℕ) (f : List ℕ). headerText h ++ (numberLine classesKey n ++ fieldText h f))
+        (e ∙ ap (λ (t : Shape). figure (numberOf t) (settingsOf t .m)) (x .shape))
+        field-encoded
+
+  -- decoding, into a payload of zeros
+  module _ (payload cells : List ℕ) (blank : payload ≡ blankPayload h) where
+    same-number : decodeNumber s payload cells ≡ decodeNumber (shapeOf h) (blankPayload h) cells
+    same-number = ap₂ (λ (t : Shape) (p : List ℕ). decodeNumber t p cells) (x .shape) blank
+
+    pub decoded-refused : (n : ℕ) → n ≡ decodeNumber s payload cells → (n ≡ 0 → ⊥) → refusalText n ≡ decodedText h cells
+    unfolding decodedText
+    decoded-refused n e p = rw (← same-number, ← e, ne-eqb n 0 p)
+
+    pub count-fits : (k : ℕ) → k ≡ decodeCount s payload cells → k ≤ 16384
+    count-fits k e = rw e (le-trans (count-cells s payload cells) (rw (x .shape) (x .card .cells)))
+
+    module _ (last : List ℕ) (leaves : last ≡ decodeLeaves s payload cells) where
+      pub decoded-long : length last ≤ 2048
+      decoded-long =
+          rw (leaves, leaves-long s accepted payload cells (ap length blank ∙ blank-payload h ∙ ap planBytes (sym (x .shape)))) bytes-fit
+
+      pub card-decoded : (n k : ℕ) → n ≡ decodeNumber s payload cells → n ≡ 0 → k ≡ decodeCount s payload cells
+          → headText h mendedKey k ++ payloadText last ≡ decodedText h cells
+      unfolding headText decodedText readText
+      card-decoded n k e z f =
+          append-assoc (headerText h) (numberLine mendedKey k) (payloadText last)
+          ∙ ap₂
+          (λ (m : ℕ) (p : List ℕ). headerText h ++ (numberLine mendedKey m ++ payloadText p))
+          (f ∙ ap₂ (λ (t : Shape) (p : List ℕ). decodeCount t p cells) (x .shape) blank)
+          (leaves ∙ ap₂ (λ (t : Shape) (p : List ℕ). decodeLeaves t p cells) (x .shape) blank)
+          ∙ rw (eq-eqb (decodeNumber (shapeOf h) (blankPayload h) cells) 0 (sym same-number ∙ sym e ∙ z))
+
+-- the rows of a card, read by its shape
+module _ (h : Header) (s : Shape) (x : CardShape h s) (input : List ℕ) (next : ℕ) where
+  pub rows-fit : (t : Bool) → t ≡ rowsOk input next (s .columns) (s .planes * s .rows) → t ≡ rowsFit input h next
+  rows-fit t e = e ∙ ap (λ (k : Shape). rowsOk input next (k .columns) (k .planes * k .rows)) (x .shape)
+
+  pub cells-read : (last : List ℕ) (n : ℕ) → n ≡ cellsOf s → last ≡ cellsAt input next (s .columns) n → last ≡ cellsIn input h next
+  cells-read last n e p = p ∙ ap (cellsAt input next (s .columns)) e ∙ ap (λ (k : Shape). cellsAt input next (k .columns) (cellsOf k)) (x .shape)
+
+  pub cells-long : (last : List ℕ) (n : ℕ) → last ≡ cellsAt input next (s .columns) n → length last ≡ n
+  unfolding cellsAt cellByte
+  cells-long last n p = ap length p ∙ length-listOf (cellByte input next (s .columns)) n

@@ -1,0 +1,129 @@
+-- Whole answers: their length, and their parts written one behind the other.
+use Prim.Native.Nat.{ℕ, _+_, _*_, _<_, _≤_}
+use mathlib.Core.List.{List, _++_}
+use mathlib.Core.Path.{_≡_, _∙_}
+use native.Mathlib.Nat.{zero-add, mul-le-mul}
+use native.Mathlib.Omega.{arith}
+use lib.ListN.{length, length-append}
+use borrow.Author.Tests.{le-leb, lt-leb}
+use Rattle.codec.specs.Field.{fieldOf, Cells}
+use Rattle.card.specs.declared.header.Header.{Header}
+use Rattle.card.specs.Text.{numberLine, headerText, columnsKey, rowsKey, planesKey, strengthKey}
+use Rattle.card.specs.Card.{FieldCells, CardHeader}
+use Rattle.card.specs.Program.{outputLeaves}
+use Rattle.card.specs.Working.{Room, Printed, Answered, headText}
+use Rattle.card.proofs.CardLimits.{limits, rows-most}
+use Rattle.card.proofs.DecimalText.{digit-count-range}
+use Rattle.card.proofs.HeaderText.{header-most}
+use Rattle.card.proofs.LineText.{length-line}
+use Rattle.card.proofs.StepPrint.{printed-then, printed-front, room-first, room-next}
+
+-- an output that is too short is left as it was
+pub answered-short : (text before : List ℕ) (r : ℕ) → r ≡ length text → length before < r → Answered text before before r
+unfolding outputLeaves
+answered-short text before r e l = record { long = e; leaves = rw (lt-leb (length text) (length before) (omega arith)) }
+
+-- one that is long enough has the answer at its front
+pub answered-printed : {text before after : List ℕ} {r : ℕ} → Room before 0 text → Printed before after 0 text r → Answered text before after r
+unfolding outputLeaves
+answered-printed {text} {before} room p =
+    record {
+      long = p .behind ∙ zero-add (length text);
+      leaves = rw (le-leb (length text) (length before) (omega (arith, room .fits))) (printed-front p);
+    }
+
+pub room-front : (text before : List ℕ) (r : ℕ) → r ≡ length text → r ≤ length before → Room before 0 text
+room-front text before r e l = record { fits = omega arith }
+
+-- the first lines
+module _ (h : Header) where
+  abbrev second : List ℕ
+  second = numberLine rowsKey (h .rows)
+
+  abbrev third : List ℕ
+  third = numberLine planesKey (h .planes)
+
+  abbrev fourth : List ℕ
+  fourth = numberLine strengthKey (h .strength)
+
+module _ {xs : List ℕ} {at : ℕ} (h : Header) (room : Room xs at (headerText h)) where
+  whole : Room xs at (numberLine columnsKey (h .columns) ++ (second h ++ (third h ++ fourth h)))
+  unfolding headerText
+  whole = room
+
+  pub first-room : Room xs at (numberLine columnsKey (h .columns))
+  first-room = room-first (second h ++ (third h ++ fourth h)) whole
+
+  module _ {ys : List ℕ} {m : ℕ} (p : Printed xs ys at (numberLine columnsKey (h .columns)) m) where
+    rows-rest : Room ys m (second h ++ (third h ++ fourth h))
+    rows-rest = room-next whole p
+
+    pub second-room : Room ys m (second h)
+    second-room = room-first (third h ++ fourth h) rows-rest
+
+    module _ {zs : List ℕ} {n : ℕ} (q : Printed ys zs m (second h) n) where
+      planes-rest : Room zs n (third h ++ fourth h)
+      planes-rest = room-next rows-rest q
+
+      pub third-room : Room zs n (third h)
+      third-room = room-first (fourth h) planes-rest
+
+      module _ {us : List ℕ} {k : ℕ} (r : Printed zs us n (third h) k) where
+        pub fourth-room : Room us k (fourth h)
+        fourth-room = room-next planes-rest r
+
+        pub header-printed : {vs : List ℕ} {next : ℕ} → Printed us vs k (fourth h) next → Printed xs vs at (headerText h) next
+        unfolding headerText
+        header-printed f = printed-then whole p (printed-then rows-rest q (printed-then planes-rest r f))
+
+-- the head of a success
+module _ {xs : List ℕ} {at : ℕ} (h : Header) (key : List ℕ) (n : ℕ) (room : Room xs at (headText h key n)) where
+  both : Room xs at (headerText h ++ numberLine key n)
+  unfolding headText
+  both = room
+
+  pub header-room : Room xs at (headerText h)
+  header-room = room-first (numberLine key n) both
+
+  module _ {ys : List ℕ} {m : ℕ} (p : Printed xs ys at (headerText h) m) where
+    pub line-room : Room ys m (numberLine key n)
+    line-room = room-next both p
+
+    pub head-printed : {zs : List ℕ} {next : ℕ} → Printed ys zs m (numberLine key n) next → Printed xs zs at (headText h key n) next
+    unfolding headText
+    head-printed q = printed-then both p q
+
+pub length-head : (h : Header) (key : List ℕ) (n : ℕ) → length (headText h key n) ≡ length (headerText h) + length (numberLine key n)
+unfolding headText
+length-head h key n = length-append (headerText h) (numberLine key n)
+
+-- the head is short
+module _ (h : Header) where
+  pub head-most : (key : List ℕ) (n : ℕ) → length (headText h key n) ≤ 59 + length key
+  head-most key n = omega (arith, length-head h key n, header-most h, length-line key n, digit-count-range n)
+
+-- a success: the head and the rest
+module _ (h : Header) (key : List ℕ) (n : ℕ) (rest : List ℕ) where
+  pub length-success : (r k : ℕ) → r ≡ length (headText h key n) → k ≡ length rest → r + k ≡ length (headText h key n ++ rest)
+  length-success r k e f = omega (arith, length-append (headText h key n) rest)
+
+  module _ {xs : List ℕ} (room : Room xs 0 (headText h key n ++ rest)) {ys : List ℕ} {m : ℕ} (p : Printed xs ys 0 (headText h key n) m) where
+    pub rest-room : Room ys m rest
+    rest-room = room-next room p
+
+    pub success-answered : {zs : List ℕ} {r : ℕ} → Printed ys zs m rest r → Answered (headText h key n ++ rest) xs zs r
+    success-answered q = answered-printed room (printed-then room p q)
+
+-- the rows of a field
+module _ (h : Header) (cells : List ℕ) (f : FieldCells h cells) where
+  pub field-long : length cells ≡ h .planes * h .rows * h .columns
+  field-long = f .long ∙ omega arith
+
+  pub field-each : Cells (fieldOf cells) (length cells)
+  field-each = rw (f .long) (f .each)
+
+-- its length fits
+pub rows-far : (h : Header) → CardHeader h → h .planes * h .rows * (h .columns + 5) ≤ 1069056
+rows-far h card =
+    let wide : h .columns + 5 ≤ 261 = omega (arith, limits h card .width-high) in
+    mul-le-mul (rows-most h card) wide

@@ -1,0 +1,116 @@
+use Prim.Native.Nat.{_+_, _-_, _*_, _≤_, zero-le}
+use mathlib.Core.Bool.{true}
+use mathlib.Core.Path.{_≡_, _∙_}
+use native.Mathlib.Nat.{le-refl}
+use native.Mathlib.Omega.{arith}
+use lib.ListN.{length, length-set}
+use Rattle.card.specs.Parse.{isHex}
+use Rattle.card.proofs.StepPayload.{payloadByte, payload-room, payload-digit, payload-byte, payload-stored, value-below}
+use Rattle.card.proofs.StepStored.{Stored, stored-none, stored-more}
+use Rattle.card.proofs.body.fill_payload.Statement.{statement}
+use Rattle.card.proofs.body.fill_payload.Tie as tie
+
+abbrev Inv-loop : tie.InvT-loop
+Inv-loop text at payload₀ start j₀ payload j = (j ≤ length payload) × Stored (payloadByte text at) payload₀ payload j
+
+abbrev μ-loop : tie.MeasureT-loop
+μ-loop text at payload₀ start j₀ payload j = length payload - j
+
+high : (c : tie.After-byte-at Inv-loop μ-loop) → isHex (c .byte-at .result) ≡ true
+high c =
+    payload-digit (c .before .before .before .before .before .args .text .now) (c .before .before .before .before .before .args .at) (c .before .before .before .before .before .pre .0) _ (c .before .before .loop .j) (2 * c .before .before .loop .j) _
+    (c .before .before .loop .inv .1 .long ∙ c .before .before .before .before .before .pre .1)
+    (c .before .loop-test .taken)
+    (omega arith)
+    (c .byte-at .ensures)
+
+low : (c : tie.After-byte-at2 Inv-loop μ-loop) → isHex (c .byte-at2 .result) ≡ true
+low c =
+    payload-digit (c .before .before .before .before .before .before .before .args .text .now) (c .before .before .before .before .before .before .before .args .at) (c .before .before .before .before .before .before .before .pre .0) _ (c .before .before .before .before .loop .j) (2 * c .before .before .before .before .loop .j + 1) _
+    (c .before .before .before .before .loop .inv .1 .long ∙ c .before .before .before .before .before .before .before .pre .1)
+    (c .before .before .before .loop-test .taken)
+    (le-refl _)
+    (c .byte-at2 .ensures)
+
+add-start : tie.Need-add-start Inv-loop μ-loop
+add-start c = omega (arith, payload-room _ _ (c .before .before .pre .0))
+
+loop-holds : tie.Need-loop-holds Inv-loop μ-loop
+loop-holds c = (zero-le, stored-none _ _)
+
+mul-byte-at : tie.Need-mul-byte-at Inv-loop μ-loop
+mul-byte-at c = omega arith
+
+byte-at-requires : tie.Need-byte-at-requires Inv-loop μ-loop
+byte-at-requires c κs = tt
+
+hex-value-requires : tie.Need-hex-value-requires Inv-loop μ-loop
+hex-value-requires c κs = high c
+
+mul-byte-at-2 : tie.Need-mul-byte-at-2 Inv-loop μ-loop
+mul-byte-at-2 c = omega arith
+
+add-byte-at : tie.Need-add-byte-at Inv-loop μ-loop
+add-byte-at c = omega arith
+
+byte-at-requires-2 : tie.Need-byte-at-requires-2 Inv-loop μ-loop
+byte-at-requires-2 c κs = tt
+
+hex-value-requires-2 : tie.Need-hex-value-requires-2 Inv-loop μ-loop
+hex-value-requires-2 c κs = low c
+
+mul-payload : tie.Need-mul-payload Inv-loop μ-loop
+mul-payload c = omega (arith, value-below _ (high (c .before .before .before)) _ (c .before .before .hex-value .ensures))
+
+add-payload : tie.Need-add-payload Inv-loop μ-loop
+add-payload c = omega (arith, value-below _ (high (c .before .before .before)) _ (c .before .before .hex-value .ensures), value-below _ (low (c .before)) _ (c .hex-value2 .ensures))
+
+slice-write-payload : tie.Need-slice-write-payload Inv-loop μ-loop
+slice-write-payload c = omega arith
+
+add-j : tie.Need-add-j Inv-loop μ-loop
+add-j c = omega arith
+
+loop-less : tie.Need-loop-less Inv-loop μ-loop
+loop-less c = simp length-set (omega arith)
+
+loop-again : tie.Need-loop-again Inv-loop μ-loop
+loop-again c = (
+  simp length-set (omega arith),
+  stored-more
+      _ _ _ _
+      (c .before .before .before .before .before .loop .inv .1)
+      _
+      (c .before .before .before .before .loop-test .taken)
+      (payload-byte (c .before .before .before .before .before .before .before .before .args .text .now) (c .before .before .before .before .before .before .before .before .args .at) _ _ _ _ _ (c .before .before .before .byte-at .ensures) (c .before .byte-at2 .ensures) (c .before .before .hex-value .ensures) (c .hex-value2 .ensures)),
+)
+
+same-length : tie.Need-same-length Inv-loop μ-loop
+same-length c = c .before .loop .inv .1 .long
+
+returns : tie.Need-returns Inv-loop μ-loop
+returns c = payload-stored _ _ _ _ _ (c .before .before .before .before .pre .1) (c .before .loop .inv .1) (c .before .loop .inv .0) (c .loop-test .left)
+
+pub fill-payload-spec : {M : Type 1} → statement M
+fill-payload-spec =
+    tie.close
+    (tie.spec
+    Inv-loop
+    μ-loop
+    add-start
+    loop-holds
+    mul-byte-at
+    byte-at-requires
+    hex-value-requires
+    mul-byte-at-2
+    add-byte-at
+    byte-at-requires-2
+    hex-value-requires-2
+    mul-payload
+    add-payload
+    slice-write-payload
+    add-j
+    loop-less
+    loop-again
+    same-length
+    returns)

@@ -1,0 +1,81 @@
+use Prim.Native.Nat.{_-_, _≤_, zero-le}
+use native.Mathlib.Omega.{arith}
+use Rattle.lattice.proofs.Bools.{failed, passed}
+use Rattle.codec.proofs.StepTest.{Passed, passed-none, passed-more}
+use Rattle.card.specs.Parse.{rowOk}
+use Rattle.card.proofs.StepRows.{rows-behind, rows-long, rows-product, row-product, row-inside, row-moved, rows-fail, rows-pass}
+use Rattle.card.proofs.body.rows_ok.Statement.{statement}
+use Rattle.card.proofs.body.rows_ok.Tie as tie
+
+abbrev Inv-loop : tie.InvT-loop
+Inv-loop text at columns rows width lines r₀ r = (r ≤ lines) × Passed (rowOk text at columns) r
+
+abbrev μ-loop : tie.MeasureT-loop
+μ-loop text at columns rows width lines r₀ r = lines - r
+
+returns : tie.Need-returns Inv-loop μ-loop
+returns c = rows-behind _ _ _ _ (c .if1 .taken)
+
+sub-if2 : tie.Need-sub-if2 Inv-loop μ-loop
+sub-if2 c = omega arith
+
+add-if2 : tie.Need-add-if2 Inv-loop μ-loop
+add-if2 c = omega arith
+
+mul-if2 : tie.Need-mul-if2 Inv-loop μ-loop
+mul-if2 c = omega (arith, rows-product (c .before .before .args .text .now) (c .before .before .args .at) (c .before .before .args .columns) (c .before .before .args .rows) (c .before .before .fits .rows .fits) (c .before .before .fits .columns .fits))
+
+returns-2 : tie.Need-returns-2 Inv-loop μ-loop
+returns-2 c = rows-long _ _ _ _ (c .before .if1 .left) (c .if2 .taken)
+
+loop-holds : tie.Need-loop-holds Inv-loop μ-loop
+loop-holds c = (zero-le, passed-none _)
+
+add-row-ok : tie.Need-add-row-ok Inv-loop μ-loop
+add-row-ok c = omega arith
+
+mul-row-ok : tie.Need-mul-row-ok Inv-loop μ-loop
+mul-row-ok c = omega (arith, row-product (c .before .before .before .before .before .args .text .now) (c .before .before .before .before .before .args .at) (c .before .before .before .before .before .args .columns) (c .before .before .before .before .before .args .rows) (c .before .before .before .if1 .left) (c .before .before .if2 .left) _ (c .loop-test .taken))
+
+add-row-ok-2 : tie.Need-add-row-ok-2 Inv-loop μ-loop
+add-row-ok-2 c = omega (arith, row-inside (c .before .before .before .before .before .args .text .now) (c .before .before .before .before .before .args .at) (c .before .before .before .before .before .args .columns) (c .before .before .before .before .before .args .rows) (c .before .before .before .if1 .left) (c .before .before .if2 .left) _ (c .loop-test .taken))
+
+row-ok-requires : tie.Need-row-ok-requires Inv-loop μ-loop
+row-ok-requires c κs = row-inside (c .before .before .before .before .before .args .text .now) (c .before .before .before .before .before .args .at) (c .before .before .before .before .before .args .columns) (c .before .before .before .before .before .args .rows) (c .before .before .before .if1 .left) (c .before .before .if2 .left) _ (c .loop-test .taken)
+
+returns-3 : tie.Need-returns-3 Inv-loop μ-loop
+returns-3 c = rows-fail (c .before .before .before .before .before .before .before .args .text .now) (c .before .before .before .before .before .before .before .args .at) (c .before .before .before .before .before .before .before .args .columns) (c .before .before .before .before .before .before .before .args .rows) (c .before .before .before .before .before .if1 .left) (c .before .before .before .before .if2 .left) _ (c .before .before .loop-test .taken) (failed _ _ (c .if3 .taken) (row-moved (c .before .before .before .before .before .before .before .args .text .now) (c .before .before .before .before .before .before .before .args .at) (c .before .before .before .before .before .before .before .args .columns) (c .before .before .before .before .before .before .before .args .rows) (c .before .before .before .before .before .if1 .left) (c .before .before .before .before .if2 .left) _ _ (c .before .row-ok .ensures)))
+
+add-r : tie.Need-add-r Inv-loop μ-loop
+add-r c = omega arith
+
+loop-less : tie.Need-loop-less Inv-loop μ-loop
+loop-less c = omega arith
+
+loop-again : tie.Need-loop-again Inv-loop μ-loop
+loop-again c = (omega arith, passed-more _ _ (c .before .before .before .loop .inv .1) (passed _ _ (c .if3 .left) (row-moved (c .before .before .before .before .before .before .before .args .text .now) (c .before .before .before .before .before .before .before .args .at) (c .before .before .before .before .before .before .before .args .columns) (c .before .before .before .before .before .before .before .args .rows) (c .before .before .before .before .before .if1 .left) (c .before .before .before .before .if2 .left) _ _ (c .before .row-ok .ensures))))
+
+returns-4 : tie.Need-returns-4 Inv-loop μ-loop
+returns-4 c = rows-pass (c .before .before .before .before .before .args .text .now) (c .before .before .before .before .before .args .at) (c .before .before .before .before .before .args .columns) (c .before .before .before .before .before .args .rows) (c .before .before .before .if1 .left) (c .before .before .if2 .left) _ (c .before .loop .inv .1) (c .before .loop .inv .0) (c .loop-test .left)
+
+pub rows-ok-spec : {M : Type 1} → statement M
+rows-ok-spec =
+    tie.close
+    (tie.spec
+    Inv-loop
+    μ-loop
+    returns
+    sub-if2
+    add-if2
+    mul-if2
+    returns-2
+    loop-holds
+    add-row-ok
+    mul-row-ok
+    add-row-ok-2
+    row-ok-requires
+    returns-3
+    add-r
+    loop-less
+    loop-again
+    returns-4)

@@ -1,0 +1,57 @@
+use borrow.Author.Needs.{needs}
+use Prim.Native.Nat.{_≤_}
+use mathlib.Core.Path.{sym}
+use lib.ListN.{length, take}
+use lib.Dec.{lit≤}
+use lib.Seq.{length-take-le}
+use Rattle.card.proofs.StepRun.{answer-within}
+use Rattle.card.proofs.main.Statement.{statement}
+use Rattle.card.proofs.main.Tie as tie
+
+within : (c : tie.After-answer-card) → c .answer-card .result ≤ length (c .answer-card .last .1 .0)
+within c = answer-within (take (c .before .before .before .before .read-full .result) (c .before .before .before .before .read-full .last .1 .0)) (c .answer-card .last .1 .0) _ 36915 (lit≤ tt) (c .answer-card .ensures .0) (c .answer-card .kept .1 .0)
+
+slice-aggregate-read-full : tie.Need-slice-aggregate-read-full
+slice-aggregate-read-full c = search needs
+
+read-full-requires : tie.Need-read-full-requires
+read-full-requires c κs = search needs
+
+array-share-prefix-input : tie.Need-array-share-prefix-input
+array-share-prefix-input c = search needs
+
+slice-aggregate-answer-card : tie.Need-slice-aggregate-answer-card
+slice-aggregate-answer-card c = search needs
+
+slice-aggregate-answer-card-2 : tie.Need-slice-aggregate-answer-card-2
+slice-aggregate-answer-card-2 c = search needs
+
+answer-card-requires : tie.Need-answer-card-requires
+answer-card-requires c κs = search needs
+
+array-share-prefix-output : tie.Need-array-share-prefix-output
+array-share-prefix-output c = within (c .before)
+
+slice-aggregate-write-all : tie.Need-slice-aggregate-write-all
+slice-aggregate-write-all c = sym (length-take-le _ (c .before .before .answer-card .last .1 .0) (within (c .before .before)))
+
+write-all-requires : tie.Need-write-all-requires
+write-all-requires c κs = search needs
+
+returns : tie.Need-returns
+returns c = search needs
+
+pub main-spec : {M : Type 1} → statement M
+main-spec =
+    tie.close
+    (tie.spec
+    slice-aggregate-read-full
+    read-full-requires
+    array-share-prefix-input
+    slice-aggregate-answer-card
+    slice-aggregate-answer-card-2
+    answer-card-requires
+    array-share-prefix-output
+    slice-aggregate-write-all
+    write-all-requires
+    returns)

@@ -1,0 +1,105 @@
+use borrow.Author.Needs.{needs}
+use Prim.Native.Nat.{ℕ, _<_}
+use native.Mathlib.Omega.{arith}
+use borrow.Fn.Kinds.{In}
+use borrow.Fn.PlainCycle.{Measures, is, falls, and}
+use Rattle.card.proofs.StepText.{digits-done, digits-room, last-room, digits-printed}
+use Rattle.card.proofs.print.put_digits.Reads as put-digits
+use Rattle.card.proofs.print.put_digits.Kinds as put-digits-kinds
+use Rattle.card.proofs.print.+put_digits.Lts-put_digits as put-digits-lts
+use Rattle.card.proofs.print.put_byte.Reads as put-byte-reads
+use Rattle.card.proofs.print.+put_digits.{statement}
+use Rattle.card.proofs.print.+put_digits.Tie.{close}
+
+abbrev μ-put-digits : Measures 1 put-digits-kinds.ps ℕ
+μ-put-digits κs a = a .1 .1 .0
+
+abbrev put-digits-at : ℕ → In 1 put-digits-kinds.ps
+put-digits-at t =
+    and 1 put-digits-kinds.ps (is 1 put-digits-kinds.ps μ-put-digits t) put-digits.Pre
+
+abbrev put-digits-below : ℕ → In 1 put-digits-kinds.ps
+put-digits-below t =
+    and 1 put-digits-kinds.ps (falls 1 put-digits-kinds.ps _<_ μ-put-digits t) put-digits.Pre
+
+put-digits-returns : (t : ℕ) → put-digits-lts.Need-returns (
+  put-digits-below t,
+  put-digits.Post,
+  put-byte-reads.Asked,
+  put-byte-reads.Learnt,
+) (put-digits-at t) put-digits.Post
+put-digits-returns t c = digits-done _ _ (c .before .before .pre .1) (c .if1 .taken)
+
+put-digits-sub-put-digits : (t : ℕ) → put-digits-lts.Need-sub-put-digits (
+  put-digits-below t,
+  put-digits.Post,
+  put-byte-reads.Asked,
+  put-byte-reads.Learnt,
+) (put-digits-at t) put-digits.Post
+put-digits-sub-put-digits t c = omega (arith, c .before .if1 .left)
+
+put-digits-put-digits-requires : (t : ℕ) → put-digits-lts.Need-put-digits-requires (
+  put-digits-below t,
+  put-digits.Post,
+  put-byte-reads.Asked,
+  put-byte-reads.Learnt,
+) (put-digits-at t) put-digits.Post
+put-digits-put-digits-requires t c κs = (omega (arith, c .before .if1 .left, c .before .before .before .pre .0), digits-room _ _ (c .before .before .before .pre .1) (c .before .if1 .left))
+
+put-digits-cast-put-byte : (t : ℕ) → put-digits-lts.Need-cast-put-byte (
+  put-digits-below t,
+  put-digits.Post,
+  put-byte-reads.Asked,
+  put-byte-reads.Learnt,
+) (put-digits-at t) put-digits.Post
+put-digits-cast-put-byte t c = omega arith
+
+put-digits-add-put-byte : (t : ℕ) → put-digits-lts.Need-add-put-byte (
+  put-digits-below t,
+  put-digits.Post,
+  put-byte-reads.Asked,
+  put-byte-reads.Learnt,
+) (put-digits-at t) put-digits.Post
+put-digits-add-put-byte t c = omega arith
+
+put-digits-put-byte-requires : (t : ℕ) → put-digits-lts.Need-put-byte-requires (
+  put-digits-below t,
+  put-digits.Post,
+  put-byte-reads.Asked,
+  put-byte-reads.Learnt,
+) (put-digits-at t) put-digits.Post
+put-digits-put-byte-requires t c κs = last-room _ _ (c .before .before .before .before .before .before .before .pre .1) (c .before .before .before .before .before .if1 .left) (c .before .before .before .put-digits .ensures)
+
+put-digits-same-length : (t : ℕ) → put-digits-lts.Need-same-length (
+  put-digits-below t,
+  put-digits.Post,
+  put-byte-reads.Asked,
+  put-byte-reads.Learnt,
+) (put-digits-at t) put-digits.Post
+put-digits-same-length t c = search needs
+
+put-digits-returns-2 : (t : ℕ) → put-digits-lts.Need-returns-2 (
+  put-digits-below t,
+  put-digits.Post,
+  put-byte-reads.Asked,
+  put-byte-reads.Learnt,
+) (put-digits-at t) put-digits.Post
+put-digits-returns-2 t c = digits-printed _ _ (c .before .before .before .before .before .before .before .before .before .before .pre .1) (c .before .before .before .before .before .before .before .before .if1 .left) (c .before .before .before .before .before .before .put-digits .ensures) (c .before .before .put-byte .ensures)
+
+pub +put-digits-spec : {M : Type 1} → statement M
++put-digits-spec = close μ-put-digits λ t. put-digits-lts.spec (
+  put-digits-below t,
+  put-digits.Post,
+  put-byte-reads.Asked,
+  put-byte-reads.Learnt,
+)
+    (put-digits-at t)
+    put-digits.Post
+    (put-digits-returns t)
+    (put-digits-sub-put-digits t)
+    (put-digits-put-digits-requires t)
+    (put-digits-cast-put-byte t)
+    (put-digits-add-put-byte t)
+    (put-digits-put-byte-requires t)
+    (put-digits-same-length t)
+    (put-digits-returns-2 t)

@@ -1,0 +1,21 @@
+use borrow.Author.Needs.{needs}
+use native.Mathlib.Omega.{arith}
+use Rattle.card.proofs.LineText.{length-line}
+use Rattle.card.proofs.DecimalText.{digit-count-range}
+use Rattle.card.proofs.print.number_line_length.Statement.{statement}
+use Rattle.card.proofs.print.number_line_length.Tie as tie
+
+digit-count-requires : tie.Need-digit-count-requires
+digit-count-requires c κs = search needs
+
+add-result : tie.Need-add-result
+add-result c = omega (arith, digit-count-range (c .before .before .args .n), c .digit-count .ensures)
+
+add-result-2 : tie.Need-add-result-2
+add-result-2 c = omega (arith, digit-count-range (c .before .before .args .n), c .digit-count .ensures)
+
+returns : tie.Need-returns
+returns c = omega (arith, length-line (c .before .before .args .key .now) (c .before .before .args .n), c .digit-count .ensures)
+
+pub number-line-length-spec : {M : Type 1} → statement M
+number-line-length-spec = tie.close (tie.spec digit-count-requires add-result add-result-2 returns)

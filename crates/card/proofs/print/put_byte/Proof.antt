@@ -1,0 +1,20 @@
+use borrow.Author.Needs.{needs}
+use native.Mathlib.Omega.{arith}
+use Rattle.card.proofs.StepPrint.{printed-one}
+use Rattle.card.proofs.print.put_byte.Statement.{statement}
+use Rattle.card.proofs.print.put_byte.Tie as tie
+
+slice-write-out : tie.Need-slice-write-out
+slice-write-out c = omega arith
+
+add-result : tie.Need-add-result
+add-result c = omega arith
+
+same-length : tie.Need-same-length
+same-length c = search needs
+
+returns : tie.Need-returns
+returns c = printed-one _ _ _ (c .pre)
+
+pub put-byte-spec : {M : Type 1} → statement M
+put-byte-spec = tie.close (tie.spec slice-write-out add-result same-length returns)

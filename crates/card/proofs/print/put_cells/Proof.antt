@@ -1,0 +1,69 @@
+use Prim.Native.Nat.{_+_, _-_, _≤_, _<_, zero-le}
+use native.Mathlib.Omega.{arith}
+use lib.ListN.{length, take}
+use Rattle.card.specs.Text.{cellsText}
+use Rattle.card.specs.Working.{Printed}
+use Rattle.card.proofs.StepText.{length-cells, cell-digit}
+use Rattle.card.proofs.StepPrint.{prefix-none, prefix-more, prefix-index, prefix-long, prefix-all}
+use Rattle.card.proofs.print.put_cells.Statement.{statement}
+use Rattle.card.proofs.print.put_cells.Tie as tie
+
+abbrev Inv-loop : tie.InvT-loop
+Inv-loop out₀ at cells i₀ out i = (i ≤ length cells) × Printed out₀ out at (take i (cellsText cells)) (at + i)
+
+abbrev μ-loop : tie.MeasureT-loop
+μ-loop out₀ at cells i₀ out i = length cells - i
+
+inside : (c : tie.In-loop Inv-loop μ-loop) → c .before .loop .i < length (cellsText (c .before .before .args .cells .now))
+inside c = omega (arith, length-cells (c .before .before .args .cells .now))
+
+loop-holds : tie.Need-loop-holds Inv-loop μ-loop
+loop-holds c = (zero-le, prefix-none (c .pre .0))
+
+shared-slice-read-out : tie.Need-shared-slice-read-out Inv-loop μ-loop
+shared-slice-read-out c = omega arith
+
+add-out : tie.Need-add-out Inv-loop μ-loop
+add-out c = omega (arith, length-cells (c .before .before .before .args .cells .now), c .before .before .before .pre .0 .fits, c .before .before .before .pre .1 (c .before .before .loop .i) (c .before .loop-test .taken))
+
+add-out-2 : tie.Need-add-out-2 Inv-loop μ-loop
+add-out-2 c = omega (arith, length-cells (c .before .before .before .args .cells .now), c .before .before .before .pre .0 .fits, c .before .before .before .pre .1 (c .before .before .loop .i) (c .before .loop-test .taken))
+
+slice-write-out : tie.Need-slice-write-out Inv-loop μ-loop
+slice-write-out c = prefix-index (c .before .before .before .pre .0) _ (inside (c .before)) (c .before .before .loop .inv .1)
+
+add-i : tie.Need-add-i Inv-loop μ-loop
+add-i c = omega arith
+
+loop-less : tie.Need-loop-less Inv-loop μ-loop
+loop-less c = omega arith
+
+loop-again : tie.Need-loop-again Inv-loop μ-loop
+loop-again c = (omega arith, prefix-more (c .before .before .before .pre .0) _ _ (inside (c .before)) (cell-digit (c .before .before .before .args .cells .now) _ (c .before .loop-test .taken)) (c .before .before .loop .inv .1))
+
+add-result : tie.Need-add-result Inv-loop μ-loop
+add-result c = omega (arith, length-cells (c .before .before .args .cells .now), c .before .before .pre .0 .fits)
+
+same-length : tie.Need-same-length Inv-loop μ-loop
+same-length c = prefix-long (c .before .before .pre .0) _ (omega (arith, length-cells (c .before .before .args .cells .now))) (c .before .loop .inv .1)
+
+returns : tie.Need-returns Inv-loop μ-loop
+returns c = prefix-all (c .before .before .pre .0) _ _ (length-cells (c .before .before .args .cells .now)) (c .before .loop .inv .0) (c .loop-test .left) (c .before .loop .inv .1)
+
+pub put-cells-spec : {M : Type 1} → statement M
+put-cells-spec =
+    tie.close
+    (tie.spec
+    Inv-loop
+    μ-loop
+    loop-holds
+    shared-slice-read-out
+    add-out
+    add-out-2
+    slice-write-out
+    add-i
+    loop-less
+    loop-again
+    add-result
+    same-length
+    returns)

@@ -1,0 +1,39 @@
+use borrow.Author.Needs.{needs}
+use mathlib.Core.List.{[], _∷_, _++_}
+use mathlib.Core.Path.{_≡_, refl}
+use Rattle.card.specs.Text.{digits, digitCount, numberLine}
+use Rattle.card.proofs.StepLines.{key-room, value-room, feed-room, line-printed, number-parts}
+use Rattle.card.proofs.print.put_number_line.Statement.{statement}
+use Rattle.card.proofs.print.put_number_line.Tie as tie
+
+line : (c : tie.After-digit-count) → numberLine (c .before .before .before .before .before .before .before .before .args .key .now) (c .before .before .before .before .before .before .before .before .args .n) ≡ c .before .before .before .before .before .before .before .before .args .key .now ++ (digits (c .digit-count .result) (c .before .before .before .before .before .before .before .before .args .n) ++ (10 ∷ []))
+line c = number-parts (c .before .before .before .before .before .before .before .before .args .key .now) (c .before .before .before .before .before .before .before .before .args .n) _ (c .digit-count .ensures)
+
+put-bytes-requires : tie.Need-put-bytes-requires
+put-bytes-requires c κs = key-room _ (digits (digitCount (c .before .before .before .args .n)) (c .before .before .before .args .n)) (number-parts (c .before .before .before .args .key .now) (c .before .before .before .args .n) _ refl) (c .before .before .before .pre)
+
+digit-count-requires : tie.Need-digit-count-requires
+digit-count-requires c κs = search needs
+
+put-digits-requires : tie.Need-put-digits-requires
+put-digits-requires c κs = value-room _ _ (line c) (c .before .before .before .before .before .before .before .before .pre) (c .before .before .before .before .put-bytes .ensures)
+
+put-byte-requires : tie.Need-put-byte-requires
+put-byte-requires c κs = feed-room _ _ (line (c .before .before .before .before)) (c .before .before .before .before .before .before .before .before .before .before .before .before .pre) (c .before .before .before .before .before .before .before .before .put-bytes .ensures) (c .before .before .before .put-digits .ensures)
+
+same-length : tie.Need-same-length
+same-length c = search needs
+
+returns : tie.Need-returns
+returns c = line-printed _ _ (line (c .before .before .before .before .before .before .before)) (c .before .before .before .before .before .before .before .before .before .before .before .before .before .before .before .pre) (c .before .before .before .before .before .before .before .before .before .before .before .put-bytes .ensures) (c .before .before .before .before .before .before .put-digits .ensures) (c .before .before .put-byte .ensures)
+
+pub put-number-line-spec : {M : Type 1} → statement M
+put-number-line-spec =
+    tie.close
+    (tie.spec
+    put-bytes-requires
+    digit-count-requires
+    put-digits-requires
+    put-byte-requires
+    same-length
+    returns)

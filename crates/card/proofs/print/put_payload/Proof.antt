@@ -1,0 +1,34 @@
+use borrow.Author.Needs.{needs}
+use Rattle.card.specs.Text.{payloadKey, hexText}
+use Rattle.card.proofs.StepLines.{key-room, value-room, feed-room, line-printed, payload-parts}
+use Rattle.card.proofs.print.put_payload.Statement.{statement}
+use Rattle.card.proofs.print.put_payload.Tie as tie
+
+slice-aggregate-put-bytes : tie.Need-slice-aggregate-put-bytes
+slice-aggregate-put-bytes c = search needs
+
+put-bytes-requires : tie.Need-put-bytes-requires
+put-bytes-requires c κs = key-room payloadKey (hexText (c .before .before .before .before .args .payload .now)) (payload-parts (c .before .before .before .before .args .payload .now)) (c .before .before .before .before .pre)
+
+put-hex-requires : tie.Need-put-hex-requires
+put-hex-requires c κs = value-room _ _ (payload-parts (c .before .before .before .before .before .before .before .before .args .payload .now)) (c .before .before .before .before .before .before .before .before .pre) (c .before .before .before .put-bytes .ensures)
+
+put-byte-requires : tie.Need-put-byte-requires
+put-byte-requires c κs = feed-room _ _ (payload-parts (c .before .before .before .before .before .before .before .before .before .before .before .before .args .payload .now)) (c .before .before .before .before .before .before .before .before .before .before .before .before .pre) (c .before .before .before .before .before .before .before .put-bytes .ensures) (c .before .before .before .put-hex .ensures)
+
+same-length : tie.Need-same-length
+same-length c = search needs
+
+returns : tie.Need-returns
+returns c = line-printed _ _ (payload-parts (c .before .before .before .before .before .before .before .before .before .before .before .before .before .before .before .args .payload .now)) (c .before .before .before .before .before .before .before .before .before .before .before .before .before .before .before .pre) (c .before .before .before .before .before .before .before .before .before .before .put-bytes .ensures) (c .before .before .before .before .before .before .put-hex .ensures) (c .before .before .put-byte .ensures)
+
+pub put-payload-spec : {M : Type 1} → statement M
+put-payload-spec =
+    tie.close
+    (tie.spec
+    slice-aggregate-put-bytes
+    put-bytes-requires
+    put-hex-requires
+    put-byte-requires
+    same-length
+    returns)

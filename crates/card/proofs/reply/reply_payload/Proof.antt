@@ -1,0 +1,70 @@
+use borrow.Author.Needs.{needs}
+use Prim.Native.Nat.{_+_, _*_}
+use mathlib.Core.List.{_++_}
+use mathlib.Core.Path.{_≡_, sym, _∙_}
+use native.Mathlib.Nat.{add-assoc}
+use native.Mathlib.Omega.{arith}
+use lib.ListN.{length}
+use Rattle.card.specs.Text.{mendedKey, payloadText}
+use Rattle.card.specs.Working.{Room, headText}
+use Rattle.card.proofs.PayloadText.{length-payload}
+use Rattle.card.proofs.StepReply.{answered-short, room-front, head-most, length-success, rest-room, success-answered}
+use Rattle.card.proofs.reply.reply_payload.Statement.{statement}
+use Rattle.card.proofs.reply.reply_payload.Tie as tie
+
+total : (c : tie.After-head-length)
+    → c .head-length .result + 9 + 2 * length (c .before .before .before .before .args .payload .now)
+    ≡ length (headText (c .before .before .before .before .args .header) mendedKey (c .before .before .before .before .args .mended) ++ payloadText (c .before .before .before .before .args .payload .now))
+total c = add-assoc _ 9 _ ∙ length-success _ _ _ _ _ _ (c .head-length .ensures) (sym (length-payload (c .before .before .before .before .args .payload .now)))
+
+room : (c : tie.Else1) → Room (c .before .before .before .before .before .args .output .now) 0 (headText (c .before .before .before .before .before .args .header) mendedKey (c .before .before .before .before .before .args .mended) ++ payloadText (c .before .before .before .before .before .args .payload .now))
+room c = room-front _ _ _ (total (c .before)) (c .if1 .left)
+
+slice-aggregate-head-length : tie.Need-slice-aggregate-head-length
+slice-aggregate-head-length c = search needs
+
+head-length-requires : tie.Need-head-length-requires
+head-length-requires c κs = search needs
+
+add-length : tie.Need-add-length
+add-length c = omega (arith, c .head-length .ensures, head-most (c .before .before .before .before .args .header) mendedKey (c .before .before .before .before .args .mended))
+
+mul-length : tie.Need-mul-length
+mul-length c = omega arith
+
+add-length-2 : tie.Need-add-length-2
+add-length-2 c = omega (arith, c .head-length .ensures, head-most (c .before .before .before .before .args .header) mendedKey (c .before .before .before .before .args .mended))
+
+returns : tie.Need-returns
+returns c = answered-short _ _ _ (total (c .before)) (c .if1 .taken)
+
+slice-aggregate-put-head : tie.Need-slice-aggregate-put-head
+slice-aggregate-put-head c = search needs
+
+put-head-requires : tie.Need-put-head-requires
+put-head-requires c κs = search needs
+
+put-payload-requires : tie.Need-put-payload-requires
+put-payload-requires c κs = rest-room _ _ _ _ (room (c .before .before .before .before .before .before)) (c .before .before .before .put-head .ensures)
+
+same-length : tie.Need-same-length
+same-length c = search needs
+
+returns-2 : tie.Need-returns-2
+returns-2 c = success-answered _ _ _ _ (room (c .before .before .before .before .before .before .before .before .before)) (c .before .before .before .before .before .before .put-head .ensures) (c .before .before .put-payload .ensures)
+
+pub reply-payload-spec : {M : Type 1} → statement M
+reply-payload-spec =
+    tie.close
+    (tie.spec
+    slice-aggregate-head-length
+    head-length-requires
+    add-length
+    mul-length
+    add-length-2
+    returns
+    slice-aggregate-put-head
+    put-head-requires
+    put-payload-requires
+    same-length
+    returns-2)

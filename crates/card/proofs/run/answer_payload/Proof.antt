@@ -1,0 +1,154 @@
+use borrow.Author.Needs.{needs}
+use Prim.Native.Nat.{_≤_}
+use mathlib.Core.Bool.{true}
+use mathlib.Core.List.{_++_}
+use mathlib.Core.Path.{_≡_, sym, ap, subst, _∙_}
+use native.Mathlib.Omega.{arith}
+use lib.ListN.{length, take, drop, replicate}
+use Rattle.lattice.proofs.Bools.{failed, passed}
+use Rattle.codec.specs.Payload.{Bytes}
+use Rattle.codec.specs.Plan.{planBytes}
+use Rattle.card.specs.Parse.{payloadOk, payloadOf}
+use Rattle.card.specs.Program.{writtenText}
+use Rattle.card.proofs.StepProgram.{bad-payload, wrong-length, payload-written}
+use Rattle.card.proofs.StepCard.{cells-are, cells-fit, bytes-are, bytes-fit}
+use Rattle.card.proofs.StepRun.{answered-same, zeros-count, part-again, part-within, part-count, length-read, bytes-read}
+use Rattle.card.proofs.run.answer_payload.Statement.{statement}
+use Rattle.card.proofs.run.answer_payload.Tie as tie
+
+ok : (c : tie.Else1) → payloadOk (c .before .before .before .before .args .input .now) (c .before .before .before .before .args .next) ≡ true
+ok c = passed _ _ (c .if1 .left) (c .before .payload-ok .ensures)
+
+-- the length of the payload read, and of the plan's
+bytes-read-are : (c : tie.After-payload-bytes) → length (payloadOf (c .before .before .before .before .before .args .input .now) (c .before .before .before .before .before .args .next)) ≡ c .payload-bytes .result
+bytes-read-are c = length-read _ _ ∙ sym (c .payload-bytes .ensures)
+
+bytes-planned : (c : tie.Else2) → c .before .before .payload-bytes .result ≡ planBytes (c .before .before .before .before .before .before .before .args .shape)
+bytes-planned c = c .if2 .left ∙ bytes-are _ _ (c .before .before .before .before .before .before .before .pre .0 .shaped) _ (c .before .capacity .ensures)
+
+bytes-room : (c : tie.Else2) → c .before .before .payload-bytes .result ≤ 2048
+bytes-room c = omega (arith, bytes-planned c, bytes-fit _ _ (c .before .before .before .before .before .before .before .pre .0 .shaped))
+
+cells-room : (c : tie.After-cells) → c .cells .result ≤ 16384
+cells-room c = cells-fit _ _ (c .before .before .before .before .before .before .before .before .pre .0 .shaped) _ (c .cells .ensures)
+
+-- the part that was filled
+long : (c : tie.After-fill-payload) → length (c .fill-payload .last .1 .1 .0) ≡ c .before .before .before .before .before .payload-bytes .result
+long c = ap length (c .fill-payload .ensures) ∙ bytes-read-are (c .before .before .before .before .before)
+
+again : (c : tie.After-fill-payload)
+    → take (c .before .before .before .before .before .payload-bytes .result) (c .fill-payload .last .1 .1 .0 ++ drop (c .before .before .before .before .before .payload-bytes .result) (replicate 2048 0))
+    ≡ payloadOf (c .before .before .before .before .before .before .before .before .before .before .args .input .now) (c .before .before .before .before .before .before .before .before .before .before .args .next)
+again c = part-again _ _ _ (long c) ∙ c .fill-payload .ensures
+
+payload-ok-requires : tie.Need-payload-ok-requires
+payload-ok-requires c κs = search needs
+
+refuse-requires : tie.Need-refuse-requires
+refuse-requires c κs = search needs
+
+same-length : tie.Need-same-length
+same-length c = search needs
+
+returns : tie.Need-returns
+returns c = answered-same (sym (bad-payload _ _ _ (c .before .before .before .before .before .before .before .before .pre .0 .header) (c .before .before .before .before .before .before .before .before .pre .0 .shaped .card) (c .before .before .before .before .before .before .before .before .pre .1) (failed _ _ (c .before .before .before .before .if1 .taken) (c .before .before .before .before .before .payload-ok .ensures)))) (c .before .before .refuse .ensures)
+
+payload-bytes-requires : tie.Need-payload-bytes-requires
+payload-bytes-requires c κs = search needs
+
+capacity-requires : tie.Need-capacity-requires
+capacity-requires c κs = search needs
+
+refuse-requires-2 : tie.Need-refuse-requires-2
+refuse-requires-2 c κs = search needs
+
+same-length-2 : tie.Need-same-length-2
+same-length-2 c = search needs
+
+returns-2 : tie.Need-returns-2
+returns-2 c =
+    answered-same
+    (sym
+    (wrong-length _ _ _ (c .before .before .before .before .before .before .before .before .before .before .before .pre .0 .header) (c .before .before .before .before .before .before .before .before .before .before .before .pre .0 .shaped .card) (c .before .before .before .before .before .before .before .before .before .before .before .pre .1)
+    (ok (c .before .before .before .before .before .before .before))
+    (λ e.
+    c .before .before .before .before .if2 .taken
+    (sym (bytes-read-are (c .before .before .before .before .before .before))
+    ∙ e
+    ∙ ap planBytes (sym (c .before .before .before .before .before .before .before .before .before .before .before .pre .0 .shaped .shape))
+    ∙ sym (bytes-are _ _ (c .before .before .before .before .before .before .before .before .before .before .before .pre .0 .shaped) _ (c .before .before .before .before .before .capacity .ensures))))))
+    (c .before .before .refuse2 .ensures)
+
+cells-requires : tie.Need-cells-requires
+cells-requires c κs = search needs
+
+array-borrow-prefix-payload : tie.Need-array-borrow-prefix-payload
+array-borrow-prefix-payload c = bytes-room (c .before)
+
+slice-aggregate-fill-payload : tie.Need-slice-aggregate-fill-payload
+slice-aggregate-fill-payload c = zeros-count _ 2048 (bytes-room (c .before .before))
+
+fill-payload-requires : tie.Need-fill-payload-requires
+fill-payload-requires c κs = (ok (c .before .before .before .before .before), sym (zeros-count _ 2048 (bytes-room (c .before .before))) ∙ c .before .before .before .before .payload-bytes .ensures)
+
+array-share-prefix-payload : tie.Need-array-share-prefix-payload
+array-share-prefix-payload c = part-within _ (c .before .fill-payload .last .1 .1 .0) (drop (c .before .before .before .before .before .before .payload-bytes .result) (replicate 2048 0)) (long (c .before))
+
+slice-aggregate-write-card : tie.Need-slice-aggregate-write-card
+slice-aggregate-write-card c = part-count _ (c .before .before .fill-payload .last .1 .1 .0) (drop (c .before .before .before .before .before .before .before .payload-bytes .result) (replicate 2048 0)) (long (c .before .before))
+
+array-borrow-prefix-field : tie.Need-array-borrow-prefix-field
+array-borrow-prefix-field c = cells-room (c .before .before .before .before)
+
+slice-aggregate-write-card-2 : tie.Need-slice-aggregate-write-card-2
+slice-aggregate-write-card-2 c = zeros-count _ 16384 (cells-room (c .before .before .before .before .before))
+
+write-card-requires : tie.Need-write-card-requires
+write-card-requires c κs = (
+  c .before .before .before .before .before .before .before .before .before .before .before .before .before .before .pre .0 .shaped,
+  (
+    subst Bytes (sym (again (c .before .before .before .before))) (bytes-read _ _ (ok (c .before .before .before .before .before .before .before .before .before .before))),
+    (
+      ap length (again (c .before .before .before .before)) ∙ bytes-read-are (c .before .before .before .before .before .before .before .before .before) ∙ bytes-planned (c .before .before .before .before .before .before .before),
+      sym (zeros-count _ 16384 (cells-room (c .before .before .before .before .before .before))) ∙ cells-are _ _ (c .before .before .before .before .before .before .before .before .before .before .before .before .before .before .pre .0 .shaped) _ (c .before .before .before .before .before .before .cells .ensures),
+    ),
+  ),
+)
+
+same-length-3 : tie.Need-same-length-3
+same-length-3 c = search needs
+
+returns-3 : tie.Need-returns-3
+returns-3 c =
+    answered-same
+    (ap (writtenText (c .before .before .before .before .before .before .before .before .before .before .before .before .before .before .before .before .before .before .args .header)) (again (c .before .before .before .before .before .before .before .before))
+    ∙ sym
+    (payload-written _ _ _ (c .before .before .before .before .before .before .before .before .before .before .before .before .before .before .before .before .before .before .pre .0 .header) (c .before .before .before .before .before .before .before .before .before .before .before .before .before .before .before .before .before .before .pre .0 .shaped .card) (c .before .before .before .before .before .before .before .before .before .before .before .before .before .before .before .before .before .before .pre .1)
+    (ok (c .before .before .before .before .before .before .before .before .before .before .before .before .before .before))
+    (bytes-read-are (c .before .before .before .before .before .before .before .before .before .before .before .before .before) ∙ bytes-planned (c .before .before .before .before .before .before .before .before .before .before .before) ∙ ap planBytes (c .before .before .before .before .before .before .before .before .before .before .before .before .before .before .before .before .before .before .pre .0 .shaped .shape))))
+    (c .before .before .before .write-card .ensures)
+
+pub answer-payload-spec : {M : Type 1} → statement M
+answer-payload-spec =
+    tie.close
+    (tie.spec
+    payload-ok-requires
+    refuse-requires
+    same-length
+    returns
+    payload-bytes-requires
+    capacity-requires
+    refuse-requires-2
+    same-length-2
+    returns-2
+    cells-requires
+    array-borrow-prefix-payload
+    slice-aggregate-fill-payload
+    fill-payload-requires
+    array-share-prefix-payload
+    slice-aggregate-write-card
+    array-borrow-prefix-field
+    slice-aggregate-write-card-2
+    write-card-requires
+    same-length-3
+    returns-3)

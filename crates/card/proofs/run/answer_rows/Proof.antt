@@ -1,0 +1,137 @@
+use borrow.Author.Needs.{needs}
+use Prim.Native.Nat.{ℕ, _/_, _≤_}
+use mathlib.Core.List.{_++_}
+use mathlib.Core.Path.{_≡_, sym, ap, _∙_}
+use native.Mathlib.Omega.{arith}
+use lib.ListN.{length, take, drop, replicate}
+use Rattle.lattice.proofs.Bools.{failed, passed}
+use Rattle.codec.specs.Plan.{planBytes}
+use Rattle.card.specs.Program.{cellsIn}
+use Rattle.card.specs.Working.{decodedText}
+use Rattle.card.proofs.StepCard.{cells-are, cells-fit, bytes-are, bytes-fit, columns-some, columns-narrow, lines-most, rows-fit, cells-read, cells-long}
+use Rattle.card.proofs.StepProgram.{bad-rows, rows-read}
+use Rattle.card.proofs.HeaderText.{header-inside}
+use Rattle.card.proofs.StepRun.{answered-same, zeros-count, zeros-take, part-again, part-within, part-count}
+use Rattle.card.proofs.run.answer_rows.Statement.{statement}
+use Rattle.card.proofs.run.answer_rows.Tie as tie
+
+cells-room : (c : tie.After-cells) → c .cells .result ≤ 16384
+cells-room c = cells-fit _ _ (c .before .before .before .before .before .before .before .pre .0 .shaped) _ (c .cells .ensures)
+
+bytes-planned : (c : tie.After-capacity) → c .capacity .result / 8 ≡ planBytes (c .before .before .before .before .before .before .before .before .args .shape)
+bytes-planned c = bytes-are _ _ (c .before .before .before .before .before .before .before .before .pre .0 .shaped) _ (c .capacity .ensures)
+
+bytes-room : (c : tie.After-capacity) → c .capacity .result / 8 ≤ 2048
+bytes-room c = omega (arith, bytes-planned c, bytes-fit _ _ (c .before .before .before .before .before .before .before .before .pre .0 .shaped))
+
+-- the part that was filled
+long : (c : tie.After-fill-cells) → length (c .fill-cells .last .1 .1 .1 .0) ≡ c .before .before .before .before .cells .result
+long c =
+    cells-long _ _ (c .before .before .before .before .before .before .before .before .before .before .before .pre .0 .shaped) _ _ _ _ (c .fill-cells .ensures)
+    ∙ sym (zeros-count _ 16384 (cells-room (c .before .before .before .before)))
+
+again : (c : tie.After-fill-cells)
+    → take (c .before .before .before .before .cells .result) (c .fill-cells .last .1 .1 .1 .0 ++ drop (c .before .before .before .before .cells .result) (replicate 16384 0))
+    ≡ cellsIn (c .before .before .before .before .before .before .before .before .before .before .before .args .input .now) (c .before .before .before .before .before .before .before .before .before .before .before .args .header) (c .before .before .before .before .before .before .before .before .before .before .before .args .next)
+again c =
+    part-again _ _ _ (long c)
+    ∙ cells-read _ _ (c .before .before .before .before .before .before .before .before .before .before .before .pre .0 .shaped) _ _ _ _
+    (sym (zeros-count _ 16384 (cells-room (c .before .before .before .before))) ∙ cells-are _ _ (c .before .before .before .before .before .before .before .before .before .before .before .pre .0 .shaped) _ (c .before .before .before .before .cells .ensures))
+    (c .fill-cells .ensures)
+
+cast-rows-ok : tie.Need-cast-rows-ok
+cast-rows-ok c = search needs
+
+cast-rows-ok-2 : tie.Need-cast-rows-ok-2
+cast-rows-ok-2 c = search needs
+
+mul-rows-ok : tie.Need-mul-rows-ok
+mul-rows-ok c = omega (arith, lines-most _ _ (c .before .before .before .before .pre .0 .shaped))
+
+rows-ok-requires : tie.Need-rows-ok-requires
+rows-ok-requires c κs = search needs
+
+refuse-requires : tie.Need-refuse-requires
+refuse-requires c κs = search needs
+
+same-length : tie.Need-same-length
+same-length c = search needs
+
+returns : tie.Need-returns
+returns c = answered-same (sym (bad-rows _ _ _ (c .before .before .before .before .before .before .before .before .before .before .pre .0 .header) (c .before .before .before .before .before .before .before .before .before .before .pre .0 .shaped .card) (c .before .before .before .before .before .before .before .before .before .before .pre .1) (failed _ _ (c .before .before .before .before .if1 .taken) (rows-fit _ _ (c .before .before .before .before .before .before .before .before .before .before .pre .0 .shaped) _ _ _ (c .before .before .before .before .before .rows-ok .ensures))))) (c .before .before .refuse .ensures)
+
+cells-requires : tie.Need-cells-requires
+cells-requires c κs = search needs
+
+capacity-requires : tie.Need-capacity-requires
+capacity-requires c κs = search needs
+
+cast-fill-cells : tie.Need-cast-fill-cells
+cast-fill-cells c = search needs
+
+array-borrow-prefix-field : tie.Need-array-borrow-prefix-field
+array-borrow-prefix-field c = cells-room (c .before .before)
+
+slice-aggregate-fill-cells : tie.Need-slice-aggregate-fill-cells
+slice-aggregate-fill-cells c = zeros-count _ 16384 (cells-room (c .before .before .before))
+
+fill-cells-requires : tie.Need-fill-cells-requires
+fill-cells-requires c κs =
+    record {
+      inside = header-inside _ _ _ (c .before .before .before .before .before .before .before .before .before .before .pre .0 .header .found);
+      some = columns-some _ _ (c .before .before .before .before .before .before .before .before .before .before .pre .0 .shaped);
+      narrow = columns-narrow _ _ (c .before .before .before .before .before .before .before .before .before .before .pre .0 .shaped);
+      cells = omega (arith, cells-room (c .before .before .before), zeros-count (c .before .before .before .cells .result) 16384 (cells-room (c .before .before .before)));
+    }
+
+array-share-prefix-field : tie.Need-array-share-prefix-field
+array-share-prefix-field c = part-within _ (c .before .fill-cells .last .1 .1 .1 .0) (drop (c .before .before .before .before .before .cells .result) (replicate 16384 0)) (long (c .before))
+
+slice-aggregate-read-card : tie.Need-slice-aggregate-read-card
+slice-aggregate-read-card c = part-count _ (c .before .before .fill-cells .last .1 .1 .1 .0) (drop (c .before .before .before .before .before .before .cells .result) (replicate 16384 0)) (long (c .before .before))
+
+array-borrow-prefix-payload : tie.Need-array-borrow-prefix-payload
+array-borrow-prefix-payload c = bytes-room (c .before .before .before .before .before)
+
+slice-aggregate-read-card-2 : tie.Need-slice-aggregate-read-card-2
+slice-aggregate-read-card-2 c = zeros-count _ 2048 (bytes-room (c .before .before .before .before .before .before))
+
+read-card-requires : tie.Need-read-card-requires
+read-card-requires c κs = (c .before .before .before .before .before .before .before .before .before .before .before .before .before .before .before .pre .0 .shaped, zeros-take _ 2048 (bytes-room (c .before .before .before .before .before .before .before)) ∙ ap (λ (n : ℕ). replicate n 0) (bytes-planned (c .before .before .before .before .before .before .before) ∙ ap planBytes (c .before .before .before .before .before .before .before .before .before .before .before .before .before .before .before .pre .0 .shaped .shape)))
+
+same-length-2 : tie.Need-same-length-2
+same-length-2 c = search needs
+
+returns-2 : tie.Need-returns-2
+returns-2 c =
+    answered-same
+    (ap (decodedText (c .before .before .before .before .before .before .before .before .before .before .before .before .before .before .before .before .before .before .before .args .header)) (again (c .before .before .before .before .before .before .before .before))
+    ∙ sym
+    (rows-read _ _ _ (c .before .before .before .before .before .before .before .before .before .before .before .before .before .before .before .before .before .before .before .pre .0 .header) (c .before .before .before .before .before .before .before .before .before .before .before .before .before .before .before .before .before .before .before .pre .0 .shaped .card) (c .before .before .before .before .before .before .before .before .before .before .before .before .before .before .before .before .before .before .before .pre .1)
+    (passed _ _ (c .before .before .before .before .before .before .before .before .before .before .before .before .before .if1 .left) (rows-fit _ _ (c .before .before .before .before .before .before .before .before .before .before .before .before .before .before .before .before .before .before .before .pre .0 .shaped) _ _ _ (c .before .before .before .before .before .before .before .before .before .before .before .before .before .before .rows-ok .ensures)))))
+    (c .before .before .before .read-card .ensures)
+
+pub answer-rows-spec : {M : Type 1} → statement M
+answer-rows-spec =
+    tie.close
+    (tie.spec
+    cast-rows-ok
+    cast-rows-ok-2
+    mul-rows-ok
+    rows-ok-requires
+    refuse-requires
+    same-length
+    returns
+    cells-requires
+    capacity-requires
+    cast-fill-cells
+    array-borrow-prefix-field
+    slice-aggregate-fill-cells
+    fill-cells-requires
+    array-share-prefix-field
+    slice-aggregate-read-card
+    array-borrow-prefix-payload
+    slice-aggregate-read-card-2
+    read-card-requires
+    same-length-2
+    returns-2)

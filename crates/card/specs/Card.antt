@@ -1,0 +1,50 @@
+-- A card: its limits, its header, its cells, and its text.
+use Prim.Native.Nat.{ℕ, _<_, _≤_}
+use mathlib.Core.List.{List, _++_}
+use mathlib.Core.Path.{_≡_}
+use lib.ListN.{length}
+use Rattle.lattice.specs.declared.shape.Shape.{Shape}
+use Rattle.lattice.specs.Shape.{cellsOf}
+use Rattle.codec.specs.Field.{fieldOf, Cells}
+use Rattle.codec.specs.Plan.{planNumber}
+use Rattle.card.specs.declared.header.Header.{Header}
+use Rattle.card.specs.Text.{headerText, payloadText, fieldText}
+
+-- the limits: 65,536 bytes of input and 16,384 cells
+abbrev pub maxInput : ℕ
+maxInput = 65536
+
+abbrev pub maxCardCells : ℕ
+maxCardCells = 16384
+
+-- the longest answer, that of 4 columns, 256 rows and 16 planes at strength 8
+abbrev pub maxAnswer : ℕ
+maxAnswer = 36915
+
+-- the shape that a header names
+abbrev pub shapeOf : Header → Shape
+shapeOf h = record { columns = h .columns; rows = h .rows; planes = h .planes; strength = h .strength }
+
+-- the header's numbers have at most five digits
+pub record Small (h : Header) : Type 0 where
+  pub columns : h .columns < 100000
+  pub rows : h .rows < 100000
+  pub planes : h .planes < 100000
+  pub strength : h .strength < 100000
+
+-- a header whose shape the plan accepts, with at most 16,384 cells
+pub record CardHeader (h : Header) : Type 0 where
+  pub accepted : planNumber (shapeOf h) ≡ 0
+  pub cells : cellsOf (shapeOf h) ≤ maxCardCells
+
+-- the cells of a field of the header's shape: as many as it has, each 0 or 1
+pub record FieldCells (h : Header) (cells : List ℕ) : Type 0 where
+  pub long : length cells ≡ cellsOf (shapeOf h)
+  pub each : Cells (fieldOf cells) (cellsOf (shapeOf h))
+
+-- the card text of a payload, and of a field
+abbrev pub payloadCard : Header → List ℕ → List ℕ
+payloadCard h p = headerText h ++ payloadText p
+
+abbrev pub fieldCard : Header → List ℕ → List ℕ
+fieldCard h cells = headerText h ++ fieldText h cells

@@ -1,0 +1,40 @@
+-- Card texts and their answers, character by character: the worked card of document 01, whole and damaged, and a witness of each refusal.
+use Prim.Native.String.{String, _++_}
+use mathlib.Core.Path.{_≡_}
+use Rattle.card.specs.Text.{ascii}
+use Rattle.card.specs.Program.{answer}
+
+-- an input and its answer
+abbrev pub Answers : String → String → Type 0
+Answers input output = answer (ascii input) ≡ ascii output
+
+-- the first four lines of the worked card
+abbrev pub first : String
+first = "columns=5\nrows=5\nplanes=1\nstrength=3\n"
+
+-- Theorem. The program's answers to these texts.
+pub record CardExamples : Type 0 where
+  pub written : Answers (first ++ "payload=a5\n") (first ++ "classes=5\nrow=11011\nrow=00101\nrow=10100\nrow=00101\nrow=10100\n")
+  pub read : Answers (first ++ "row=11011\nrow=00101\nrow=10100\nrow=00101\nrow=10100\n") (first ++ "mended=0\npayload=a5\n")
+  pub damaged : Answers (first ++ "row=11011\nrow=00101\nrow=10010\nrow=00001\nrow=10100\n") (first ++ "mended=3\npayload=a5\n")
+  -- 8: the first four lines, all of them before any number is weighed
+  pub key-order : Answers "rows=5\ncolumns=5\nplanes=1\nstrength=3\npayload=a5\n" "refusal=8\n"
+  pub leading-zero : Answers "columns=0\nrows=5\nplanes=1\nstrength=03\npayload=a5\n" "refusal=8\n"
+  pub six-digits : Answers "columns=100000\nrows=5\nplanes=1\nstrength=3\npayload=a5\n" "refusal=8\n"
+  pub carriage-return : Answers "columns=5\r\nrows=5\nplanes=1\nstrength=3\npayload=a5\n" "refusal=8\n"
+  -- 1, 2: uncut
+  pub size : Answers "columns=65537\nrows=5\nplanes=1\nstrength=0\npayload=a5\n" "refusal=1\n"
+  pub strength : Answers "columns=5\nrows=5\nplanes=1\nstrength=65539\npayload=A5\n" "refusal=2\n"
+  -- 8: 16,512 cells
+  pub cells : Answers "columns=129\nrows=128\nplanes=1\nstrength=3\npayload=\n" "refusal=8\n"
+  -- 8: the lines after the first four
+  pub upper-case : Answers (first ++ "payload=A5\n") "refusal=8\n"
+  pub odd-digits : Answers (first ++ "payload=a5a\n") "refusal=8\n"
+  pub no-feed : Answers (first ++ "payload=a5") "refusal=8\n"
+  pub trailing : Answers (first ++ "payload=a5\n\n") "refusal=8\n"
+  pub few-rows : Answers (first ++ "row=11011\nrow=00101\nrow=10100\nrow=00101\n") "refusal=8\n"
+  pub no-cell : Answers (first ++ "row=11011\nrow=00101\nrow=10100\nrow=00101\nrow=10102\n") "refusal=8\n"
+  -- 3, 6, 7: the operation's own
+  pub long-payload : Answers (first ++ "payload=a5a5\n") "refusal=3\n"
+  pub out-of-reach : Answers "columns=2\nrows=1\nplanes=1\nstrength=1\nrow=11\n" "refusal=6\n"
+  pub wrong-padding : Answers "columns=3\nrows=1\nplanes=1\nstrength=1\nrow=111\n" "refusal=7\n"

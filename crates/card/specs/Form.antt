@@ -1,0 +1,127 @@
+-- The form of a card text, said by its text alone, and the program's refusals, each by a condition of its own.
+use Prim.Native.Nat.{ℕ, suc, _<_, _≤_}
+use mathlib.Core.Bool.{true}
+use mathlib.Core.List.{List, [], _∷_, _++_}
+use mathlib.Core.Logic.{_≢_, _⊎_, _↔_}
+use mathlib.Core.Path.{_≡_}
+use lib.ListN.{length, drop}
+use Rattle.lattice.specs.Refusal.{Refusal, refusal, NoneHolds}
+use Rattle.lattice.specs.Shape.{BadSize, BadStrength, cellsOf}
+use Rattle.codec.specs.Payload.{Bytes}
+use Rattle.codec.specs.Plan.{planClasses, planBytes}
+use Rattle.codec.specs.Decode.{decodeCount}
+use Rattle.codec.specs.Refused.{WrongPayload, NoneInReach, WrongPadding}
+use Rattle.card.specs.declared.header.Header.{Header}
+use Rattle.card.specs.declared.header.HeaderAnswer.the-variants as head
+use Rattle.card.specs.Text.{headerText, payloadText, fieldText, refusalText}
+use Rattle.card.specs.Card.{maxInput, maxCardCells, maxAnswer, shapeOf, Small, CardHeader, FieldCells, payloadCard, fieldCard}
+use Rattle.card.specs.Parse.{headerOf, payloadOk, payloadOf}
+use Rattle.card.specs.Program.{blankPayload, rowsFit, cellsIn, programNumber, writtenText, readText, answer}
+
+-- the input is the text of a header, followed by anything
+pub record HeaderFirst (s : List ℕ) : Type 0 where
+  pub header : Header
+  pub rest : List ℕ
+  pub small : Small header
+  pub text : s ≡ headerText header ++ rest
+
+-- the rest is the text of one payload, or of the rows that the header asks for
+pub data Body (h : Header) (rest : List ℕ) : Type 0 where
+  payload : (p : List ℕ) → Bytes p → rest ≡ payloadText p → Body h rest
+  rows : (cells : List ℕ) → FieldCells h cells → rest ≡ fieldText h cells → Body h rest
+
+-- 8: more than 65,536 bytes
+abbrev pub TooLong : List ℕ → Type 0
+TooLong s = maxInput < length s
+
+-- 8: the first four lines are the text of no header
+abbrev pub NoHeader : List ℕ → Type 0
+NoHeader s = ¬ HeaderFirst s
+
+-- 1, 2: the header's shape is outside the limits
+abbrev pub SizeRefused : List ℕ → Type 0
+SizeRefused s = (x : HeaderFirst s) × BadSize (x .header .columns) (x .header .rows) (x .header .planes)
+
+abbrev pub StrengthRefused : List ℕ → Type 0
+StrengthRefused s = (x : HeaderFirst s) × BadStrength (x .header .planes) (x .header .strength)
+
+-- 8: more than 16,384 cells
+abbrev pub TooManyCells : List ℕ → Type 0
+TooManyCells s = (x : HeaderFirst s) × (maxCardCells < cellsOf (shapeOf (x .header)))
+
+-- 8: a header is followed neither by the text of one payload nor by the rows that it asks for
+abbrev pub NoBody : List ℕ → Type 0
+NoBody s = (x : HeaderFirst s) × (¬ Body (x .header) (x .rest))
+
+-- 3: the payload's length isn't the plan's
+abbrev pub PayloadRefused : List ℕ → Type 0
+PayloadRefused s =
+    (x : HeaderFirst s) × (p : List ℕ) × Bytes p × (x .rest ≡ payloadText p) × WrongPayload (shapeOf (x .header)) p
+
+-- 6, 7: of the field that the rows give
+abbrev pub FieldRefused : (Header → List ℕ → Type 0) → List ℕ → Type 0
+FieldRefused C s =
+    (x : HeaderFirst s) × (cells : List ℕ) × FieldCells (x .header) cells × (x .rest ≡ fieldText (x .header) cells) × C (x .header) cells
+
+abbrev pub ReachRefused : List ℕ → Type 0
+ReachRefused s = FieldRefused (λ h cells. NoneInReach (shapeOf h) cells) s
+
+abbrev pub PaddingRefused : List ℕ → Type 0
+PaddingRefused s = FieldRefused (λ h cells. WrongPadding (shapeOf h) cells) s
+
+-- the program's refusals in the listed order
+abbrev pub programRefusals : List ℕ → List Refusal
+programRefusals s =
+    refusal 8 (TooLong s)
+    ∷ refusal 8 (NoHeader s)
+    ∷ refusal 1 (SizeRefused s)
+    ∷ refusal 2 (StrengthRefused s)
+    ∷ refusal 8 (TooManyCells s)
+    ∷ refusal 8 (NoBody s)
+    ∷ refusal 3 (PayloadRefused s)
+    ∷ refusal 6 (ReachRefused s)
+    ∷ refusal 7 (PaddingRefused s)
+    ∷ []
+
+-- the first of the listed conditions that holds has the number k; a number may stand in the list more than once, as 8 does here
+abbrev pub FirstIs : ℕ → List Refusal → Type 0
+FirstIs k [] = ⊥
+FirstIs k (r ∷ rs) = (r .condition × (r .number ≡ k)) ⊎ ((¬ (r .condition)) × FirstIs k rs)
+
+-- Theorem (demand 1). The program's number is 0 exactly when none of the conditions holds, and another number exactly when the first that holds
+-- has it.
+abbrev pub ProgramRefused : Type 0
+ProgramRefused =
+    (s : List ℕ)
+    → ((programNumber s ≡ 0) ↔ NoneHolds (programRefusals s)) × ((k : ℕ) → (programNumber s ≡ suc k) ↔ FirstIs (suc k) (programRefusals s))
+
+-- Theorem. What is read from an input is what the input is the text of.
+pub record ParsedIsText : Type 0 where
+  pub header : (s : List ℕ) (h : Header) (next : ℕ) → headerOf s ≡ head.Found h next
+      → Small h × (next ≡ length (headerText h)) × (s ≡ headerText h ++ drop next s)
+  pub payload : (s : List ℕ) (h : Header) (next : ℕ) → headerOf s ≡ head.Found h next → payloadOk s next ≡ true
+      → Bytes (payloadOf s next) × (s ≡ payloadCard h (payloadOf s next))
+  pub rows : (s : List ℕ) (h : Header) (next : ℕ) → headerOf s ≡ head.Found h next → rowsFit s h next ≡ true
+      → FieldCells h (cellsIn s h next) × (s ≡ fieldCard h (cellsIn s h next))
+
+-- Theorem. An input is the text of one card at most: one header and one rest, and there one payload or the rows of one field, not both.
+pub record OneCard : Type 0 where
+  pub header : (s : List ℕ) (x y : HeaderFirst s) → (x .header ≡ y .header) × (x .rest ≡ y .rest)
+  pub payload : (p q : List ℕ) → Bytes p → Bytes q → payloadText p ≡ payloadText q → p ≡ q
+  pub rows : (h : Header) (a b : List ℕ) → FieldCells h a → FieldCells h b → fieldText h a ≡ fieldText h b → a ≡ b
+  pub either : (h : Header) → CardHeader h → (p cells : List ℕ) → payloadText p ≢ fieldText h cells
+
+-- the output is one of three forms: the text of a field written, the text of a field read, or a refusal alone
+pub data OneOfThree (s : List ℕ) : Type 0 where
+  written : (h : Header) (p : List ℕ) → CardHeader h → length p ≡ planBytes (shapeOf h) → Bytes p
+      → programNumber s ≡ 0 → s ≡ payloadCard h p → answer s ≡ writtenText h p → OneOfThree s
+  read : (h : Header) (cells : List ℕ) → CardHeader h → FieldCells h cells
+      → programNumber s ≡ 0 → s ≡ fieldCard h cells → answer s ≡ readText h cells → OneOfThree s
+  refused : programNumber s ≢ 0 → answer s ≡ refusalText (programNumber s) → OneOfThree s
+
+-- Theorem. The output is one of the three forms and never longer than 36,915 bytes, and the numbers in it have at most five digits.
+pub record OutputForms : Type 0 where
+  pub form : (s : List ℕ) → OneOfThree s
+  pub short : (s : List ℕ) → length (answer s) ≤ maxAnswer
+  pub classes : (h : Header) → CardHeader h → planClasses (shapeOf h) < 100000
+  pub count : (h : Header) → CardHeader h → (cells : List ℕ) → decodeCount (shapeOf h) (blankPayload h) cells < 100000

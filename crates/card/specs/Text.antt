@@ -1,0 +1,101 @@
+-- The text of a card and of an answer, as lists of ASCII codes: document 01, "Card text".
+use Prim.Native.Nat.{ℕ, zero, suc, _+_, _*_, _/_, _%_}
+use Prim.Native.Char.{code}
+use Prim.Native.String.{String, [] as []ˢ, _∷_ as _∷ˢ_}
+use mathlib.Core.Bool.{cond}
+use mathlib.Core.List.{List, [], _∷_, _++_, map}
+use lib.Dec.{ltb}
+use lib.ListN.{take, drop}
+use Rattle.card.specs.declared.header.Header.{Header}
+
+-- the codes of a text's characters
+abbrev pub ascii : String → List ℕ
+ascii []ˢ = []
+ascii (c ∷ˢ s) = code c ∷ ascii s
+
+-- the keys of the lines
+abbrev pub columnsKey : List ℕ
+columnsKey = ascii "columns="
+
+abbrev pub rowsKey : List ℕ
+rowsKey = ascii "rows="
+
+abbrev pub planesKey : List ℕ
+planesKey = ascii "planes="
+
+abbrev pub strengthKey : List ℕ
+strengthKey = ascii "strength="
+
+abbrev pub payloadKey : List ℕ
+payloadKey = ascii "payload="
+
+abbrev pub rowKey : List ℕ
+rowKey = ascii "row="
+
+abbrev pub classesKey : List ℕ
+classesKey = ascii "classes="
+
+abbrev pub mendedKey : List ℕ
+mendedKey = ascii "mended="
+
+abbrev pub refusalKey : List ℕ
+refusalKey = ascii "refusal="
+
+-- the line feed that ends each line
+abbrev pub feed : ℕ
+feed = 10
+
+-- a number in decimal with no needless leading zero, of at most five digits: the last k digits, with k as few as hold it
+abbrev pub digits : ℕ → ℕ → List ℕ
+digits zero n = []
+digits (suc k) n = digits k (n / 10) ++ ((48 + n % 10) ∷ [])
+
+unfoldable pub digitCount : ℕ → ℕ
+digitCount n = cond (ltb n 10) 1 (cond (ltb n 100) 2 (cond (ltb n 1000) 3 (cond (ltb n 10000) 4 5)))
+
+unfoldable pub decimal : ℕ → List ℕ
+decimal n = digits (digitCount n) n
+
+-- a line key=number
+unfoldable pub numberLine : List ℕ → ℕ → List ℕ
+numberLine key n = key ++ (decimal n ++ (feed ∷ []))
+
+-- the first four lines
+unfoldable pub headerText : Header → List ℕ
+headerText h =
+    numberLine columnsKey (h .columns)
+    ++ (numberLine rowsKey (h .rows)
+    ++ (numberLine planesKey (h .planes)
+    ++ numberLine strengthKey (h .strength)))
+
+-- lower-case hexadecimal, two digits a byte
+unfoldable pub hexDigit : ℕ → ℕ
+hexDigit d = cond (ltb d 10) (48 + d) (87 + d)
+
+abbrev pub hexText : List ℕ → List ℕ
+hexText [] = []
+hexText (b ∷ bs) = hexDigit (b / 16) ∷ hexDigit (b % 16) ∷ hexText bs
+
+-- the line `payload`
+unfoldable pub payloadText : List ℕ → List ℕ
+payloadText p = payloadKey ++ (hexText p ++ (feed ∷ []))
+
+-- the digits of cells, and a line `row` of them
+unfoldable pub cellsText : List ℕ → List ℕ
+cellsText cells = map (λ v. 48 + v) cells
+
+unfoldable pub rowText : List ℕ → List ℕ
+rowText cells = rowKey ++ (cellsText cells ++ (feed ∷ []))
+
+-- k lines `row` of w digits each, from the cells in byte order, plane after plane
+abbrev pub rowsText : ℕ → ℕ → List ℕ → List ℕ
+rowsText w zero cells = []
+rowsText w (suc k) cells = rowText (take w cells) ++ rowsText w k (drop w cells)
+
+-- the rows of a field
+unfoldable pub fieldText : Header → List ℕ → List ℕ
+fieldText h cells = rowsText (h .columns) (h .planes * h .rows) cells
+
+-- a refusal, alone
+unfoldable pub refusalText : ℕ → List ℕ
+refusalText k = numberLine refusalKey k

@@ -1,0 +1,181 @@
+// A card text answered: the tests in their order, then the operation.
+ghost use mathlib.Core.Bool.{true, false};
+ghost use mathlib.Core.Path.{_≡_};
+ghost use Prim.Native.Nat.{_+_};
+ghost use lib.ListN.{length};
+ghost use Rattle.codec.specs.Payload.{Bytes};
+ghost use Rattle.codec.specs.Plan.{planBytes};
+ghost use Rattle.lattice.specs.Shape.{cellsOf};
+ghost use Rattle.card.specs.Card.{maxInput, maxAnswer};
+ghost use Rattle.card.specs.Program.{isPayload, blankPayload, writtenText, answer, outputLeaves};
+ghost use Rattle.card.specs.Working.{Answered, CardShape, HeaderRead, BodyRead, decodedText};
+use crate::body::fill_cells;
+use crate::body::fill_payload;
+use crate::body::is_payload;
+use crate::body::payload_bytes;
+use crate::body::payload_ok;
+use crate::body::rows_ok;
+use crate::header::Header;
+use crate::header::HeaderAnswer;
+use crate::header::parse_header;
+use crate::reply::refuse;
+use crate::reply::reply_field;
+use crate::reply::reply_payload;
+use codec::decode::decode;
+use codec::encode::encode;
+use lattice::shape::NewShape;
+use lattice::shape::Shape;
+
+// The longest input.
+const MAX_INPUT: usize = 65536;
+
+// How much of the input is read: enough to tell that it is too long.
+pub const MAX_READ: usize = 65537;
+
+// The longest answer.
+pub const MAX_ANSWER: usize = 36915;
+
+// The most cells of a card, and the most bytes of a payload that they hold.
+const MAX_CELLS: usize = 16384;
+
+const MAX_BYTES: usize = 2048;
+
+// Writes a payload of the plan's length, which encoding does not refuse.
+fn write_card(
+    header: Header,
+    shape: Shape,
+    payload: &[u8],
+    field: &mut [u8],
+    output: &mut [u8],
+) -> usize
+    requires { ⌜ CardShape header shape ⌝ }
+    requires { ⌜ Bytes (now payload) ⌝ }
+    requires { ⌜ length (now payload) ≡ planBytes shape ⌝ }
+    requires { ⌜ length (now field) ≡ cellsOf shape ⌝ }
+    ensures { λ r. ⌜ Answered (writtenText header (now (payload .entry))) (now (output .entry)) (now (output .exit)) r ⌝ }
+{
+    encode(shape, payload, field);
+    reply_field(header, shape.classes() as u32, field, output)
+}
+
+// Reads a field into a payload of the plan's length.
+fn read_card(
+    header: Header,
+    shape: Shape,
+    field: &[u8],
+    payload: &mut [u8],
+    output: &mut [u8],
+) -> usize
+    requires { ⌜ CardShape header shape ⌝ }
+    requires { ⌜ now payload ≡ blankPayload header ⌝ }
+    ensures { λ r. ⌜ Answered (decodedText header (now (field .entry))) (now (output .entry)) (now (output .exit)) r ⌝ }
+{
+    let decoded = decode(shape, payload, field);
+    let number = decoded.number();
+    if number != 0 {
+        return refuse(number as u8, output);
+    }
+    reply_payload(header, decoded.count() as u32, payload, output)
+}
+
+// The answer where a payload follows the header.
+fn answer_payload(
+    input: &[u8],
+    header: Header,
+    next: usize,
+    shape: Shape,
+    output: &mut [u8],
+) -> usize
+    requires { ⌜ BodyRead (now input) header next shape ⌝ }
+    requires { ⌜ isPayload (now input) next ≡ true ⌝ }
+    ensures { λ r. ⌜ Answered (answer (now (input .entry))) (now (output .entry)) (now (output .exit)) r ⌝ }
+{
+    if !payload_ok(input, next) {
+        return refuse(8, output);
+    }
+    let bytes = payload_bytes(input, next);
+    if bytes != shape.capacity() / 8 {
+        return refuse(3, output);
+    }
+    let cells = shape.cells();
+    let mut payload = [0u8; MAX_BYTES];
+    let mut field = [0u8; MAX_CELLS];
+    fill_payload(input, next, &mut payload[..bytes]);
+    write_card(
+        header,
+        shape,
+        &payload[..bytes],
+        &mut field[..cells],
+        output,
+    )
+}
+
+// The answer where no payload follows the header: rows.
+fn answer_rows(input: &[u8], header: Header, next: usize, shape: Shape, output: &mut [u8]) -> usize
+    requires { ⌜ BodyRead (now input) header next shape ⌝ }
+    requires { ⌜ isPayload (now input) next ≡ false ⌝ }
+    ensures { λ r. ⌜ Answered (answer (now (input .entry))) (now (output .entry)) (now (output .exit)) r ⌝ }
+{
+    if !rows_ok(
+        input,
+        next,
+        shape.columns,
+        shape.planes as u32 * shape.rows as u32,
+    ) {
+        return refuse(8, output);
+    }
+    let cells = shape.cells();
+    let bytes = shape.capacity() / 8;
+    let mut field = [0u8; MAX_CELLS];
+    let mut payload = [0u8; MAX_BYTES];
+    fill_cells(input, next, shape.columns as usize, &mut field[..cells]);
+    read_card(
+        header,
+        shape,
+        &field[..cells],
+        &mut payload[..bytes],
+        output,
+    )
+}
+
+// The answer to an input with a header.
+fn answer_header(input: &[u8], header: Header, next: usize, output: &mut [u8]) -> usize
+    requires { ⌜ HeaderRead (now input) header next ⌝ }
+    ensures { λ r. ⌜ Answered (answer (now (input .entry))) (now (output .entry)) (now (output .exit)) r ⌝ }
+{
+    let made = Shape::new(
+        header.columns as usize,
+        header.rows as usize,
+        header.planes as usize,
+        header.strength as usize,
+    );
+    match made {
+        NewShape::BadSize => refuse(1, output),
+        NewShape::BadStrength => refuse(2, output),
+        NewShape::Accepted(shape) => {
+            if shape.cells() > MAX_CELLS {
+                return refuse(8, output);
+            }
+            if is_payload(input, next) {
+                return answer_payload(input, header, next, shape, output);
+            }
+            answer_rows(input, header, next, shape, output)
+        }
+    }
+}
+
+// Writes the answer to an input at the front of the output, and gives its length; an output that is too short keeps its bytes.
+pub fn answer_card(input: &[u8], output: &mut [u8]) -> usize
+    ensures { λ r. ⌜ r ≡ length (answer (now (input .entry))) ⌝ }
+    ensures { λ r. ⌜ now (output .exit) ≡ outputLeaves (answer (now (input .entry))) (now (output .entry)) ⌝ }
+    ensures { λ r. do ⌜ (← ⟦MAX_READ⟧ .entry) ≡ maxInput + 1 ⌝ }
+    ensures { λ r. do ⌜ (← ⟦MAX_ANSWER⟧ .entry) ≡ maxAnswer ⌝ }
+{
+    if input.len() > MAX_INPUT {
+        return refuse(8, output);
+    }
+    let HeaderAnswer::Found(header, next) = parse_header(input) else {
+        return refuse(8, output);
+    };
+    answer_header(input, header, next, output)
+}
