@@ -29,7 +29,12 @@ pub(crate) fn sizes(columns: u64, rows: u64, planes: u64, strength: u64) {
 }
 
 pub(crate) fn shape(s: Shape) {
-    sizes(s.columns as u64, s.rows as u64, s.planes as u64, s.strength as u64);
+    sizes(
+        s.columns as u64,
+        s.rows as u64,
+        s.planes as u64,
+        s.strength as u64,
+    );
 }
 
 // A cell, after a comma.

@@ -8,11 +8,17 @@ use crate::print;
 pub(crate) type Tally = [u64; 77];
 
 pub(crate) const SHAPE: usize = 0;
+
 pub(crate) const PLAN: usize = 1;
+
 pub(crate) const CLASS: usize = 2;
+
 pub(crate) const WRITE: usize = 3;
+
 pub(crate) const READ: usize = 4;
+
 pub(crate) const MEND: usize = 5;
+
 pub(crate) const GAUGE: usize = 6;
 
 const DIFFERENCES: usize = 10;
@@ -43,7 +49,13 @@ fn entry(tally: &Tally, operation: usize, entry: usize) -> u64 {
 }
 
 // Counts one comparison, and says whether the two answers and the lent buffers agree.
-pub(crate) fn agree(tally: &mut Tally, operation: usize, given: Answer, expected: Answer, buffers: bool) -> bool {
+pub(crate) fn agree(
+    tally: &mut Tally,
+    operation: usize,
+    given: Answer,
+    expected: Answer,
+    buffers: bool,
+) -> bool {
     add(tally, operation, given.number);
     if buffers {
         if answer::same(given, expected) {

@@ -1,15 +1,14 @@
 // The worked examples of document 01 that are not proved, and a case for each error that it lists. A line each.
+use crate::answer::Answer;
+use crate::compare::coding;
+use crate::compare::placing;
+use crate::print;
 use codec::correct::correct;
 use codec::decode::decode;
 use codec::encode::encode;
 use codec::plan::plan;
 use lattice::shape::NewShape;
 use lattice::shape::Shape;
-
-use crate::answer::Answer;
-use crate::compare::coding;
-use crate::compare::placing;
-use crate::print;
 
 fn refusal(number: usize) {
     print::labelled(b"refusal ", number as u64);

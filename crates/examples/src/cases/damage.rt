@@ -1,11 +1,10 @@
 // What is done to a written field before it is read.
 ghost use Prim.Native.Nat.{_<_, _≤_};
-use lattice::shape::Shape;
-
 use crate::cases::random;
 use crate::second::lawful;
 use crate::second::layout::Field;
 use crate::second::settings;
+use lattice::shape::Shape;
 
 // Some cell of a field.
 fn some_cell(x: u64, cells: usize) -> usize

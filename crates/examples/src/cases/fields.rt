@@ -1,13 +1,12 @@
 // The cases of one shape: its plan, the classes of some cells, and fields that are written, damaged, read and mended.
 ghost use Prim.Native.Nat.{_<_, _≤_};
-use lattice::shape::Shape;
-
 use crate::cases::damage;
 use crate::cases::random;
 use crate::cases::shapes;
 use crate::compare;
 use crate::second;
 use crate::tally::Tally;
+use lattice::shape::Shape;
 
 fn at_most(x: u64, end: u64) -> usize
     ensures { λ r. ⌜ r ≤ end ⌝ }

@@ -1,9 +1,8 @@
 // Cases for making a shape, the class of a cell far outside, and the gauge.
-use lattice::shape::Shape;
-
 use crate::cases::random;
 use crate::compare;
 use crate::tally::Tally;
+use lattice::shape::Shape;
 
 // A number near a limit.
 fn edge(x: u64) -> usize {

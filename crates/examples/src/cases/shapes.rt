@@ -1,8 +1,7 @@
 // Flat shapes, stacks and refused shapes.
 ghost use Prim.Native.Nat.{_<_};
-use lattice::shape::Shape;
-
 use crate::cases::random;
+use lattice::shape::Shape;
 
 fn shape_of(columns: u16, rows: u16, planes: u16, strength: u16) -> Shape {
     Shape {
@@ -20,8 +19,18 @@ fn flat(k: usize) -> Shape
     let t = (k / 3 + 1) as u16;
     let x = random::seed(k, 100);
     match k % 3 {
-        0 => shape_of(1 + random::below(x, 9) as u16, 1 + random::below(random::next(x), 9) as u16, 1, t),
-        1 => shape_of(3 + random::below(x, 12) as u16, 3 + random::below(random::next(x), 10) as u16, 1, t),
+        0 => shape_of(
+            1 + random::below(x, 9) as u16,
+            1 + random::below(random::next(x), 9) as u16,
+            1,
+            t,
+        ),
+        1 => shape_of(
+            3 + random::below(x, 12) as u16,
+            3 + random::below(random::next(x), 10) as u16,
+            1,
+            t,
+        ),
         _ => large(k / 3, t),
     }
 }

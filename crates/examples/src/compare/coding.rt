@@ -1,11 +1,6 @@
 // Writing, reading and mending.
 ghost use Prim.Native.Nat.{_≤_};
 ghost use lib.ListN.{length};
-use codec::correct::CorrectAnswer;
-use codec::decode::DecodeAnswer;
-use codec::encode::EncodeAnswer;
-use lattice::shape::Shape;
-
 use crate::answer;
 use crate::answer::Answer;
 use crate::print;
@@ -14,6 +9,10 @@ use crate::second::layout::Field;
 use crate::second::write::Payload;
 use crate::tally;
 use crate::tally::Tally;
+use codec::correct::CorrectAnswer;
+use codec::decode::DecodeAnswer;
+use codec::encode::EncodeAnswer;
+use lattice::shape::Shape;
 
 fn same_bytes(a: &[u8], b: &[u8]) -> bool {
     let mut i = 0;
@@ -54,20 +53,39 @@ pub(crate) fn of_encode(given: EncodeAnswer) -> Answer {
     }
 }
 
-fn encode_slices(shape: Shape, payload: &[u8], bytes: usize, field: &mut [u8], cells: usize) -> Answer
+fn encode_slices(
+    shape: Shape,
+    payload: &[u8],
+    bytes: usize,
+    field: &mut [u8],
+    cells: usize,
+) -> Answer
     requires { ⌜ (bytes ≤ length (now payload)) × (cells ≤ length (now field)) ⌝ }
 {
     of_encode(codec::encode::encode(shape, &payload[..bytes], &mut field[..cells]))
 }
 
-fn encode_first(shape: Shape, payload: &Payload, bytes: usize, field: &mut Field, cells: usize) -> Answer
+fn encode_first(
+    shape: Shape,
+    payload: &Payload,
+    bytes: usize,
+    field: &mut Field,
+    cells: usize,
+) -> Answer
     requires { ⌜ (bytes ≤ 80) × (cells ≤ 512) ⌝ }
 {
     encode_slices(shape, payload, bytes, field, cells)
 }
 
 // The first `bytes` of a payload are written into the first `cells` of a field that holds what `before` has.
-pub(crate) fn write(tally: &mut Tally, shape: Shape, payload: &Payload, bytes: usize, before: &Field, cells: usize)
+pub(crate) fn write(
+    tally: &mut Tally,
+    shape: Shape,
+    payload: &Payload,
+    bytes: usize,
+    before: &Field,
+    cells: usize,
+)
     requires { ⌜ (bytes ≤ 80) × (cells ≤ 512) ⌝ }
 {
     let mut theirs = *before;
@@ -94,20 +112,39 @@ pub(crate) fn of_decode(given: DecodeAnswer) -> Answer {
     }
 }
 
-fn decode_slices(shape: Shape, payload: &mut [u8], bytes: usize, field: &[u8], cells: usize) -> Answer
+fn decode_slices(
+    shape: Shape,
+    payload: &mut [u8],
+    bytes: usize,
+    field: &[u8],
+    cells: usize,
+) -> Answer
     requires { ⌜ (bytes ≤ length (now payload)) × (cells ≤ length (now field)) ⌝ }
 {
     of_decode(codec::decode::decode(shape, &mut payload[..bytes], &field[..cells]))
 }
 
-fn decode_first(shape: Shape, payload: &mut Payload, bytes: usize, field: &Field, cells: usize) -> Answer
+fn decode_first(
+    shape: Shape,
+    payload: &mut Payload,
+    bytes: usize,
+    field: &Field,
+    cells: usize,
+) -> Answer
     requires { ⌜ (bytes ≤ 80) × (cells ≤ 512) ⌝ }
 {
     decode_slices(shape, payload, bytes, field, cells)
 }
 
 // The first `cells` of a field are read into the first `bytes` of a payload that holds what `before` has.
-pub(crate) fn read(tally: &mut Tally, shape: Shape, before: &Payload, bytes: usize, field: &Field, cells: usize)
+pub(crate) fn read(
+    tally: &mut Tally,
+    shape: Shape,
+    before: &Payload,
+    bytes: usize,
+    field: &Field,
+    cells: usize,
+)
     requires { ⌜ (bytes ≤ 80) × (cells ≤ 512) ⌝ }
 {
     let mut theirs = *before;

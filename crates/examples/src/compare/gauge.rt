@@ -1,13 +1,12 @@
 // The gauge.
-use lattice::distance::DistanceTest;
-use lattice::distance::Triple;
-
 use crate::answer;
 use crate::answer::Answer;
 use crate::print;
 use crate::second;
 use crate::tally;
 use crate::tally::Tally;
+use lattice::distance::DistanceTest;
+use lattice::distance::Triple;
 
 // A coordinate from −17 to 17, with 17 added; 99 for any other.
 fn shifted(z: i32) -> u64 {

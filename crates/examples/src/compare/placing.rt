@@ -1,15 +1,14 @@
 // Making a shape, the plan of a field, and the class of a cell.
-use codec::plan::PlanAnswer;
-use lattice::class::CellClass;
-use lattice::shape::NewShape;
-use lattice::shape::Shape;
-
 use crate::answer;
 use crate::answer::Answer;
 use crate::print;
 use crate::second;
 use crate::tally;
 use crate::tally::Tally;
+use codec::plan::PlanAnswer;
+use lattice::class::CellClass;
+use lattice::shape::NewShape;
+use lattice::shape::Shape;
 
 fn shape_figures(shape: Shape) -> Answer {
     Answer {
@@ -56,7 +55,13 @@ fn expected_shape(columns: usize, rows: usize, planes: usize, strength: usize) -
     }
 }
 
-pub(crate) fn shape(tally: &mut Tally, columns: usize, rows: usize, planes: usize, strength: usize) {
+pub(crate) fn shape(
+    tally: &mut Tally,
+    columns: usize,
+    rows: usize,
+    planes: usize,
+    strength: usize,
+) {
     let given = of_new_shape(Shape::new(columns, rows, planes, strength));
     let expected = expected_shape(columns, rows, planes, strength);
     if !tally::agree(tally, tally::SHAPE, given, expected, true) {

@@ -16,7 +16,11 @@ pub(crate) fn turned_over(cell: u8) -> u8
 fn added(field: &Field, i: usize, turned: usize, position: usize) -> usize
     requires { ⌜ i < 512 ⌝ }
 {
-    let cell = if i == turned { turned_over(field[i]) } else { field[i] };
+    let cell = if i == turned {
+        turned_over(field[i])
+    } else {
+        field[i]
+    };
     if cell == 1 { position } else { 0 }
 }
 

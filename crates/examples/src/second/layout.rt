@@ -1,12 +1,12 @@
 // Which class each cell of a small field has, and which cells hold checks.
 ghost use Prim.Native.Nat.{_<_, _≤_};
-use lattice::shape::Shape;
-
 use crate::second::settings;
 use crate::second::settings::Settings;
+use lattice::shape::Shape;
 
 // At most 512 cells: a byte, a class and a mark for each.
 pub(crate) type Field = [u8; 512];
+
 pub(crate) type Classes = [u16; 512];
 
 // A mark is 1 where the cell holds a check.
@@ -54,7 +54,11 @@ fn is_power_of_two(p: usize) -> bool
 fn mark(classes: &Classes, i: usize) -> u8
     requires { ⌜ i < 512 ⌝ }
 {
-    if is_power_of_two(position(classes, i)) { 1 } else { 0 }
+    if is_power_of_two(position(classes, i)) {
+        1
+    } else {
+        0
+    }
 }
 
 // The mark of each cell.

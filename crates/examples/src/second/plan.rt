@@ -1,11 +1,10 @@
 // The plan of a field and the class of a cell.
 ghost use Prim.Native.Nat.{_<_, _≤_};
-use lattice::shape::Shape;
-
 use crate::answer;
 use crate::answer::Answer;
 use crate::second::settings;
 use crate::second::settings::Settings;
+use lattice::shape::Shape;
 
 // The number of cells of each class.
 type ClassSizes = [u32; 512];

@@ -1,7 +1,5 @@
 // Reading and mending: class by class, the lawful class that differs in at most one cell, by search.
 ghost use Prim.Native.Nat.{_≤_};
-use lattice::shape::Shape;
-
 use crate::answer;
 use crate::answer::Answer;
 use crate::second::lawful;
@@ -12,6 +10,7 @@ use crate::second::layout::Field;
 use crate::second::plan;
 use crate::second::settings;
 use crate::second::write::Payload;
+use lattice::shape::Shape;
 
 // What is found of one class, or of all of them.
 enum Found {
@@ -140,7 +139,13 @@ fn spell(checks: &Checks, cells: usize, field: &Field, bytes: usize, payload: &m
 }
 
 // The count for a field of an accepted shape, and the mended field in `mended`.
-fn look(shape: Shape, checks: &mut Checks, cells: usize, field: &Field, mended: &mut Field) -> Answer
+fn look(
+    shape: Shape,
+    checks: &mut Checks,
+    cells: usize,
+    field: &Field,
+    mended: &mut Field,
+) -> Answer
     requires { ⌜ cells ≤ 512 ⌝ }
 {
     if cells as u64 != settings::cells(shape) {
@@ -164,7 +169,13 @@ fn look(shape: Shape, checks: &mut Checks, cells: usize, field: &Field, mended: 
 }
 
 // Reads the first `cells` of a field into the first `bytes` of a payload. The figure: the count.
-pub(crate) fn read(shape: Shape, payload: &mut Payload, bytes: usize, field: &Field, cells: usize) -> Answer
+pub(crate) fn read(
+    shape: Shape,
+    payload: &mut Payload,
+    bytes: usize,
+    field: &Field,
+    cells: usize,
+) -> Answer
     requires { ⌜ (cells ≤ 512) × (bytes ≤ 80) ⌝ }
 {
     let number = settings::refusal(shape);

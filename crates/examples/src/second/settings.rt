@@ -84,7 +84,11 @@ fn stack(t: u16) -> Settings {
         4 => Settings { m: 12, b: 3, c: 5 },
         5 => Settings { m: 27, b: 4, c: 10 },
         6 => Settings { m: 38, b: 7, c: 11 },
-        7 => Settings { m: 70, b: 16, c: 25 },
+        7 => Settings {
+            m: 70,
+            b: 16,
+            c: 25,
+        },
         _ => Settings { m: 92, b: 9, c: 39 },
     }
 }
@@ -124,5 +128,10 @@ pub(crate) fn class_of_byte(shape: Shape, settings: Settings, i: u16) -> u16 {
     if rows == 0 {
         return 0;
     }
-    class(settings, i / columns % rows, i / columns / rows, i % columns)
+    class(
+        settings,
+        i / columns % rows,
+        i / columns / rows,
+        i % columns,
+    )
 }

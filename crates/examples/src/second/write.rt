@@ -1,7 +1,5 @@
 // Writing: the payload's bits and the filler, and then, class by class, the check cells by search.
 ghost use Prim.Native.Nat.{_≤_};
-use lattice::shape::Shape;
-
 use crate::answer;
 use crate::answer::Answer;
 use crate::second::lawful;
@@ -11,6 +9,7 @@ use crate::second::layout::Classes;
 use crate::second::layout::Field;
 use crate::second::plan;
 use crate::second::settings;
+use lattice::shape::Shape;
 
 // A payload of at most 80 bytes.
 pub(crate) type Payload = [u8; 80];
@@ -36,11 +35,22 @@ fn bit(payload: &Payload, bytes: usize, filler: u8, k: usize) -> u8
     requires { ⌜ bytes ≤ 80 ⌝ }
 {
     let q = k / 8;
-    if q < bytes { payload[q] / weight(k % 8) % 2 } else { filler }
+    if q < bytes {
+        payload[q] / weight(k % 8) % 2
+    } else {
+        filler
+    }
 }
 
 // The cells that hold no check, in byte order; a check cell is 0 for now.
-fn lay(checks: &Checks, cells: usize, payload: &Payload, bytes: usize, filler: u8, field: &mut Field)
+fn lay(
+    checks: &Checks,
+    cells: usize,
+    payload: &Payload,
+    bytes: usize,
+    filler: u8,
+    field: &mut Field,
+)
     requires { ⌜ (cells ≤ 512) × (bytes ≤ 80) ⌝ }
 {
     let mut k = 0;
@@ -98,7 +108,14 @@ fn settle(classes: &Classes, checks: &Checks, cells: usize, m: u16, field: &mut 
 }
 
 // The field of a payload, with cells past the payload that hold `filler`: document 01 has them 0.
-pub(crate) fn write_with(shape: Shape, cells: usize, payload: &Payload, bytes: usize, filler: u8, field: &mut Field)
+pub(crate) fn write_with(
+    shape: Shape,
+    cells: usize,
+    payload: &Payload,
+    bytes: usize,
+    filler: u8,
+    field: &mut Field,
+)
     requires { ⌜ (cells ≤ 512) × (bytes ≤ 80) ⌝ }
 {
     let s = settings::settings_of(shape);
@@ -111,7 +128,13 @@ pub(crate) fn write_with(shape: Shape, cells: usize, payload: &Payload, bytes: u
 }
 
 // Writes the first `bytes` of a payload into the first `cells` of a field, where those are the lengths of the plan.
-pub(crate) fn write(shape: Shape, payload: &Payload, bytes: usize, field: &mut Field, cells: usize) -> Answer
+pub(crate) fn write(
+    shape: Shape,
+    payload: &Payload,
+    bytes: usize,
+    field: &mut Field,
+    cells: usize,
+) -> Answer
     requires { ⌜ (cells ≤ 512) × (bytes ≤ 80) ⌝ }
 {
     let number = settings::refusal(shape);
