@@ -75,12 +75,13 @@ size_t varmintfoil_encode(size_t columns, size_t rows, size_t planes, size_t str
                           uint8_t *field, size_t field_len);
 
 /* Reads a field: fills the payload from the one field of codewords that differs in at most one cell of each class, and counts the cells
- * where it differs. What the payload held before does not matter. Refusals: 1, 2, 3, 4, 5, 6, 7. */
+ * where it differs. Where the damage took two or more cells of one class, that field need not be the one that was written. What the
+ * payload held before does not matter. Refusals: 1, 2, 3, 4, 5, 6, 7. */
 varmintfoil_count_t varmintfoil_decode(size_t columns, size_t rows, size_t planes, size_t strength, uint8_t *payload,
                                        size_t payload_len, const uint8_t *field, size_t field_len);
 
 /* Corrects a field where it lies: leaves the one field of codewords that differs in at most one cell of each class, and counts the cells
- * that it changed. Refusals: 1, 2, 4, 5, 6, 7. */
+ * that it changed; of damage to two or more cells of one class the same holds. Refusals: 1, 2, 4, 5, 6, 7. */
 varmintfoil_count_t varmintfoil_correct(size_t columns, size_t rows, size_t planes, size_t strength, uint8_t *field,
                                         size_t field_len);
 

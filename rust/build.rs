@@ -13,7 +13,7 @@ fn main() {
     if !archive.is_file() {
         eprintln!("\nThe proved library {} is not there.", archive.display());
         eprintln!("Run `rt staticlib ffi` at the repository's root, then cargo again.");
-        eprintln!("Without it, `cargo test --release --no-default-features` still checks the second implementation.\n");
+        eprintln!("Without it, `cargo test --release --no-default-features` still checks the reference implementation.\n");
         std::process::exit(1);
     }
     println!("cargo:rustc-link-search=native={}", folder.display());

@@ -1,4 +1,4 @@
-//! The card program of the second implementation: `VARMINTFOIL_CARD` may name it, to try the card test without the proved program.
+//! The card program of the reference implementation: `VARMINTFOIL_CARD` may name it, to try the card test without the proved program.
 
 use std::io::{Read, Write};
 

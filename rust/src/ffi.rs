@@ -1,8 +1,8 @@
 //! The C interface of the proved library, as numbers and slices. All unsafe code is here.
 //!
-//! Each function takes any numbers and slices of any length. It answers the number 0, or the first refusal that document 01 lists; then
-//! all figures are 0 and the slices keep their bytes. A slice is valid for its length and a mutable one overlaps no other, which is
-//! what the library cannot see for itself. `include/varmintfoil.h` is the same interface for C.
+//! Each function takes any numbers and slices of any length. It answers the number 0, or the first refusal that applies, in the order
+//! listed with it; then all figures are 0 and the slices keep their bytes. A slice is valid for its length and a mutable one overlaps no
+//! other, which is what the library cannot see for itself. `include/varmintfoil.h` is the same interface for C.
 
 /// The answer of `plan`.
 #[repr(C)]

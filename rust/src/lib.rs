@@ -24,7 +24,7 @@
 //! # Ok::<(), Refusal>(())
 //! ```
 //!
-//! Beside the wrapper stand [`reference`], a second implementation that the tests compare it with, and [`plain`], the baseline of the
+//! Beside the wrapper stand [`reference`], a reference implementation that the tests compare it with, and [`plain`], the baseline of the
 //! benchmark.
 
 #![deny(unsafe_code)]

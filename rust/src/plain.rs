@@ -1,7 +1,7 @@
 //! The baseline of the benchmark: the algorithm of the proved library in plain Rust.
 //!
 //! Each pass walks the cells in byte order with one count and one syndrome for each class, and does a fixed amount of work a cell.
-//! A refusal is the number that document 01 lists.
+//! A refusal is the number that `include/varmintfoil.h` lists.
 
 /// The most classes that a shape can have, at strength 32 of a flat field.
 const MAX_CLASSES: usize = 512;

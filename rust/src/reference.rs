@@ -1,4 +1,4 @@
-//! The second implementation: document 01, sentence by sentence, in plain Rust.
+//! The reference implementation: document 01, sentence by sentence, in plain Rust.
 //!
 //! It is written to be read and to be compared with, not to be fast. A class is corrected by search, not by its syndrome: the class
 //! as it is and with each one cell flipped is tried, and the codeword among them is taken. A refusal is the number that the document lists.

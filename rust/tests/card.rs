@@ -1,5 +1,5 @@
 //! The card program, run as a process: the worked card, a witness for each refusal and each fault of form, and generated texts against
-//! the second implementation. `VARMINTFOIL_CARD` names the program; without it, target/bin/card at the repository's root.
+//! the reference implementation. `VARMINTFOIL_CARD` names the program; without it, target/bin/card at the repository's root.
 
 mod common;
 
@@ -41,7 +41,7 @@ fn run(input: &[u8]) -> Vec<u8> {
 
 fn assert_output(input: &[u8], expected: &str, what: &str) {
     assert_eq!(String::from_utf8_lossy(&run(input)), expected, "{what}");
-    assert_eq!(String::from_utf8_lossy(&reference::card(input)), expected, "the second implementation: {what}");
+    assert_eq!(String::from_utf8_lossy(&reference::card(input)), expected, "the reference implementation: {what}");
 }
 
 fn assert_refusal(input: &str, number: usize, what: &str) {

@@ -1,4 +1,4 @@
-//! The proved library against the second implementation: every operation, at least 200,000 times each, numbers, figures and the final
+//! The proved library against the reference implementation: every operation, at least 200,000 times each, numbers, figures and the final
 //! bytes of every buffer.
 
 mod common;

@@ -1,4 +1,4 @@
-//! The baseline of the benchmark against the second implementation. Needs no archive.
+//! The baseline of the benchmark against the reference implementation. Needs no archive.
 
 mod common;
 
@@ -21,7 +21,7 @@ impl Codec for Plain {
     }
 }
 
-/// The second implementation itself, for the tests that compare with no other.
+/// The reference implementation itself, for the tests that compare with no other.
 struct Reference;
 
 impl Codec for Reference {

@@ -1,4 +1,4 @@
-//! The second implementation against the examples of document 01, and against itself where a class is small enough to try everything.
+//! The reference implementation against the examples of document 01, and against itself where a class is small enough to try everything.
 
 use varmintfoil::reference::*;
 

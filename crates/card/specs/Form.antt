@@ -95,7 +95,7 @@ ProgramRefused =
     (s : List ℕ)
     → ((programNumber s ≡ 0) ↔ NoneHolds (programRefusals s)) × ((k : ℕ) → (programNumber s ≡ suc k) ↔ FirstIs (suc k) (programRefusals s))
 
--- Theorem. What is read from an input is what the input is the text of.
+-- Theorem. Where a header is found, and a payload or rows of the right form behind it, the input is exactly the text of what is read from it.
 pub record ParsedIsText : Type 0 where
   pub header : (s : List ℕ) (h : Header) (next : ℕ) → headerOf s ≡ head.Found h next
       → Small h × (next ≡ length (headerText h)) × (s ≡ headerText h ++ drop next s)
@@ -111,7 +111,7 @@ pub record OneCard : Type 0 where
   pub rows : (h : Header) (a b : List ℕ) → FieldCells h a → FieldCells h b → fieldText h a ≡ fieldText h b → a ≡ b
   pub either : (h : Header) → CardHeader h → (p cells : List ℕ) → payloadText p ≢ fieldText h cells
 
--- the output is one of three forms: the text of a field written, the text of a field read, or a refusal alone
+-- the output is one of three forms: the answer to a payload (header, `classes`, rows), the answer to rows (header, `mended`, payload), or a refusal alone
 pub data OneOfThree (s : List ℕ) : Type 0 where
   written : (h : Header) (p : List ℕ) → CardHeader h → length p ≡ planBytes (shapeOf h) → Bytes p
       → programNumber s ≡ 0 → s ≡ payloadCard h p → answer s ≡ writtenText h p → OneOfThree s

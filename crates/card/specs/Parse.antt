@@ -17,10 +17,11 @@ use Rattle.card.specs.Text.{columnsKey, rowsKey, planesKey, strengthKey,
 unfoldable pub keyAt : List ℕ → List ℕ → ℕ → Bool
 keyAt key s at = allBelow (λ j. eqb (getD s (at + j) 0) (getD key j 0)) (length key)
 
--- how many decimal digits follow one another from `at`, counted up to a limit
+-- a decimal digit
 abbrev pub isDigit : ℕ → Bool
 isDigit b = inRange 48 57 b
 
+-- how many decimal digits follow one another from `at`, counted up to a limit
 abbrev pub digitRun : List ℕ → ℕ → ℕ → ℕ
 digitRun s at zero = 0
 digitRun s at (suc limit) = cond (isDigit (getD s at 0)) (1 + digitRun s (at + 1) limit) 0
@@ -97,15 +98,17 @@ rowStart at w r = at + r * (length rowKey + w + 1)
 abbrev pub cellPlace : ℕ → ℕ → ℕ → ℕ
 cellPlace at w i = rowStart at w (i / w) + length rowKey + i % w
 
--- the rest of the input from `at` is k lines `row` of w digits 0 or 1
+-- line r of the rows from `at` is a line `row` of w digits 0 or 1
 unfoldable pub rowOk : List ℕ → ℕ → ℕ → ℕ → Bool
 rowOk s at w r =
     keyAt rowKey s (rowStart at w r)
     && allBelow (λ c. inRange 48 49 (getD s (rowStart at w r + length rowKey + c) 0)) w
     && eqb (getD s (rowStart at w r + length rowKey + w) 0) feed
 
+-- the rest of the input from `at` is k lines `row` of w digits 0 or 1
 unfoldable pub rowsOk : List ℕ → ℕ → ℕ → ℕ → Bool
 rowsOk s at w k = eqb (length s) (rowStart at w k) && allBelow (rowOk s at w) k
 
+-- the cells of those rows
 unfoldable pub cellsAt : List ℕ → ℕ → ℕ → ℕ → List ℕ
 cellsAt s at w n = listOf (λ i. getD s (cellPlace at w i) 0 - 48) n

@@ -29,7 +29,7 @@ fn put_bytes(out: &mut [u8], at: usize, text: &[u8]) -> usize
     at + text.len()
 }
 
-// The number of decimal digits of a number of at most five.
+// The number of decimal digits of a number below 100,000; 5 for any above.
 fn digit_count(n: u32) -> usize
     ensures { λ r. ⌜ r ≡ digitCount n ⌝ }
 {
