@@ -103,29 +103,24 @@ fn plans() {
 
 #[test]
 fn classes_of_cells() {
-    let mut random = Random::new(2);
-    let mut tally = Tally::default();
-    for _ in 0..TIMES {
-        let shape = any_shape(&mut random);
+    compare_many(2, TIMES, "class", &[1, 2, 4], |random, shape, tally| {
         let side = |random: &mut Random, n: usize| match random.below(8) {
             0 => refused_number(random, n),
             1 => n,
             _ => random.below(n.clamp(1, 256)),
         };
-        let (row, plane, column) = (side(&mut random, shape.h), side(&mut random, shape.d), side(&mut random, shape.w));
+        let (row, plane, column) = (side(random, shape.h), side(random, shape.d), side(random, shape.w));
         let answer = reference::class_of(shape.w, shape.h, shape.d, shape.t, row, plane, column);
         let actual = ffi::class_of(shape.w, shape.h, shape.d, shape.t, row, plane, column);
         let expected = ffi::ClassAnswer { number: number_of(&answer), class_index: answer.unwrap_or(0) };
         assert_eq!(actual, expected, "{shape:?} {row} {plane} {column}");
-        if let Ok(s) = shape_of(&shape) {
+        if let Ok(s) = shape_of(shape) {
             let wrapped = varmintfoil::class_of(&s, row, plane, column);
             assert_eq!(wrapped, answer.map_err(|_| Refusal::OutsideShape), "{shape:?} {row} {plane} {column}");
             assert_eq!(s.cell(row, plane, column).is_ok(), answer.is_ok());
         }
-        tally.note(&shape, number_of(&answer));
-    }
-    tally.assert_numbers("class", &[1, 2, 4]);
-    tally.assert_stacks("class");
+        tally.note(shape, number_of(&answer));
+    });
 }
 
 #[test]

@@ -332,47 +332,50 @@ pub fn compare_correct<C: Codec>(shape: &Numbers, field: &[u8], tally: &mut Tall
     tally.note(shape, number_of(&answer));
 }
 
-/// Random encodings.
-pub fn compare_encodings<C: Codec>(times: usize) {
-    let mut random = Random::new(3);
+/// Random calls of one operation, each on a shape of its own; each listed number must come up, and no other.
+pub fn compare_many(
+    seed: u64,
+    times: usize,
+    operation: &str,
+    listed: &[usize],
+    mut compare: impl FnMut(&mut Random, &Numbers, &mut Tally),
+) {
+    let mut random = Random::new(seed);
     let mut tally = Tally::default();
     for _ in 0..times {
         let shape = any_shape(&mut random);
-        let payload = lent_payload(&mut random, &shape);
-        let planned = shape.plan().map_or(20, |plan| plan.cells);
-        let n = length(&mut random, planned);
-        let field = random.bytes(n);
-        compare_encode::<C>(&shape, &payload, &field, &mut tally);
+        compare(&mut random, &shape, &mut tally);
     }
-    tally.assert_numbers("encode", &[1, 2, 3, 4]);
-    tally.assert_stacks("encode");
+    tally.assert_numbers(operation, listed);
+    tally.assert_stacks(operation);
+}
+
+/// Random encodings.
+pub fn compare_encodings<C: Codec>(times: usize) {
+    compare_many(3, times, "encode", &[1, 2, 3, 4], |random, shape, tally| {
+        let payload = lent_payload(random, shape);
+        let planned = shape.plan().map_or(20, |plan| plan.cells);
+        let n = length(random, planned);
+        let field = random.bytes(n);
+        compare_encode::<C>(shape, &payload, &field, tally);
+    });
 }
 
 /// Random decodings.
 pub fn compare_decodings<C: Codec>(times: usize) {
-    let mut random = Random::new(4);
-    let mut tally = Tally::default();
-    for _ in 0..times {
-        let shape = any_shape(&mut random);
-        let payload = lent_payload(&mut random, &shape);
-        let field = lent_field(&mut random, &shape);
-        compare_decode::<C>(&shape, &payload, &field, &mut tally);
-    }
-    tally.assert_numbers("decode", &[1, 2, 3, 4, 5, 6, 7]);
-    tally.assert_stacks("decode");
+    compare_many(4, times, "decode", &[1, 2, 3, 4, 5, 6, 7], |random, shape, tally| {
+        let payload = lent_payload(random, shape);
+        let field = lent_field(random, shape);
+        compare_decode::<C>(shape, &payload, &field, tally);
+    });
 }
 
 /// Random corrections.
 pub fn compare_corrections<C: Codec>(times: usize) {
-    let mut random = Random::new(5);
-    let mut tally = Tally::default();
-    for _ in 0..times {
-        let shape = any_shape(&mut random);
-        let field = lent_field(&mut random, &shape);
-        compare_correct::<C>(&shape, &field, &mut tally);
-    }
-    tally.assert_numbers("correct", &[1, 2, 4, 5, 6, 7]);
-    tally.assert_stacks("correct");
+    compare_many(5, times, "correct", &[1, 2, 4, 5, 6, 7], |random, shape, tally| {
+        let field = lent_field(random, shape);
+        compare_correct::<C>(shape, &field, tally);
+    });
 }
 
 /// The largest shapes: encoded, then decoded and corrected whole, damaged within the strength and beyond it.
