@@ -7,6 +7,11 @@ use mathlib.Core.Path.{_≡_}
 use lib.Dec.{leb, eqb}
 use Rattle.lattice.specs.Refusal.{Refusal, refusal, unless}
 use Rattle.lattice.specs.declared.shape.Shape.{Shape}
+use Rattle.lattice.specs.declared.shape.ShapeNumbers.{ShapeNumbers}
+
+-- the shape of numbers of any size: the definitions below say which are refused
+abbrev pub shapeFrom : ShapeNumbers → Shape
+shapeFrom n = record { columns = n .columns; rows = n .rows; planes = n .planes; strength = n .strength }
 
 -- the limits: W and H from 1 to 256, D from 1 to 16, W × H × D at most 65,536
 abbrev pub maxSide : ℕ

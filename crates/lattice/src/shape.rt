@@ -12,6 +12,15 @@ pub struct Shape {
     pub strength: u16,
 }
 
+// The numbers of a shape as a caller hands them over, of any size.
+#[repr(C)]
+pub struct ShapeNumbers {
+    pub columns: usize,
+    pub rows: usize,
+    pub planes: usize,
+    pub strength: usize,
+}
+
 // What the constructor gives: the shape, or the refusal 1 or 2.
 pub enum NewShape {
     Accepted(Shape),
