@@ -13,4 +13,4 @@ pub boundAttained : BoundAttained
 unfolding labels
 boundAttained s a flat wide high =
     le-antisymm (classesBelow .most s a)
-    (labelsNeeded s flat (legal (s .columns) (s .rows) (s .planes) (s .strength) a .strength-low) wide high (classOf s) (clusterClasses s a))
+    (labelsNeeded s flat (legal s a .strength-low) wide high (classOf s) (clusterClasses s a))

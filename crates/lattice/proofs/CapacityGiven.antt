@@ -5,26 +5,28 @@ use mathlib.Core.Path.{_≡_, sym, ap, _∙_}
 use native.Mathlib.Decide.{ℕ-discrete}
 use native.Mathlib.Nat.{lt-of-lt-of-le}
 use native.Mathlib.Omega.{arith}
+use lib.ListN.{getD}
 use Rattle.lattice.specs.declared.shape.Shape.{Shape}
-use Rattle.lattice.specs.Refusal.{figure}
-use Rattle.lattice.specs.Shape.{numberOf, cellsOf, maxClasses, Accepted}
-use Rattle.lattice.specs.Settings.{settingsOf}
+use Rattle.lattice.specs.Refusal.{beside, figure}
+use Rattle.lattice.specs.Shape.{shapeNumber, cellsOf, maxClasses, Accepted}
 use Rattle.lattice.specs.Cell.{cellAt}
-use Rattle.lattice.specs.Class.{classAt}
-use Rattle.lattice.specs.Position.{dataCells, capacity, dataIn}
+use Rattle.lattice.specs.Class.{classesOf, classAt}
+use Rattle.lattice.specs.Position.{size, dataCells, capacity, dataIn}
 use Rattle.lattice.proofs.CapacitySum.{capacity-by-class}
 use Rattle.lattice.proofs.ClassBelow.{class-below, classes-limit}
 use Rattle.lattice.proofs.Counting.{sum-same}
+use Rattle.lattice.proofs.Answers.{beside-zero, beside-other}
 use Rattle.lattice.proofs.Figure.{figure-given, figure-none}
+use Rattle.lattice.proofs.Positions.{size-none}
 use Rattle.lattice.proofs.Sizes.{Sizes}
 
 -- every shape gives at most 512 classes
-pub classes-given : (s : Shape) → figure (numberOf s) (settingsOf s .m) ≤ maxClasses
-classes-given s = go (ℕ-discrete (numberOf s) 0)
+pub classes-given : (s : Shape) → figure (shapeNumber s) (classesOf s) ≤ maxClasses
+classes-given s = go (ℕ-discrete (shapeNumber s) 0)
   where
-    go : Dec (numberOf s ≡ 0) → figure (numberOf s) (settingsOf s .m) ≤ maxClasses
-    go (yes a) = rw (figure-given (numberOf s) (settingsOf s .m) a) (classes-limit s a)
-    go (no r) = rw (figure-none (numberOf s) (settingsOf s .m) r) zero-le
+    go : Dec (shapeNumber s ≡ 0) → figure (shapeNumber s) (classesOf s) ≤ maxClasses
+    go (yes a) = rw (figure-given (shapeNumber s) (classesOf s) a) (classes-limit s a)
+    go (no r) = rw (figure-none (shapeNumber s) (classesOf s) r) zero-le
 
 -- where the table has an entry for the class of every cell, the data cells of the classes in the table add up to the capacity
 pub capacity-held : (cls : ℕ → ℕ) (xs : List ℕ) (n : ℕ) → ((i : ℕ) → i < n → cls i < maxClasses) → Sizes cls xs n
@@ -44,16 +46,17 @@ capacity-accepted s xs e p =
     (λ i l. lt-of-lt-of-le (class-below s e (cellAt s i)) (classes-limit s e))
     p
 
--- and for every shape the capacity that it gives
-pub capacity-given : (s : Shape) (xs : List ℕ) → Sizes (classAt s) xs (figure (numberOf s) (cellsOf s))
-    → dataIn xs ≡ figure (numberOf s) (capacity (classAt s) (cellsOf s))
+-- and for every shape the capacity that it gives, from an array that held 0 for each class
+pub capacity-given : (s : Shape) (before xs : List ℕ) → ((a : ℕ) → a < maxClasses → getD before a 0 ≡ 0)
+    → ((a : ℕ) → a < maxClasses → getD xs a 0 ≡ beside (shapeNumber s) (size (classAt s) a (cellsOf s)) (getD before a 0))
+    → dataIn xs ≡ figure (shapeNumber s) (capacity (classAt s) (cellsOf s))
 unfolding capacity
-capacity-given s xs p = go (ℕ-discrete (numberOf s) 0)
+capacity-given s before xs zeros p = go (ℕ-discrete (shapeNumber s) 0)
   where
-    go : Dec (numberOf s ≡ 0)
-        → dataIn xs ≡ figure (numberOf s) (capacity (classAt s) (cellsOf s))
+    go : Dec (shapeNumber s ≡ 0) → dataIn xs ≡ figure (shapeNumber s) (capacity (classAt s) (cellsOf s))
     go (yes e) =
-        capacity-accepted s xs e (rw (figure-given (numberOf s) (cellsOf s) e) at p) ∙ sym (figure-given (numberOf s) _ e)
+        capacity-accepted s xs e (λ a l. p a l ∙ beside-zero (shapeNumber s) _ _ e) ∙ sym (beside-zero (shapeNumber s) _ 0 e)
     go (no r) =
-        capacity-held (classAt s) xs 0 (λ i l. absurd (omega arith)) (rw (figure-none (numberOf s) (cellsOf s) r) at p)
-        ∙ sym (figure-none (numberOf s) _ r)
+        capacity-held (classAt s) xs 0 (λ i l. absurd (omega arith))
+        (λ a l. p a l ∙ beside-other (shapeNumber s) _ _ r ∙ zeros a l ∙ sym (size-none (classAt s) a))
+        ∙ sym (beside-other (shapeNumber s) _ 0 r)

@@ -1,16 +1,16 @@
 -- The class of the cell with a byte number.
 use Prim.Native.Nat.{ℕ, _/_, _%_, _<_}
-use mathlib.Core.Path.{_≡_, subst, ap, _∙_}
+use mathlib.Core.Path.{_≡_, ap, _∙_}
 use native.Mathlib.Nat.{lt-of-lt-of-le}
 use Rattle.lattice.specs.declared.settings.Settings.{Settings}
 use Rattle.lattice.specs.declared.shape.Shape.{Shape}
+use Rattle.lattice.specs.declared.class.Placement.{Placement}
 use Rattle.lattice.specs.Cell.{Cell, cell, cellAt}
-use Rattle.lattice.specs.Class.{classWith, classAt}
+use Rattle.lattice.specs.Class.{classWith, classOf, classAt, placementOf, classBy}
 use Rattle.lattice.specs.Refusal.{figure}
-use Rattle.lattice.specs.Settings.{settingsGiven}
-use Rattle.lattice.specs.Shape.{numberOf, cellsOf, Accepted, maxClasses}
+use Rattle.lattice.specs.Shape.{shapeNumber, cellsOf, Accepted, maxClasses}
 use Rattle.lattice.proofs.ClassBelow.{class-below, classes-limit}
-use Rattle.lattice.proofs.Figure.{figure-above, figure-given}
+use Rattle.lattice.proofs.Figure.{figure-given}
 use Rattle.lattice.proofs.Limits.{legal}
 use Rattle.lattice.proofs.SettingsLaws.{given-accepted}
 
@@ -20,26 +20,33 @@ pub cell-at : (s : Shape) (i line row plane column : ℕ) → line ≡ i / s .co
 unfolding cellAt
 cell-at s i line row plane column l r p c = rw (r, p, c, l)
 
-pub class-at : (k : Settings) (s : Shape) (i line row plane column a : ℕ) → line ≡ i / s .columns → row ≡ line % s .rows
-    → plane ≡ line / s .rows → column ≡ i % s .columns → a ≡ classWith k (cell row plane column) → a ≡ classWith k (cellAt s i)
-class-at k s i line row plane column a l r p c e =
-    e ∙ ap (λ (x : Cell). classWith k x) (cell-at s i line row plane column l r p c)
+pub class-at : (p : Placement) (i line row plane column a : ℕ) → line ≡ i / p .shape .columns → row ≡ line % p .shape .rows
+    → plane ≡ line / p .shape .rows → column ≡ i % p .shape .columns → a ≡ classWith (p .settings) (cell row plane column)
+    → a ≡ classBy p i
+unfolding classBy
+class-at k i line row plane column a l r p c e =
+    e ∙ ap (λ (x : Cell). classWith (k .settings) x) (cell-at (k .shape) i line row plane column l r p c)
 
--- a cell below the number of cells that a shape gives: the shape is accepted, and the settings that it gives are its own
-module _ (s : Shape) (k : Settings) (n i : ℕ) (g : k ≡ settingsGiven s) (e : n ≡ figure (numberOf s) (cellsOf s)) (l : i < n) where
-  pub at-accepted : Accepted s
-  at-accepted = figure-above (numberOf s) (cellsOf s) i (subst (λ (j : ℕ). i < j) e l)
+-- by the placement of an accepted shape it is the class of the cell
+pub placed : (s : Shape) → Accepted s → (i : ℕ) → classBy (placementOf s) i ≡ classAt s i
+unfolding classBy placementOf classOf
+placed s a i = ap (λ (k : Settings). classWith k (cellAt s i)) (given-accepted s a)
 
-  pub at-class : (a : ℕ) → a ≡ classWith k (cellAt s i) → a ≡ classAt s i
-  at-class a p = p ∙ ap (λ (j : Settings). classWith j (cellAt s i)) (g ∙ given-accepted s at-accepted)
+pub placed-all : (s : Shape) → Accepted s → (p : Placement) → p ≡ placementOf s → _≡_ {A = ℕ → ℕ} (classBy p) (classAt s)
+placed-all s a p g = ap classBy g ∙ (λ k i. placed s a i k)
 
-  pub at-below : (a : ℕ) → a ≡ classWith k (cellAt s i) → a < maxClasses
-  at-below a p =
-      rw (at-class a p) (lt-of-lt-of-le (class-below s at-accepted (cellAt s i)) (classes-limit s at-accepted))
+-- a cell of an accepted shape, and its class by the shape's placement
+module _ (s : Shape) (a : Accepted s) where
+  -- the number of cells that the shape gives is its own, and each cell's is below 65,536
+  pub at-cells : (n : ℕ) → n ≡ figure (shapeNumber s) (cellsOf s) → n ≡ cellsOf s
+  at-cells n e = e ∙ figure-given (shapeNumber s) (cellsOf s) a
 
-  -- the number of the cell is below 65,536
-  pub at-limit : i < 65536
-  at-limit =
-      lt-of-lt-of-le
-      l
-      (rw (e ∙ figure-given (numberOf s) (cellsOf s) at-accepted) (legal _ _ _ _ at-accepted .product))
+  pub at-limit : (n i : ℕ) → n ≡ figure (shapeNumber s) (cellsOf s) → i < n → i < 65536
+  at-limit n i e l = lt-of-lt-of-le l (rw (at-cells n e) (legal s a .product))
+
+  module _ (p : Placement) (g : p ≡ placementOf s) (i r : ℕ) (q : r ≡ classBy p i) where
+    pub at-class : r ≡ classAt s i
+    at-class = q ∙ ap (λ (k : Placement). classBy k i) g ∙ placed s a i
+
+    pub at-below : r < maxClasses
+    at-below = rw at-class (lt-of-lt-of-le (class-below s a (cellAt s i)) (classes-limit s a))

@@ -10,7 +10,7 @@ use Rattle.lattice.specs.declared.shape.Shape.{Shape}
 use Rattle.lattice.specs.Shape.{Accepted, maxClasses}
 use Rattle.lattice.specs.Settings.{settingsOf}
 use Rattle.lattice.specs.Cell.{Cell}
-use Rattle.lattice.specs.Class.{minusMod, classWith, classOf}
+use Rattle.lattice.specs.Class.{minusMod, classWith, classesOf, classOf}
 use Rattle.lattice.proofs.Limits.{legal, strength-stack, strength-most}
 use Rattle.lattice.proofs.SettingsLaws.{settings-flat, settings-stack, flat-most, stack-bounds, classes-some}
 
@@ -26,17 +26,19 @@ class-with-below k x p = mod-lt _ p
 
 -- an accepted shape has at most 512 classes, and every class is below their number
 module _ (s : Shape) (a : Accepted s) where
-  pub classes-limit : settingsOf s .m ≤ maxClasses
+  pub classes-limit : classesOf s ≤ maxClasses
+  unfolding classesOf
   classes-limit = go (eqb (s .planes) 1) refl
     where
       go : (b : Bool) → eqb (s .planes) 1 ≡ b → settingsOf s .m ≤ maxClasses
-      go true e = rw (settings-flat _ (s .strength) (eqb-true (s .planes) 1 e)) (flat-most _ (strength-most _ _ _ _ a))
+      go true e = rw (settings-flat _ (s .strength) (eqb-true (s .planes) 1 e)) (flat-most _ (strength-most s a))
       go false e =
           rw
           (settings-stack _ (s .strength) (eqb-false (s .planes) 1 e))
           (le-trans
-          (stack-bounds _ (legal _ _ _ _ a .strength-low) (strength-stack _ _ _ _ a (eqb-false (s .planes) 1 e)) .1)
+          (stack-bounds _ (legal s a .strength-low) (strength-stack s a (eqb-false (s .planes) 1 e)) .1)
           (lit≤ tt))
 
-  pub class-below : (x : Cell) → classOf s x < settingsOf s .m
+  pub class-below : (x : Cell) → classOf s x < classesOf s
+  unfolding classesOf classOf
   class-below x = class-with-below (settingsOf s) x (classes-some s a)

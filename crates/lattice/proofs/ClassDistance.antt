@@ -11,7 +11,7 @@ use Rattle.lattice.specs.Shape.{Accepted}
 use Rattle.lattice.specs.Settings.{settingsOf}
 use Rattle.lattice.specs.Cell.{Cell, cell, InField}
 use Rattle.lattice.specs.Cluster.{distance}
-use Rattle.lattice.specs.Class.{classOf}
+use Rattle.lattice.specs.Class.{classesOf, classOf}
 use Rattle.lattice.specs.Endless.{pointOf, HasClass, Apart, ApartOnPlane}
 use Rattle.lattice.specs.Placing.{ClassDistance}
 use Rattle.lattice.proofs.Limits.{Legal, legal, strength-stack}
@@ -25,16 +25,21 @@ use Rattle.lattice.proofs.StackDistance.{stackDistance}
 point-inj : (x y : Cell) → x ≢ y → pointOf x ≢ pointOf y
 point-inj x y other e = other (λ i. cell (natAbs (e i .row)) (natAbs (e i .plane)) (natAbs (e i .column)))
 
+-- the class of a cell, as a point of the endless stack
+pub class-point : (s : Shape) → Accepted s → (x : Cell) → HasClass (settingsOf s) (pointOf x) (classOf s x)
+unfolding classesOf classOf
+class-point s accepted x = classIsRemainder .is (settingsOf s) x (classes-some s accepted)
+
 module _ (s : Shape) (accepted : Accepted s) (x y : Cell) (hx : InField s x) (hy : InField s y) (same : classOf s x ≡ classOf s y)
     (other : x ≢ y) where
-  bounds : Legal (s .columns) (s .rows) (s .planes) (s .strength)
-  bounds = legal (s .columns) (s .rows) (s .planes) (s .strength) accepted
+  bounds : Legal s
+  bounds = legal s accepted
 
   class-x : HasClass (settingsOf s) (pointOf x) (classOf s x)
-  class-x = classIsRemainder .is (settingsOf s) x (classes-some s accepted)
+  class-x = class-point s accepted x
 
   class-y : HasClass (settingsOf s) (pointOf y) (classOf s x)
-  class-y = rw same (classIsRemainder .is (settingsOf s) y (classes-some s accepted))
+  class-y = rw same (class-point s accepted y)
 
   flat : s .planes ≡ 1 → s .strength ≤ distance x y
   flat d =
@@ -53,7 +58,7 @@ module _ (s : Shape) (accepted : Accepted s) (x y : Cell) (hx : InField s x) (hy
       apart : Apart (settingsOf s) (s .strength)
       apart =
           subst (λ (k : Settings). Apart k (s .strength)) (sym (settings-stack (s .planes) (s .strength) d))
-          (stackDistance (s .strength) (bounds .strength-low) (strength-stack (s .columns) (s .rows) (s .planes) (s .strength) accepted d))
+          (stackDistance (s .strength) (bounds .strength-low) (strength-stack s accepted d))
 
 -- Theorem. In a field that the constructor accepts, two different cells of one class are never closer than t.
 pub classDistance : ClassDistance

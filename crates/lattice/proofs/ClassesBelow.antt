@@ -1,8 +1,7 @@
 -- The classes of an accepted field are below m, so at most m of them hold a cell.
 use Rattle.lattice.specs.Shape.{cellsOf}
-use Rattle.lattice.specs.Settings.{settingsOf}
 use Rattle.lattice.specs.Cell.{cellAt}
-use Rattle.lattice.specs.Class.{classAt}
+use Rattle.lattice.specs.Class.{classesOf, classAt}
 use Rattle.lattice.specs.Placing.{ClassesBelow}
 use Rattle.lattice.proofs.ClassBelow.{class-below, classes-limit}
 use Rattle.lattice.proofs.Pigeonhole.{different-values-few}
@@ -13,5 +12,5 @@ classesBelow =
     record {
       below = class-below;
       limit = classes-limit;
-      most = λ s a. different-values-few (classAt s) (settingsOf s .m) (cellsOf s) (λ i h. class-below s a (cellAt s i));
+      most = λ s a. different-values-few (classAt s) (classesOf s) (cellsOf s) (λ i h. class-below s a (cellAt s i));
     }

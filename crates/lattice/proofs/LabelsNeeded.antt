@@ -11,7 +11,7 @@ use Rattle.lattice.specs.Cluster.{distance}
 use Rattle.lattice.specs.Labelling.{labels, Separates}
 use Rattle.lattice.specs.Placing.{LabelsNeeded}
 use Rattle.lattice.proofs.Numbering.{below, at-number}
-use Rattle.lattice.proofs.SettingsLaws.{settings-flat}
+use Rattle.lattice.proofs.SettingsLaws.{classes-flat}
 use Rattle.lattice.proofs.Distinct.{Distinct, distinct-map}
 use Rattle.lattice.proofs.Pigeonhole.{ValueBelow, different-values-many}
 use Rattle.lattice.proofs.ClusterDistance.{near-together}
@@ -42,7 +42,7 @@ labels-many s L xs d inside one =
 -- one label twice has at least m labels.
 pub labelsNeeded : LabelsNeeded
 labelsNeeded s flat positive wide high L sep =
-    rw (settings-flat (s .planes) (s .strength) flat, ← sphere-length (s .strength) positive)
+    rw (classes-flat s flat, ← sphere-length (s .strength) positive)
     (labels-many s L (sphere t) (sphere-distinct t positive) inside
     (λ x y mx my. separates-near s t L sep x y (inside x mx) (inside y my) (sphere-near t positive x y mx my)))
   where

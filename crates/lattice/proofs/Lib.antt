@@ -1,4 +1,5 @@
 -- Laws and theorems that belong to no one function.
+pub mod Answers
 pub mod AtStrengthOne
 pub mod BitLength
 pub mod Blocks
@@ -6,11 +7,11 @@ pub mod Bools
 pub mod BoundAttained
 pub mod CapacityGiven
 pub mod CapacitySum
-pub mod CellClass
 pub mod ClassAt
 pub mod ClassBelow
 pub mod ClassDistance
 pub mod ClassIsRemainder
+pub mod ClassNumber
 pub mod ClassesBelow
 pub mod ClusterClasses
 pub mod ClusterDistance
@@ -18,6 +19,7 @@ pub mod Counting
 pub mod Differences
 pub mod Distances
 pub mod Distinct
+pub mod Due
 pub mod Figure
 pub mod FlatDistance
 pub mod FlatLattice
@@ -25,7 +27,6 @@ pub mod InField
 pub mod Integers
 pub mod LabelsNeeded
 pub mod Limits
-pub mod NewShape
 pub mod Numbering
 pub mod OrderLists
 pub mod OrderMembers
@@ -34,7 +35,6 @@ pub mod Points
 pub mod Positions
 pub mod Powers
 pub mod Refusals
-pub mod Refused
 pub mod Remainder
 pub mod Residue
 pub mod Scan

@@ -1,13 +1,13 @@
--- The limits of a shape: what the tests of the constructor and its number tell of the four numbers.
+-- The limits of a shape: what the tests of the constructor and its number tell of its numbers.
 use Prim.Native.Nat.{ℕ, _*_, _<_, _≤_}
 use mathlib.Core.Bool.{Bool, true, false, _&&_}
 use mathlib.Core.Path.{_≡_, refl, ap}
-use native.Mathlib.Omega.{arith}
 use borrow.Author.Tests.{le-leb, lt-leb, leb-true, eq-eqb, ne-eqb, eqb-true, eqb-false}
 use lib.Dec.{leb, eqb, lit≤}
 use native.Mathlib.Nat.{le-trans}
-use Rattle.lattice.specs.Refusal.{unless}
-use Rattle.lattice.specs.Shape.{maxSide, maxPlanes, maxCells, maxFlatStrength, maxStackStrength, maxStrength, inRange, sizeOk, strengthOk, shapeNumber}
+use Rattle.lattice.specs.declared.shape.Shape.{Shape}
+use Rattle.lattice.specs.Shape.{maxSide, maxPlanes, maxCells, maxFlatStrength, maxStackStrength, maxStrength, inRange, sizeOk, strengthOk, shapeNumber, Accepted}
+use Rattle.lattice.proofs.Answers.{unless-zero}
 use Rattle.lattice.proofs.Bools.{and-true, and-false-left, and-left, and-right}
 
 -- a test of a range, from the orders and back
@@ -59,64 +59,52 @@ pub max-stack : (d : ℕ) → (d ≡ 1 → ⊥) → maxStrength d ≡ maxStackSt
 unfolding maxStrength
 max-stack d p = rw (ne-eqb d 1 p)
 
--- the number, from the two tests
-pub number-size : (w h d t : ℕ) → sizeOk w h d ≡ false → shapeNumber w h d t ≡ 1
-unfolding shapeNumber
-number-size w h d t p = rw p
+-- the number of a shape, from the two tests
+module _ (s : Shape) where
+  pub number-size : sizeOk (s .columns) (s .rows) (s .planes) ≡ false → shapeNumber s ≡ 1
+  unfolding shapeNumber
+  number-size p = rw p
 
-pub number-strength : (w h d t : ℕ) → sizeOk w h d ≡ true → strengthOk d t ≡ false → shapeNumber w h d t ≡ 2
-unfolding shapeNumber
-number-strength w h d t p q = rw (p, q)
+  pub number-strength : sizeOk (s .columns) (s .rows) (s .planes) ≡ true → strengthOk (s .planes) (s .strength) ≡ false
+      → shapeNumber s ≡ 2
+  unfolding shapeNumber
+  number-strength p q = rw (p, q)
 
-pub number-accepted : (w h d t : ℕ) → sizeOk w h d ≡ true → strengthOk d t ≡ true → shapeNumber w h d t ≡ 0
-unfolding shapeNumber
-number-accepted w h d t p q = rw (p, q)
+  pub number-accepted : sizeOk (s .columns) (s .rows) (s .planes) ≡ true → strengthOk (s .planes) (s .strength) ≡ true → Accepted s
+  unfolding shapeNumber
+  number-accepted p q = rw (p, q)
 
--- a nested test gives 0 only where both tests hold
-both-hold : (a b : Bool) → unless a 1 (unless b 2 0) ≡ 0 → (a ≡ true) × (b ≡ true)
-both-hold true true p = (refl, refl)
-both-hold true false p = absurd (omega arith)
-both-hold false b p = absurd (omega arith)
+  pub size-held : Accepted s → sizeOk (s .columns) (s .rows) (s .planes) ≡ true
+  unfolding shapeNumber
+  size-held p = unless-zero (sizeOk (s .columns) (s .rows) (s .planes)) 0 _ p .0
 
-three : (a b : Bool) → unless a 1 (unless b 2 0) ≤ 2
-three true true = omega arith
-three true false = omega arith
-three false b = omega arith
+  pub strength-held : Accepted s → strengthOk (s .planes) (s .strength) ≡ true
+  unfolding shapeNumber
+  strength-held p =
+      unless-zero (strengthOk (s .planes) (s .strength)) 1 0 (unless-zero (sizeOk (s .columns) (s .rows) (s .planes)) 0 _ p .1) .0
 
-pub number-limit : (w h d t : ℕ) → shapeNumber w h d t ≤ 2
-unfolding shapeNumber
-number-limit w h d t = three (sizeOk w h d) (strengthOk d t)
-
--- a number that is neither 1 nor 2 is 0
-pub neither : (w h d t : ℕ) → (shapeNumber w h d t ≡ 1 → ⊥) → (shapeNumber w h d t ≡ 2 → ⊥) → shapeNumber w h d t ≡ 0
-neither w h d t p q = omega (arith, number-limit w h d t)
-
-pub size-held : (w h d t : ℕ) → shapeNumber w h d t ≡ 0 → sizeOk w h d ≡ true
-unfolding shapeNumber
-size-held w h d t p = both-hold (sizeOk w h d) (strengthOk d t) p .0
-
-pub strength-held : (w h d t : ℕ) → shapeNumber w h d t ≡ 0 → strengthOk d t ≡ true
-unfolding shapeNumber
-strength-held w h d t p = both-hold (sizeOk w h d) (strengthOk d t) p .1
-
--- four numbers within the limits
-pub record Legal (w h d t : ℕ) : Type 0 where
-  pub width-low : 1 ≤ w
-  pub width-high : w ≤ 256
-  pub height-low : 1 ≤ h
-  pub height-high : h ≤ 256
-  pub planes-low : 1 ≤ d
-  pub planes-high : d ≤ 16
-  pub product : w * h * d ≤ 65536
-  pub strength-low : 1 ≤ t
-  pub strength-high : t ≤ maxStrength d
+-- the numbers of a shape within the limits
+pub record Legal (s : Shape) : Type 0 where
+  pub width-low : 1 ≤ s .columns
+  pub width-high : s .columns ≤ 256
+  pub height-low : 1 ≤ s .rows
+  pub height-high : s .rows ≤ 256
+  pub planes-low : 1 ≤ s .planes
+  pub planes-high : s .planes ≤ 16
+  pub product : s .columns * s .rows * s .planes ≤ 65536
+  pub strength-low : 1 ≤ s .strength
+  pub strength-high : s .strength ≤ maxStrength (s .planes)
 
 -- accepted numbers are within the limits
-pub legal : (w h d t : ℕ) → shapeNumber w h d t ≡ 0 → Legal w h d t
+pub legal : (s : Shape) → Accepted s → Legal s
 unfolding sizeOk strengthOk
-legal w h d t p =
-    let s = size-held w h d t p in
-    let whd = and-left _ (leb (w * h * d) maxCells) s in
+legal s p =
+    let w = s .columns in
+    let h = s .rows in
+    let d = s .planes in
+    let t = s .strength in
+    let size = size-held s p in
+    let whd = and-left _ (leb (w * h * d) maxCells) size in
     let wh = and-left _ (inRange 1 maxPlanes d) whd in
     record {
       width-low = range-low 1 maxSide w (and-left _ (inRange 1 maxSide h) wh);
@@ -125,22 +113,23 @@ legal w h d t p =
       height-high = range-high 1 maxSide h (and-right (inRange 1 maxSide w) _ wh);
       planes-low = range-low 1 maxPlanes d (and-right (inRange 1 maxSide w && inRange 1 maxSide h) _ whd);
       planes-high = range-high 1 maxPlanes d (and-right (inRange 1 maxSide w && inRange 1 maxSide h) _ whd);
-      product = leb-true (w * h * d) maxCells (and-right (inRange 1 maxSide w && inRange 1 maxSide h && inRange 1 maxPlanes d) _ s);
-      strength-low = range-low 1 (maxStrength d) t (strength-held w h d t p);
-      strength-high = range-high 1 (maxStrength d) t (strength-held w h d t p);
+      product = leb-true (w * h * d) maxCells (and-right (inRange 1 maxSide w && inRange 1 maxSide h && inRange 1 maxPlanes d) _ size);
+      strength-low = range-low 1 (maxStrength d) t (strength-held s p);
+      strength-high = range-high 1 (maxStrength d) t (strength-held s p);
     }
 
--- an accepted flat strength is at most 32, and an accepted stack strength at most 8
-pub strength-flat : (w h d t : ℕ) → shapeNumber w h d t ≡ 0 → d ≡ 1 → t ≤ 32
-strength-flat w h d t p e = rw (max-flat d e) at (legal w h d t p .strength-high)
+module _ (s : Shape) (p : Accepted s) where
+  -- an accepted flat strength is at most 32, and an accepted stack strength at most 8
+  pub strength-flat : s .planes ≡ 1 → s .strength ≤ 32
+  strength-flat e = rw (max-flat (s .planes) e) at (legal s p .strength-high)
 
-pub strength-stack : (w h d t : ℕ) → shapeNumber w h d t ≡ 0 → (d ≡ 1 → ⊥) → t ≤ 8
-strength-stack w h d t p e = rw (max-stack d e) at (legal w h d t p .strength-high)
+  pub strength-stack : (s .planes ≡ 1 → ⊥) → s .strength ≤ 8
+  strength-stack e = rw (max-stack (s .planes) e) at (legal s p .strength-high)
 
--- an accepted strength is at most 32
-pub strength-most : (w h d t : ℕ) → shapeNumber w h d t ≡ 0 → t ≤ 32
-strength-most w h d t p = go (eqb d 1) refl
-  where
-    go : (b : Bool) → eqb d 1 ≡ b → t ≤ 32
-    go true e = strength-flat w h d t p (eqb-true d 1 e)
-    go false e = le-trans (strength-stack w h d t p (eqb-false d 1 e)) (lit≤ tt)
+  -- an accepted strength is at most 32
+  pub strength-most : s .strength ≤ 32
+  strength-most = go (eqb (s .planes) 1) refl
+    where
+      go : (b : Bool) → eqb (s .planes) 1 ≡ b → s .strength ≤ 32
+      go true e = strength-flat (eqb-true (s .planes) 1 e)
+      go false e = le-trans (strength-stack (eqb-false (s .planes) 1 e)) (lit≤ tt)

@@ -5,7 +5,7 @@ use mathlib.Core.Bool.{Bool, true, false, _&&_, false≢true}
 use mathlib.Core.Logic.{_⊎_, inl, inr, ⊎-elim}
 use mathlib.Core.Path.{refl}
 use native.Mathlib.Nat.{not-le-of-lt}
-use lib.Dec.{leb, ltb, lit<}
+use lib.Dec.{leb, ltb}
 use borrow.Author.Tests.{leb-true, leb-false, ltb-true, ltb-false}
 use Rattle.lattice.specs.declared.shape.Shape.{Shape}
 use Rattle.lattice.specs.Shape.{maxSide, maxPlanes, maxCells, maxStrength, inRange, sizeOk, strengthOk, shapeNumber, Outside, BadSize, BadStrength, shapeRefusals}
@@ -14,8 +14,8 @@ use Rattle.lattice.specs.Class.{inside, classOf, classNumber, classGiven
 use Rattle.lattice.specs.DistanceTest.{maxTestStrength, maxTestClasses, testStrengthOk, testSettingsOk, testNumber, BadTestStrength, BadTestSettings, testRefusals}
 use Rattle.lattice.specs.Placing.{ShapeRefused, ClassRefused, ClassRefusedFigure}
 use Rattle.lattice.specs.Testing.{TestRefused}
-use Rattle.lattice.proofs.Figure.{figure-none}
-use Rattle.lattice.proofs.Refused.{Decides, settled}
+use Rattle.lattice.proofs.Answers.{beside-other}
+use Rattle.lattice.proofs.Due.{Decides, Due, due-none, due-test, due-append, due-settled}
 
 -- two tests one after the other decide that one of the two conditions holds
 pub both : {a b : Bool} {P Q : Type 0} → Decides a P → Decides b Q → Decides (a && b) (P ⊎ Q)
@@ -62,53 +62,36 @@ test-strength-decides : (t : ℕ) → Decides (testStrengthOk t) (BadTestStrengt
 unfolding testStrengthOk BadTestStrength
 test-strength-decides t = in-range 1 maxTestStrength t
 
+-- the number that is due to the shape, to the class of a cell and to the distance test
+pub shape-due : (s : Shape) → Due (shapeRefusals s) (shapeNumber s)
+unfolding shapeNumber
+shape-due s =
+    due-test 0 _ (size-decides (s .columns) (s .rows) (s .planes))
+    (λ _. due-test 1 _ (strength-decides (s .planes) (s .strength)) (λ _. due-none))
+
+class-due : (s : Shape) (x : Cell) → Due (classRefusals s x) (classNumber s x)
+unfolding classNumber
+class-due s x =
+    due-append (shapeRefusals s) _ _ _ (shape-due s) (λ _. due-test 3 _ (inside-decides s x) (λ _. due-none))
+
+test-due : (m b c t : ℕ) → Due (testRefusals m b c t) (testNumber m b c t)
+unfolding testNumber
+test-due m b c t =
+    due-test 1 _ (test-strength-decides t) (λ _. due-test 8 _ (test-settings-decide m b c) (λ _. due-none))
+
 -- Theorem. The constructor's number is settled by its refusals in the listed order.
 pub shapeRefused : ShapeRefused
-unfolding shapeNumber
-shapeRefused w h d t =
-    settled (shapeRefusals w h d t) _ (
-      sizeOk w h d,
-      _,
-      refl,
-      lit< tt,
-      (λ _. size-decides w h d),
-      (strengthOk d t, _, refl, lit< tt, (λ _. strength-decides d t), refl),
-    )
+shapeRefused s = due-settled (shapeRefusals s) _ (shape-due s)
 
 -- Theorem. So is the number of the class of a cell.
 pub classRefused : ClassRefused
-unfolding classNumber
-classRefused s x =
-    settled (classRefusals s x) _ (
-      sizeOk (s .columns) (s .rows) (s .planes),
-      _,
-      refl,
-      lit< tt,
-      (λ _. size-decides (s .columns) (s .rows) (s .planes)),
-      (
-        strengthOk (s .planes) (s .strength),
-        _,
-        refl,
-        lit< tt,
-        (λ _. strength-decides (s .planes) (s .strength)),
-        (inside s x, _, refl, lit< tt, (λ _. inside-decides s x), refl),
-      ),
-    )
+classRefused s x = due-settled (classRefusals s x) _ (class-due s x)
 
 -- Theorem. Beside any number but 0 the class is 0.
 pub classRefusedFigure : ClassRefusedFigure
 unfolding classGiven
-classRefusedFigure s x other = figure-none (classNumber s x) (classOf s x) other
+classRefusedFigure s x other = beside-other (classNumber s x) (classOf s x) 0 other
 
 -- Theorem. So is the number of the distance test.
 pub testRefused : TestRefused
-unfolding testNumber
-testRefused m b c t =
-    settled (testRefusals m b c t) _ (
-      testStrengthOk t,
-      _,
-      refl,
-      lit< tt,
-      (λ _. test-strength-decides t),
-      (testSettingsOk m b c, _, refl, lit< tt, (λ _. test-settings-decide m b c), refl),
-    )
+testRefused m b c t = due-settled (testRefusals m b c t) _ (test-due m b c t)

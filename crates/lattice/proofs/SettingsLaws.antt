@@ -6,11 +6,13 @@ use native.Mathlib.Omega.{arith}
 use native.Mathlib.Nat.{mul-le-mul}
 use lib.Dec.{eqb, lit≤}
 use borrow.Author.Tests.{eq-eqb, ne-eqb, eqb-true, eqb-false}
+use Rattle.lattice.specs.declared.settings.Settings.{Settings}
 use Rattle.lattice.specs.declared.shape.Shape.{Shape}
-use Rattle.lattice.specs.Refusal.{figure}
-use Rattle.lattice.specs.Shape.{numberOf, Accepted, maxClasses}
+use Rattle.lattice.specs.Refusal.{beside, figure}
+use Rattle.lattice.specs.Shape.{shapeNumber, Accepted, maxClasses}
 use Rattle.lattice.specs.Settings.{settings, isOdd, oddSettings, evenSettings, flatSettings, stackTable, stackSettings, settingsFor, settingsOf, settingsGiven}
-use Rattle.lattice.proofs.Figure.{figure-none}
+use Rattle.lattice.specs.Class.{classesOf}
+use Rattle.lattice.proofs.Answers.{beside-zero, beside-other}
 use Rattle.lattice.proofs.Limits.{legal, strength-stack}
 
 -- the flat rule by the parity of t
@@ -40,25 +42,27 @@ pub settings-stack : (d t : ℕ) → (d ≡ 1 → ⊥) → settingsFor d t ≡ s
 unfolding settingsFor
 settings-stack d t p = rw (ne-eqb d 1 p)
 
+-- so a flat field has the classes of the flat rule
+pub classes-flat : (s : Shape) → s .planes ≡ 1 → classesOf s ≡ flatSettings (s .strength) .m
+unfolding classesOf
+classes-flat s flat = ap (λ (k : Settings). k .m) (settings-flat (s .planes) (s .strength) flat)
+
 -- the settings that an accepted shape gives, and those of a refused one
 pub given-accepted : (s : Shape) → Accepted s → settingsGiven s ≡ settingsOf s
 unfolding settingsGiven
-given-accepted s p =
-    ap
-    (λ (n : ℕ). settings (figure n (settingsOf s .m)) (figure n (settingsOf s .b)) (figure n (settingsOf s .c)))
-    p
+given-accepted s p = beside-zero _ _ _ p
 
-pub given-refused : (s : Shape) → (numberOf s ≡ 0 → ⊥) → settingsGiven s ≡ settings 0 0 0
+pub given-refused : (s : Shape) → ¬ Accepted s → settingsGiven s ≡ settings 0 0 0
 unfolding settingsGiven
-given-refused s p i =
-    settings
-    (figure-none (numberOf s) (settingsOf s .m) p i)
-    (figure-none (numberOf s) (settingsOf s .b) p i)
-    (figure-none (numberOf s) (settingsOf s .c) p i)
+given-refused s p = beside-other _ _ _ p
 
-pub given-classes : (s : Shape) → settingsGiven s .m ≡ figure (numberOf s) (settingsOf s .m)
-unfolding settingsGiven
-given-classes s = refl
+pub given-classes : (s : Shape) → settingsGiven s .m ≡ figure (shapeNumber s) (classesOf s)
+unfolding settingsGiven classesOf
+given-classes s = go (shapeNumber s)
+  where
+    go : (n : ℕ) → beside n (settingsOf s) (settings 0 0 0) .m ≡ figure n (settingsOf s .m)
+    go zero = refl
+    go (suc n) = refl
 
 -- a square, of a bounded number
 square-most : (t n : ℕ) → t ≤ n → t * t ≤ n * n
@@ -104,12 +108,13 @@ stack-bounds (suc (suc (suc (suc (suc (suc (suc (suc (suc t))))))))) p q = absur
 
 -- an accepted shape has at least one class
 module _ (s : Shape) (a : Accepted s) where
-  pub classes-some : 1 ≤ settingsOf s .m
+  pub classes-some : 1 ≤ classesOf s
+  unfolding classesOf
   classes-some = go (eqb (s .planes) 1) refl
     where
       go : (b : Bool) → eqb (s .planes) 1 ≡ b → 1 ≤ settingsOf s .m
-      go true e = rw (settings-flat _ (s .strength) (eqb-true (s .planes) 1 e)) (flat-some _ (legal _ _ _ _ a .strength-low))
+      go true e = rw (settings-flat _ (s .strength) (eqb-true (s .planes) 1 e)) (flat-some _ (legal s a .strength-low))
       go false e =
           rw
           (settings-stack _ (s .strength) (eqb-false (s .planes) 1 e))
-          (stack-bounds _ (legal _ _ _ _ a .strength-low) (strength-stack _ _ _ _ a (eqb-false (s .planes) 1 e)) .0)
+          (stack-bounds _ (legal s a .strength-low) (strength-stack s a (eqb-false (s .planes) 1 e)) .0)

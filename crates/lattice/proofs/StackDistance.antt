@@ -1,11 +1,11 @@
 -- The stack settings: one test of the table, and the rule that it gives for each strength.
 use Prim.Native.Nat.{ℕ, zero, suc, _<_, _≤_}
-use mathlib.Core.Bool.{Bool, true}
+use mathlib.Core.Bool.{Bool, true, false, not, false≢true}
 use mathlib.Core.Logic.{⊎-elim}
 use mathlib.Core.Path.{_≡_, refl, sym, subst}
 use native.Mathlib.Nat.{not-suc-le-zero, le-of-suc-le-suc, eq-or-lt-of-le}
-use borrow.Author.Tests.{eqb-true}
 use Rattle.lattice.specs.declared.settings.Settings.{Settings}
+use Rattle.lattice.specs.Refusal.{beside}
 use Rattle.lattice.specs.Shape.{inRange}
 use Rattle.lattice.specs.Settings.{stackSettings, stackTable}
 use Rattle.lattice.specs.Placing.{StackDistance}
@@ -37,7 +37,11 @@ row-holds (suc i) some most = passes (λ j. holdsFor (suc j) (stackSettings (suc
 
 row-accepted : (t : ℕ) (k : Settings) → holdsFor t k ≡ true → testNumber (k .m) (k .b) (k .c) t ≡ 0
 unfolding verdict
-row-accepted t k e = eqb-true _ 0 (and-left _ _ e)
+row-accepted t k e = go (testNumber (k .m) (k .b) (k .c) t) (not (outcome (k .m) (k .b) (k .c) t .found)) e
+  where
+    go : (n : ℕ) (x : Bool) → beside n x false ≡ true → n ≡ 0
+    go zero x h = refl
+    go (suc n) x h = absurd (false≢true h)
 
 -- Theorem. The stack settings keep different cells of one class at least t apart in the endless stack, for every strength of the table.
 pub stackDistance : StackDistance

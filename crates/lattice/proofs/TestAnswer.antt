@@ -1,12 +1,14 @@
--- The answers of the distance test: each case of the answer, from what the checks and the scan gave.
-use Prim.Native.Nat.{ℕ, suc, _+_, _-_, _<_, _≤_}
+-- The distance test's number and figures, from what the checks and the scan gave.
+use Prim.Native.Nat.{ℕ, _+_, _-_, _<_, _≤_}
 use mathlib.Core.Bool.{Bool, true, false, not, _&&_}
 use mathlib.Core.Path.{_≡_, sym, _∙_, ap}
 use native.Mathlib.Omega.{arith}
 use borrow.Author.Tests.{ltb-true, le-ltb, lt-ltb}
-use lib.Dec.{ltb, eqb·suc-zero}
+use lib.Dec.{ltb}
+use Rattle.lattice.specs.declared.refusal.Refusal.{Refusal}
 use Rattle.lattice.specs.declared.distance.Scan.{Scan}
 use Rattle.lattice.specs.declared.distance.DistanceTest.the-variants as dst
+use Rattle.lattice.specs.Refusal.{refusalNumber}
 use Rattle.lattice.specs.Shape.{inRange}
 use Rattle.lattice.specs.Settings.{settings}
 use Rattle.lattice.specs.Order.{order, origin}
@@ -14,7 +16,7 @@ use Rattle.lattice.specs.DistanceTest.{scan, outcome, testStrengthOk, te
 use Rattle.lattice.specs.Answer.{IsDistanceTest}
 use Rattle.lattice.proofs.Bools.{and-left, and-right, failed, passed}
 use Rattle.lattice.proofs.Limits.{range-low, range-high}
-use Rattle.lattice.proofs.ScanMeaning.{missed}
+use Rattle.lattice.proofs.Answers.{unless-zero, beside-other, refused, done}
 
 -- a range check's flag, negated, says whether the strength is in range
 pub strength-refused : (t : ℕ) (b : Bool) → b ≡ inRange 1 18 t → not b ≡ true → testStrengthOk t ≡ false
@@ -67,6 +69,16 @@ pub number-zero : (m b c t : ℕ) → testStrengthOk t ≡ true → testSettings
 unfolding testNumber
 number-zero m b c t h g = rw (h, g)
 
+-- numbers that are accepted keep within their limits
+pub accepted-bounds : (m b c t : ℕ) → testNumber m b c t ≡ 0 → (1 ≤ t) × (t ≤ 18) × (1 ≤ m) × (m ≤ 4096) × (b < m) × (c < m)
+unfolding testNumber
+accepted-bounds m b c t e =
+    let strong = unless-zero (testStrengthOk t) 1 _ e in
+    let set = unless-zero (testSettingsOk m b c) 8 0 (strong .1) in
+    let s = strength-bounds t (strong .0) in
+    let k = settings-bounds m b c (set .0) in
+    (s .0, s .1, k .0, k .1, k .2, k .3)
+
 -- the figures beside the number 0, and beside any other
 module _ (m b c t : ℕ) (h : testNumber m b c t ≡ 0) where
   pub accepted-verdict : verdict m b c t ≡ not (outcome m b c t .found)
@@ -81,67 +93,36 @@ module _ (m b c t : ℕ) (h : testNumber m b c t ≡ 0) where
   unfolding triplesTried
   accepted-tried = rw h
 
-module _ (m b c t k : ℕ) (h : testNumber m b c t ≡ suc k) where
+module _ (m b c t : ℕ) (h : testNumber m b c t ≡ 0 → ⊥) where
   pub refused-verdict : verdict m b c t ≡ false
   unfolding verdict
-  refused-verdict = rw (h, eqb·suc-zero)
+  refused-verdict = beside-other _ _ _ h
 
   pub refused-triple : foundTriple m b c t ≡ origin
   unfolding foundTriple
-  refused-triple = rw (h, eqb·suc-zero)
+  refused-triple = beside-other _ _ _ h
 
   pub refused-tried : triplesTried m b c t ≡ 0
   unfolding triplesTried
-  refused-tried = rw h
+  refused-tried = beside-other _ _ _ h
 
--- the four answers
-pub answer-strength : (m b c t : ℕ) → testStrengthOk t ≡ false → IsDistanceTest m b c t dst.BadStrength
-answer-strength m b c t h =
-    let n = number-two m b c t h in
+-- what the scan of the order gives is the outcome of the test
+pub outcome-is : (m b c t : ℕ) → 1 ≤ t → (s : Scan) → s ≡ scan (settings m b c) (order (t - 1 + 1)) → s ≡ outcome m b c t
+unfolding outcome
+outcome-is m b c t some s e = e ∙ ap (λ i. scan (settings m b c) (order i)) (omega arith)
+
+-- the answer of a scan, and that of a refusal
+pub scanned : (m b c t : ℕ) (s : Scan) → testNumber m b c t ≡ 0 → s ≡ outcome m b c t → IsDistanceTest m b c t (dst.Scanned s)
+unfolding verdict foundTriple triplesTried
+scanned m b c t s n e =
     record {
       number = sym n;
-      verdict = sym (refused-verdict m b c t 1 n);
-      triple = sym (refused-triple m b c t 1 n);
-      tried = sym (refused-tried m b c t 1 n);
+      verdict = done _ _ _ _ n (ap (λ (x : Scan). not (x .found)) e);
+      triple = done _ _ _ _ n (ap (λ (x : Scan). x .triple) e);
+      tried = done _ _ _ _ n (ap (λ (x : Scan). x .tried) e);
     }
 
-pub answer-settings : (m b c t : ℕ) → testStrengthOk t ≡ true → testSettingsOk m b c ≡ false → IsDistanceTest m b c t dst.BadSettings
-answer-settings m b c t h g =
-    let n = number-nine m b c t h g in
-    record {
-      number = sym n;
-      verdict = sym (refused-verdict m b c t 8 n);
-      triple = sym (refused-triple m b c t 8 n);
-      tried = sym (refused-tried m b c t 8 n);
-    }
-
-module _ (m b c t : ℕ) (h : testStrengthOk t ≡ true) (g : testSettingsOk m b c ≡ true) (s : Scan)
-    (e : s ≡ scan (settings m b c) (order (t - 1 + 1))) where
-  outcome-is : outcome m b c t ≡ s
-  unfolding outcome
-  outcome-is = ap (λ i. scan (settings m b c) (order i)) (omega (arith, strength-bounds t h)) ∙ sym e
-
-  pub answer-fails : s .found ≡ true → IsDistanceTest m b c t (dst.Fails (s .triple) (s .tried))
-  answer-fails f =
-      let n = number-zero m b c t h g in
-      record {
-        number = sym n;
-        verdict = sym (accepted-verdict m b c t n ∙ ap (λ (s : Scan). not (s .found)) outcome-is ∙ ap not f);
-        triple = sym (accepted-triple m b c t n ∙ ap (λ (s : Scan). s .triple) outcome-is);
-        tried = sym (accepted-tried m b c t n ∙ ap (λ (s : Scan). s .tried) outcome-is);
-      }
-
-  nothing-found : s .found ≡ false → s .triple ≡ origin
-  nothing-found f =
-      ap (λ (s : Scan). s .triple) e
-      ∙ missed (settings m b c) (order (t - 1 + 1)) (sym (ap (λ (s : Scan). s .found) e) ∙ f) .triple
-
-  pub answer-holds : s .found ≡ false → IsDistanceTest m b c t (dst.Holds (s .tried))
-  answer-holds f =
-      let n = number-zero m b c t h g in
-      record {
-        number = sym n;
-        verdict = sym (accepted-verdict m b c t n ∙ ap (λ (s : Scan). not (s .found)) outcome-is ∙ ap not f);
-        triple = sym (accepted-triple m b c t n ∙ ap (λ (s : Scan). s .triple) outcome-is ∙ nothing-found f);
-        tried = sym (accepted-tried m b c t n ∙ ap (λ (s : Scan). s .tried) outcome-is);
-      }
+pub not-tested : (m b c t : ℕ) (r : Refusal) → refusalNumber r ≡ testNumber m b c t → IsDistanceTest m b c t (dst.Refused r)
+unfolding verdict foundTriple triplesTried
+not-tested m b c t r e =
+    record { number = e; verdict = refused r _ _ _ e; triple = refused r _ _ _ e; tried = refused r _ _ _ e }

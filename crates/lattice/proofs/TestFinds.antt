@@ -1,11 +1,9 @@
 -- The figures of the distance test: beside a refusal, where a triple is found, and where none is.
-use Prim.Native.Nat.{ℕ, zero, suc}
-use mathlib.Core.Bool.{false}
-use mathlib.Core.Path.{_≡_, refl, sym, _∙_}
+use mathlib.Core.Path.{sym, _∙_}
 use borrow.Author.Tests.{not-true, not-false}
 use Rattle.lattice.specs.Settings.{settings}
-use Rattle.lattice.specs.Order.{order, origin}
-use Rattle.lattice.specs.DistanceTest.{outcome, testNumber, verdict, foundTriple, triplesTried}
+use Rattle.lattice.specs.Order.{order}
+use Rattle.lattice.specs.DistanceTest.{outcome}
 use Rattle.lattice.specs.Testing.{TestRefusedFigures, TestFinds, TestHolds}
 use Rattle.lattice.proofs.ScanMeaning.{found, missed}
 use Rattle.lattice.proofs.TestAnswer.{accepted-verdict, accepted-triple, accepted-tried, refused-verdict, refused-triple, refused-tried}
@@ -13,11 +11,7 @@ use Rattle.lattice.proofs.TripleCount.{orderLength}
 
 -- Beside any number but 0 the figures are no, (0, 0, 0) and 0.
 pub testRefusedFigures : TestRefusedFigures
-testRefusedFigures m b c t h = go (testNumber m b c t) refl
-  where
-    go : (n : ℕ) → testNumber m b c t ≡ n → (verdict m b c t ≡ false) × (foundTriple m b c t ≡ origin) × (triplesTried m b c t ≡ 0)
-    go zero e = absurd (h e)
-    go (suc k) e = (refused-verdict m b c t k e, refused-triple m b c t k e, refused-tried m b c t k e)
+testRefusedFigures m b c t h = (refused-verdict m b c t h, refused-triple m b c t h, refused-tried m b c t h)
 
 -- Where the verdict is no, the triple given is the first of the order that fails, at the place that the counter says.
 pub testFinds : TestFinds

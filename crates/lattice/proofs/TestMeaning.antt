@@ -21,7 +21,7 @@ some-classes m b c t e = go (decLe 1 m)
   where
     go : Dec (1 ≤ m) → 0 < m
     go (yes l) = l
-    go (no l) = absurd (testRefused m b c t .1 .1 .0 e .0 (inl (inl (lt-of-not-le l))))
+    go (no l) = absurd (testRefused m b c t .0 .0 e .1 .0 (inl (inl (lt-of-not-le l))))
 
 -- Theorem. Where the numbers are accepted, the verdict is yes exactly when all different cells of one class in an endless stack are at
 -- least t apart.

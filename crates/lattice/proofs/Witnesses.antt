@@ -11,11 +11,11 @@ use Rattle.lattice.specs.Settings.{oddSettings, flatSettings, settingsFo
 use Rattle.lattice.specs.Cell.{Cell, cell, InField, cellNumber, cellAt}
 use Rattle.lattice.specs.Cluster.{apart, by-row, by-column, Linked, stay, step, Cluster, AtMost, Together}
 use Rattle.lattice.specs.Labelling.{labels, Separates}
-use Rattle.lattice.specs.Class.{minusMod, classWith, classOf, classAt, classNumber, inside}
+use Rattle.lattice.specs.Class.{minusMod, classWith, classesOf, classOf, classAt, classNumber, inside}
 use Rattle.lattice.specs.Endless.{pointOf, HasClass}
 use Rattle.lattice.proofs.Numbering.{same-cell}
 use Rattle.lattice.proofs.ClusterDistance.{linked-append, linked-reverse}
-use Rattle.lattice.proofs.ClassIsRemainder.{classIsRemainder}
+use Rattle.lattice.proofs.ClassDistance.{class-point}
 use Rattle.lattice.proofs.ClassBelow.{class-below}
 use Rattle.lattice.proofs.LabelsNeeded.{labelsNeeded}
 
@@ -53,7 +53,7 @@ pub mate-inside : InField field mate
 mate-inside = in-field 1 3 tt tt
 
 pub mates : classOf field corner ≡ classOf field mate
-unfolding classWith minusMod settingsFor flatSettings oddSettings
+unfolding classOf classWith minusMod settingsFor flatSettings oddSettings
 mates = refl
 
 pub mates-differ : corner ≢ mate
@@ -110,11 +110,11 @@ pub numbers-separate : (s : Shape) (t : ℕ) → Separates s t (cellNumber s)
 numbers-separate s t S cluster small x y hx hy e = same-cell s x y (cluster .inside x hx) (cluster .inside y hy) e
 
 -- so the lower bound speaks of it: the field's 25 byte numbers are at least its m = 5
-pub five : settingsOf field .m ≡ 5
-unfolding settingsFor flatSettings oddSettings
+pub five : classesOf field ≡ 5
+unfolding classesOf settingsFor flatSettings oddSettings
 five = refl
 
-pub numbers-needed : settingsOf field .m ≤ labels field (cellNumber field)
+pub numbers-needed : classesOf field ≤ labels field (cellNumber field)
 numbers-needed = labelsNeeded field flat (lit≤ tt) wide high (cellNumber field) (numbers-separate field 3)
 
 -- a byte number of the field
@@ -123,16 +123,16 @@ third = lit< tt
 
 -- a cell that the field does not have is refused, with another number than 0
 pub outside-refused : classNumber field (cell 5 0 0) ≢ 0
-unfolding classNumber sizeOk strengthOk maxStrength inRange inside
+unfolding classNumber shapeNumber sizeOk strengthOk maxStrength inRange inside
 outside-refused e = omega (arith, e)
 
 -- the two cells of one class, as points of plane 0 of the endless stack
 pub corner-class : HasClass (settingsOf field) (pointOf corner) (classOf field corner)
-corner-class = classIsRemainder .is (settingsOf field) corner (rw five (lit< tt))
+corner-class = class-point field accepted corner
 
 pub mate-class : HasClass (settingsOf field) (pointOf mate) (classOf field corner)
-mate-class = rw mates (classIsRemainder .is (settingsOf field) mate (rw five (lit< tt)))
+mate-class = rw mates (class-point field accepted mate)
 
 -- every class of the field is below m
-pub classes-below : (i : ℕ) → i < cellsOf field → classAt field i < settingsOf field .m
+pub classes-below : (i : ℕ) → i < cellsOf field → classAt field i < classesOf field
 classes-below i h = class-below field accepted (cellAt field i)

@@ -1,14 +1,15 @@
 -- The interleaving class of a cell, and its refusals.
 use Prim.Native.Nat.{ℕ, _+_, _-_, _*_, _%_, _≤_}
 use mathlib.Core.Bool.{Bool, _&&_}
-use mathlib.Core.List.{List, [], _∷_}
+use mathlib.Core.List.{List, [], _∷_, _++_}
 use mathlib.Core.Logic.{_⊎_}
 use lib.Dec.{ltb}
 use Rattle.lattice.specs.declared.settings.Settings.{Settings}
 use Rattle.lattice.specs.declared.shape.Shape.{Shape}
-use Rattle.lattice.specs.Refusal.{Refusal, refusal, unless, figure}
-use Rattle.lattice.specs.Shape.{sizeOk, strengthOk, BadSize, BadStrength}
-use Rattle.lattice.specs.Settings.{settingsOf}
+use Rattle.lattice.specs.declared.class.Placement.{Placement}
+use Rattle.lattice.specs.Refusal.{Listed, listed, unless, figure}
+use Rattle.lattice.specs.Shape.{afterShape, shapeRefusals}
+use Rattle.lattice.specs.Settings.{settingsOf, settingsGiven}
 use Rattle.lattice.specs.Cell.{Cell, cellAt}
 
 -- (a − z) mod m, from 0 to m − 1 also where z is above a
@@ -19,7 +20,12 @@ minusMod a z m = (a + (m - z % m)) % m
 unfoldable pub classWith : Settings → Cell → ℕ
 classWith k x = minusMod (x .column) (k .b * x .row + k .c * x .plane) (k .m)
 
-abbrev pub classOf : Shape → Cell → ℕ
+-- the number of classes of a field, m
+unfoldable pub classesOf : Shape → ℕ
+classesOf s = settingsOf s .m
+
+-- the class of a cell of a field
+unfoldable pub classOf : Shape → Cell → ℕ
 classOf s x = classWith (settingsOf s) x
 
 -- the class of the cell with a byte number
@@ -30,13 +36,9 @@ classAt s i = classOf s (cellAt s i)
 unfoldable pub inside : Shape → Cell → Bool
 inside s x = ltb (x .row) (s .rows) && ltb (x .plane) (s .planes) && ltb (x .column) (s .columns)
 
--- the number for the class of a cell: 1, 2, then 4 for a row, plane or column outside the shape
+-- the number for the class of a cell: the shape's, then 4 for a row, plane or column outside the shape
 unfoldable pub classNumber : Shape → Cell → ℕ
-classNumber s x =
-    unless (sizeOk (s .columns) (s .rows) (s .planes)) 1
-    (unless (strengthOk (s .planes) (s .strength)) 2
-    (unless (inside s x) 4
-    0))
+classNumber s x = afterShape s (unless (inside s x) 4 0)
 
 -- the class that is given: the cell's, or 0 beside a refusal
 unfoldable pub classGiven : Shape → Cell → ℕ
@@ -47,9 +49,13 @@ unfoldable pub OutsideShape : Shape → Cell → Type 0
 OutsideShape s x = (s .rows ≤ x .row) ⊎ ((s .planes ≤ x .plane) ⊎ (s .columns ≤ x .column))
 
 -- the refusals of the class of a cell, in the listed order
-abbrev pub classRefusals : Shape → Cell → List Refusal
-classRefusals s x =
-    refusal 1 (BadSize (s .columns) (s .rows) (s .planes))
-    ∷ refusal 2 (BadStrength (s .planes) (s .strength))
-    ∷ refusal 4 (OutsideShape s x)
-    ∷ []
+abbrev pub classRefusals : Shape → Cell → List Listed
+classRefusals s x = shapeRefusals s ++ (listed 4 (OutsideShape s x) ∷ [])
+
+-- what a pass over the cells of a field is handed, to find the class of each: the field's shape, and the settings that it gives
+unfoldable pub placementOf : Shape → Placement
+placementOf s = record { shape = s; settings = settingsGiven s }
+
+-- the class of the cell with a byte number, by a placement
+unfoldable pub classBy : Placement → ℕ → ℕ
+classBy p i = classWith (p .settings) (cellAt (p .shape) i)

@@ -8,7 +8,7 @@ use lib.IntN.{pos, natAbs, _-ℤ_, _*ℤ_}
 use Rattle.lattice.specs.declared.settings.Settings.{Settings}
 use Rattle.lattice.specs.declared.distance.Triple.{Triple}
 use Rattle.lattice.specs.declared.distance.Scan.{Scan}
-use Rattle.lattice.specs.Refusal.{Refusal, refusal, unless, figure}
+use Rattle.lattice.specs.Refusal.{Listed, listed, unless, beside, figure}
 use Rattle.lattice.specs.Settings.{settings}
 use Rattle.lattice.specs.Shape.{inRange, Outside}
 use Rattle.lattice.specs.Order.{order, origin}
@@ -60,15 +60,15 @@ unfoldable pub BadTestSettings : ℕ → ℕ → ℕ → Type 0
 BadTestSettings m b c = Outside 1 maxTestClasses m ⊎ ((m ≤ b) ⊎ (m ≤ c))
 
 -- the refusals of the distance test, in the listed order
-abbrev pub testRefusals : ℕ → ℕ → ℕ → ℕ → List Refusal
-testRefusals m b c t = refusal 2 (BadTestStrength t) ∷ refusal 9 (BadTestSettings m b c) ∷ []
+abbrev pub testRefusals : ℕ → ℕ → ℕ → ℕ → List Listed
+testRefusals m b c t = listed 2 (BadTestStrength t) ∷ listed 9 (BadTestSettings m b c) ∷ []
 
--- the figures: the verdict is yes beside the number 0 where no triple is found; the triple and the counter are 0 beside any other number
+-- the figures: the verdict is yes beside the number 0 where no triple is found; beside any other number it is no, the triple (0, 0, 0) and the counter 0
 unfoldable pub verdict : ℕ → ℕ → ℕ → ℕ → Bool
-verdict m b c t = eqb (testNumber m b c t) 0 && not (outcome m b c t .found)
+verdict m b c t = beside (testNumber m b c t) (not (outcome m b c t .found)) false
 
 unfoldable pub foundTriple : ℕ → ℕ → ℕ → ℕ → Triple
-foundTriple m b c t = cond (eqb (testNumber m b c t) 0) (outcome m b c t .triple) origin
+foundTriple m b c t = beside (testNumber m b c t) (outcome m b c t .triple) origin
 
 unfoldable pub triplesTried : ℕ → ℕ → ℕ → ℕ → ℕ
 triplesTried m b c t = figure (testNumber m b c t) (outcome m b c t .tried)

@@ -7,17 +7,17 @@ use Rattle.lattice.specs.declared.settings.Settings.{Settings}
 use Rattle.lattice.specs.declared.shape.Shape.{Shape}
 use Rattle.lattice.specs.Refusal.{Settled}
 use Rattle.lattice.specs.Shape.{shapeNumber, shapeRefusals, Accepted, cellsOf, maxClasses, maxStackStrength}
-use Rattle.lattice.specs.Settings.{flatSettings, stackSettings, settingsOf}
+use Rattle.lattice.specs.Settings.{flatSettings, stackSettings}
 use Rattle.lattice.specs.Cell.{Cell, InField}
 use Rattle.lattice.specs.Cluster.{distance}
 use Rattle.lattice.specs.Labelling.{labels, Separates, differentValues}
-use Rattle.lattice.specs.Class.{classWith, classOf, classAt, classNumber, classGiven, classRefusals}
+use Rattle.lattice.specs.Class.{classWith, classesOf, classOf, classAt, classNumber, classGiven, classRefusals}
 use Rattle.lattice.specs.Endless.{pointOf, HasClass, Apart, ApartOnPlane}
 use Rattle.lattice.specs.Position.{size, checks, capacity, sumBelow}
 
--- Theorem (demand 1). The constructor's number is settled by its refusals in the listed order.
+-- Theorem (demand 1). The constructor's number is settled by its refusals in the listed order, for numbers of any size.
 abbrev pub ShapeRefused : Type 0
-ShapeRefused = (w h d t : ℕ) → Settled (shapeRefusals w h d t) (shapeNumber w h d t)
+ShapeRefused = (s : Shape) → Settled (shapeRefusals s) (shapeNumber s)
 
 -- Theorem (demand 1). So is the number of the class of a cell.
 abbrev pub ClassRefused : Type 0
@@ -35,9 +35,9 @@ pub record ClassIsRemainder : Type 0 where
 
 -- Theorem. In a field that the constructor accepts the class of a cell is below m, so at most m classes hold a cell, and m is at most 512.
 pub record ClassesBelow : Type 0 where
-  pub below : (s : Shape) → Accepted s → (x : Cell) → classOf s x < settingsOf s .m
-  pub limit : (s : Shape) → Accepted s → settingsOf s .m ≤ maxClasses
-  pub most : (s : Shape) → Accepted s → differentValues (classAt s) (cellsOf s) ≤ settingsOf s .m
+  pub below : (s : Shape) → Accepted s → (x : Cell) → classOf s x < classesOf s
+  pub limit : (s : Shape) → Accepted s → classesOf s ≤ maxClasses
+  pub most : (s : Shape) → Accepted s → differentValues (classAt s) (cellsOf s) ≤ classesOf s
 
 -- Theorem. In a field that the constructor accepts, two different cells of one class are never closer than t.
 abbrev pub ClassDistance : Type 0
@@ -62,13 +62,13 @@ ClusterClasses = (s : Shape) → Accepted s → Separates s (s .strength) (class
 abbrev pub LabelsNeeded : Type 1
 LabelsNeeded =
     (s : Shape) → s .planes ≡ 1 → 1 ≤ s .strength → s .strength ≤ s .columns → s .strength ≤ s .rows
-    → (L : Cell → ℕ) → Separates s (s .strength) L → settingsOf s .m ≤ labels s L
+    → (L : Cell → ℕ) → Separates s (s .strength) L → classesOf s ≤ labels s L
 
 -- Theorem. The bound is attained: where both sides of a flat field are at least t, the classes are exactly m labels.
 abbrev pub BoundAttained : Type 0
 BoundAttained =
     (s : Shape) → Accepted s → s .planes ≡ 1 → s .strength ≤ s .columns → s .strength ≤ s .rows
-    → labels s (classOf s) ≡ settingsOf s .m
+    → labels s (classOf s) ≡ classesOf s
 
 -- Theorem. The number of powers of two up to n is the bit length of n: 0 for 0, else the one k with 2^(k − 1) ≤ n < 2^k.
 pub record ChecksAreBitLength : Type 0 where

@@ -1,37 +1,69 @@
--- Refusals: the number that a list of conditions settles, by the order in which they are listed.
+-- Refusals: their numbers, the number that a list of conditions settles by the order in which they stand, and what comes beside a number.
 use Prim.Native.Nat.{ℕ, zero, suc}
 use mathlib.Core.Bool.{Bool, true, false}
 use mathlib.Core.List.{List, [], _∷_}
-use mathlib.Core.Logic.{_↔_}
+use mathlib.Core.Logic.{_⊎_, _↔_}
 use mathlib.Core.Path.{_≡_}
+use Rattle.lattice.specs.declared.refusal.Refusal.{Refusal}
+use Rattle.lattice.specs.declared.refusal.Refusal.the-variants as why
+use Rattle.lattice.specs.declared.refusal.Tested.{Tested}
+use Rattle.lattice.specs.declared.refusal.Tested.the-variants as test
+
+-- the papers' number of each reason; a field whose length is wrong and a cell outside the shape are both 4
+abbrev pub refusalNumber : Refusal → ℕ
+refusalNumber why.BadSize = 1
+refusalNumber why.BadStrength = 2
+refusalNumber why.PayloadLength = 3
+refusalNumber why.FieldLength = 4
+refusalNumber why.OutsideShape = 4
+refusalNumber why.BadCell = 5
+refusalNumber why.OutOfReach = 6
+refusalNumber why.BadPadding = 7
+refusalNumber why.BadForm = 8
+refusalNumber why.BadSettings = 9
+
+-- the number that tests give: 0 where they pass
+abbrev pub testedNumber : Tested → ℕ
+testedNumber test.Passed = 0
+testedNumber (test.Refused reason) = refusalNumber reason
 
 -- a number that an operation may give, with the condition under which it is due
-pub record Refusal : Type 1 where
+pub record Listed : Type 1 where
   pub number : ℕ
   pub condition : Type 0
 
-abbrev pub refusal : ℕ → Type 0 → Refusal
-refusal k P = record { number = k; condition = P }
+abbrev pub listed : ℕ → Type 0 → Listed
+listed k P = record { number = k; condition = P }
 
 -- none of the conditions holds
-abbrev pub NoneHolds : List Refusal → Type 0
+abbrev pub NoneHolds : List Listed → Type 0
 NoneHolds [] = Unit {0}
 NoneHolds (r ∷ rs) = (¬ (r .condition)) × NoneHolds rs
 
--- n is 0 exactly when no condition holds, and k exactly when k's condition holds and none listed before it does
-abbrev pub SettledAfter : List Refusal → List Refusal → ℕ → Type 0
-SettledAfter before [] n = (n ≡ 0) ↔ NoneHolds before
-SettledAfter before (r ∷ rs) n = ((n ≡ r .number) ↔ (NoneHolds before × r .condition)) × SettledAfter (r ∷ before) rs n
+-- the first of the listed conditions that holds has the number k; a number may be listed more than once
+abbrev pub FirstIs : ℕ → List Listed → Type 0
+FirstIs k [] = ⊥
+FirstIs k (r ∷ rs) = (r .condition × (r .number ≡ k)) ⊎ ((¬ (r .condition)) × FirstIs k rs)
 
-abbrev pub Settled : List Refusal → ℕ → Type 0
-Settled rs n = SettledAfter [] rs n
+-- n is 0 exactly when none of the conditions holds, and another number exactly when the first that holds has it: no unlisted number is given
+abbrev pub Settled : List Listed → ℕ → Type 0
+Settled rs n = ((n ≡ 0) ↔ NoneHolds rs) × ((k : ℕ) → (n ≡ suc k) ↔ FirstIs (suc k) rs)
 
 -- the number k where a test fails, else what the later tests give
 abbrev pub unless : Bool → ℕ → ℕ → ℕ
 unless true k later = later
 unless false k later = k
 
+-- the number of earlier tests or, where it is 0, what later tests give
+abbrev pub orElse : ℕ → ℕ → ℕ
+orElse zero later = later
+orElse (suc k) later = suc k
+
+-- what comes with a number: x beside 0, and y beside any other
+abbrev pub beside : {A : Type 0} → ℕ → A → A → A
+beside zero x y = x
+beside (suc k) x y = y
+
 -- a figure that comes with a number: itself beside 0, and 0 beside any other number
 abbrev pub figure : ℕ → ℕ → ℕ
-figure zero x = x
-figure (suc k) x = 0
+figure n x = beside n x 0

@@ -7,8 +7,8 @@ use lib.Dec.{eqb}
 use lib.ListN.{getD}
 use Rattle.lattice.specs.declared.settings.Settings.{Settings}
 use Rattle.lattice.specs.declared.shape.Shape.{Shape}
-use Rattle.lattice.specs.Refusal.{figure}
-use Rattle.lattice.specs.Shape.{numberOf}
+use Rattle.lattice.specs.Refusal.{beside}
+use Rattle.lattice.specs.Shape.{shapeNumber}
 
 abbrev pub settings : ℕ → ℕ → ℕ → Settings
 settings m b c = record { m = m; b = b; c = c }
@@ -53,8 +53,4 @@ settingsOf s = settingsFor (s .planes) (s .strength)
 
 -- the settings that a shape gives: those of its planes and strength, or all 0 where the constructor refuses it
 unfoldable pub settingsGiven : Shape → Settings
-settingsGiven s =
-    settings
-    (figure (numberOf s) (settingsOf s .m))
-    (figure (numberOf s) (settingsOf s .b))
-    (figure (numberOf s) (settingsOf s .c))
+settingsGiven s = beside (shapeNumber s) (settingsOf s) (settings 0 0 0)

@@ -5,7 +5,7 @@ use mathlib.Core.List.{List, [], _∷_}
 use mathlib.Core.Logic.{_⊎_}
 use mathlib.Core.Path.{_≡_}
 use lib.Dec.{leb, eqb}
-use Rattle.lattice.specs.Refusal.{Refusal, refusal, unless}
+use Rattle.lattice.specs.Refusal.{Listed, listed, unless, orElse}
 use Rattle.lattice.specs.declared.shape.Shape.{Shape}
 use Rattle.lattice.specs.declared.shape.ShapeNumbers.{ShapeNumbers}
 
@@ -48,15 +48,19 @@ unfoldable pub strengthOk : ℕ → ℕ → Bool
 strengthOk d t = inRange 1 (maxStrength d) t
 
 -- the number for a shape: 1, then 2
-unfoldable pub shapeNumber : ℕ → ℕ → ℕ → ℕ → ℕ
-shapeNumber w h d t = unless (sizeOk w h d) 1 (unless (strengthOk d t) 2 0)
+unfoldable pub shapeNumber : Shape → ℕ
+shapeNumber s =
+    unless (sizeOk (s .columns) (s .rows) (s .planes)) 1
+    (unless (strengthOk (s .planes) (s .strength)) 2
+    0)
 
-abbrev pub numberOf : Shape → ℕ
-numberOf s = shapeNumber (s .columns) (s .rows) (s .planes) (s .strength)
-
--- the constructor accepts these four numbers
+-- the constructor accepts these numbers
 abbrev pub Accepted : Shape → Type 0
-Accepted s = numberOf s ≡ 0
+Accepted s = shapeNumber s ≡ 0
+
+-- the shape's number or, where it is 0, what later tests give
+abbrev pub afterShape : Shape → ℕ → ℕ
+afterShape s later = orElse (shapeNumber s) later
 
 -- W × H × D
 abbrev pub cellsOf : Shape → ℕ
@@ -75,5 +79,8 @@ unfoldable pub BadStrength : ℕ → ℕ → Type 0
 BadStrength d t = Outside 1 (maxStrength d) t
 
 -- the shape's refusals, in the listed order
-abbrev pub shapeRefusals : ℕ → ℕ → ℕ → ℕ → List Refusal
-shapeRefusals w h d t = refusal 1 (BadSize w h d) ∷ refusal 2 (BadStrength d t) ∷ []
+abbrev pub shapeRefusals : Shape → List Listed
+shapeRefusals s =
+    listed 1 (BadSize (s .columns) (s .rows) (s .planes))
+    ∷ listed 2 (BadStrength (s .planes) (s .strength))
+    ∷ []

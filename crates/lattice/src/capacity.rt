@@ -2,11 +2,12 @@
 ghost use mathlib.Core.Path.{_≡_};
 ghost use Prim.Native.Nat.{ℕ, _+_, _<_};
 ghost use lib.ListN.{length, getD};
-ghost use Rattle.lattice.specs.Refusal.{figure};
-ghost use Rattle.lattice.specs.Shape.{maxClasses, numberOf, cellsOf};
+ghost use Rattle.lattice.specs.Refusal.{beside, figure};
+ghost use Rattle.lattice.specs.Shape.{maxClasses, shapeNumber, cellsOf};
 ghost use Rattle.lattice.specs.Class.{classAt};
 ghost use Rattle.lattice.specs.Position.{size, checks, dataCells, capacity, dataIn};
 use crate::class::class_at;
+use crate::refusal::Tested;
 use crate::shape::Shape;
 
 // The number of checks of a class of n cells: the bit length of n.
@@ -44,16 +45,20 @@ fn count_one(sizes: &mut [u32], a: usize)
     sizes[a] += 1;
 }
 
-// The size of each class; all 0 for a shape that the constructor refuses.
+// The size of each class; for a shape that the constructor refuses the array keeps its entries.
 pub fn class_sizes(shape: Shape, sizes: &mut [u32; Shape::MAX_CLASSES])
-    ensures { λ r. ⌜ ((a : ℕ) → a < maxClasses → getD (now (sizes .exit)) a 0 ≡ size (classAt shape) a (figure (numberOf shape) (cellsOf shape))) ⌝ }
+    ensures { λ r. ⌜ ((a : ℕ) → a < maxClasses → getD (now (sizes .exit)) a 0 ≡ beside (shapeNumber shape) (size (classAt shape) a (cellsOf shape)) (getD (now (sizes .entry)) a 0)) ⌝ }
 {
+    let tested = shape.tests();
+    if let Tested::Refused(_) = tested {
+        return;
+    }
     clear(sizes);
-    let settings = shape.settings();
+    let placement = shape.placement();
     let cells = shape.cells();
     let mut i = 0;
     while i < cells {
-        count_one(sizes, class_at(shape, settings, i as u32));
+        count_one(sizes, class_at(placement, i as u32));
         i += 1;
     }
 }
@@ -74,7 +79,7 @@ pub fn data_in(sizes: &[u32; Shape::MAX_CLASSES]) -> usize
 impl Shape {
     // The number of cells that hold no check; 0 for a shape that the constructor refuses.
     pub fn capacity(self) -> usize
-        ensures { λ r. ⌜ r ≡ figure (numberOf self) (capacity (classAt self) (cellsOf self)) ⌝ }
+        ensures { λ r. ⌜ r ≡ figure (shapeNumber self) (capacity (classAt self) (cellsOf self)) ⌝ }
     {
         let mut sizes = [0u32; Shape::MAX_CLASSES];
         class_sizes(self, &mut sizes);

@@ -1,17 +1,25 @@
 // The class of a cell.
 ghost use mathlib.Core.Path.{_≡_};
 ghost use Prim.Native.Nat.{_/_, _%_, _<_};
-ghost use Rattle.lattice.specs.Cell.{cell, cellAt};
-ghost use Rattle.lattice.specs.Class.{minusMod, classWith, inside};
+ghost use Rattle.lattice.specs.Cell.{cell};
+ghost use Rattle.lattice.specs.Refusal.{testedNumber};
+ghost use Rattle.lattice.specs.Class.{minusMod, classWith, inside, classNumber, placementOf, classBy};
 ghost use Rattle.lattice.specs.Answer.{IsCellClass, cellClassNumber, cellClass};
+use crate::refusal::Refusal;
+use crate::refusal::Tested;
 use crate::settings::Settings;
 use crate::shape::Shape;
 
+// What a pass over the cells of a field is handed, to find the class of each.
+pub struct Placement {
+    pub shape: Shape,
+    pub settings: Settings,
+}
+
+// The class, or the refusal 1, 2 or 4.
 pub enum CellClass {
     Class(usize),
-    BadSize,
-    BadStrength,
-    OutsideShape,
+    Refused(Refusal),
 }
 
 impl CellClass {
@@ -21,9 +29,7 @@ impl CellClass {
     {
         match self {
             CellClass::Class(_) => 0,
-            CellClass::BadSize => 1,
-            CellClass::BadStrength => 2,
-            CellClass::OutsideShape => 4,
+            CellClass::Refused(why) => why.number(),
         }
     }
 
@@ -33,9 +39,7 @@ impl CellClass {
     {
         match self {
             CellClass::Class(class) => class,
-            CellClass::BadSize => 0,
-            CellClass::BadStrength => 0,
-            CellClass::OutsideShape => 0,
+            CellClass::Refused(_) => 0,
         }
     }
 }
@@ -80,10 +84,12 @@ pub fn class_with(settings: Settings, row: u32, plane: u32, column: u32) -> usiz
     minus_mod(column as usize, z, m)
 }
 
-// The class of the cell with a byte number, by the settings given.
-pub fn class_at(shape: Shape, settings: Settings, cell: u32) -> usize
-    ensures { λ r. ⌜ r ≡ classWith settings (cellAt shape cell) ⌝ }
+// The class of the cell with a byte number.
+pub fn class_at(placement: Placement, cell: u32) -> usize
+    ensures { λ r. ⌜ r ≡ classBy placement cell ⌝ }
 {
+    let shape = placement.shape;
+    let settings = placement.settings;
     let line = quotient(cell, shape.columns as u32);
     let row = remainder(line, shape.rows as u32);
     let plane = quotient(line, shape.rows as u32);
@@ -105,20 +111,39 @@ impl Shape {
         column < self.columns as usize
     }
 
+    // The tests of the class of a cell: 1, 2, 4.
+    fn class_tests(self, row: usize, plane: usize, column: usize) -> Tested
+        ensures { λ r. ⌜ testedNumber r ≡ classNumber self (cell row plane column) ⌝ }
+    {
+        let tested = self.tests();
+        if let Tested::Refused(why) = tested {
+            return Tested::Refused(why);
+        }
+        if !self.contains(row, plane, column) {
+            return Tested::Refused(Refusal::OutsideShape);
+        }
+        Tested::Passed
+    }
+
     // The class of the cell, or the refusal 1, 2 or 4.
     pub fn class_of(self, row: usize, plane: usize, column: usize) -> CellClass
         ensures { λ r. ⌜ IsCellClass self (cell row plane column) r ⌝ }
     {
-        let number = self.refusal();
-        if number == 1 {
-            return CellClass::BadSize;
-        }
-        if number == 2 {
-            return CellClass::BadStrength;
-        }
-        if !self.contains(row, plane, column) {
-            return CellClass::OutsideShape;
+        let tested = self.class_tests(row, plane, column);
+        if let Tested::Refused(why) = tested {
+            return CellClass::Refused(why);
         }
         CellClass::Class(class_with(self.settings(), row as u32, plane as u32, column as u32))
+    }
+
+    // What a pass over the cells is handed, to find the class of each.
+    pub fn placement(self) -> Placement
+        ensures { λ r. ⌜ r ≡ placementOf self ⌝ }
+    {
+        let settings = self.settings();
+        Placement {
+            shape: self,
+            settings,
+        }
     }
 }

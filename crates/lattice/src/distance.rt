@@ -3,8 +3,11 @@ ghost use mathlib.Core.Path.{_≡_};
 ghost use Prim.Native.Nat.{_+_, _-_, _<_, _≤_};
 ghost use lib.IntN.{pos, negℤ, natAbs, _+ℤ_, _*ℤ_};
 ghost use Rattle.lattice.specs.Order.{columnsAt, planesAt, rowsAt, order, run, span};
-ghost use Rattle.lattice.specs.DistanceTest.{nothing, after, scan, failsAt, maxTestStrength, maxTestClasses, testSettingsOk};
+ghost use Rattle.lattice.specs.Refusal.{testedNumber};
+ghost use Rattle.lattice.specs.DistanceTest.{nothing, after, scan, failsAt, maxTestStrength, maxTestClasses, testSettingsOk, testNumber};
 ghost use Rattle.lattice.specs.Answer.{IsDistanceTest, distanceNumber, distanceVerdict, distanceTriple, distanceTried};
+use crate::refusal::Refusal;
+use crate::refusal::Tested;
 use crate::settings::Settings;
 use crate::shape::within;
 
@@ -26,11 +29,10 @@ pub struct Scan {
     pub tried: u32,
 }
 
+// What trying the triples of the order finds, or the refusal 2 or 9.
 pub enum DistanceTest {
-    Holds(u32),
-    Fails(Triple, u32),
-    BadStrength,
-    BadSettings,
+    Scanned(Scan),
+    Refused(Refusal),
 }
 
 impl DistanceTest {
@@ -39,22 +41,18 @@ impl DistanceTest {
         ensures { λ r. ⌜ r ≡ distanceNumber self ⌝ }
     {
         match self {
-            DistanceTest::Holds(_) => 0,
-            DistanceTest::Fails(_, _) => 0,
-            DistanceTest::BadStrength => 2,
-            DistanceTest::BadSettings => 9,
+            DistanceTest::Scanned(_) => 0,
+            DistanceTest::Refused(why) => why.number(),
         }
     }
 
-    // The verdict, no beside a refusal.
+    // The verdict: yes where no triple is found, no beside a refusal.
     pub fn holds(self) -> bool
         ensures { λ r. ⌜ r ≡ distanceVerdict self ⌝ }
     {
         match self {
-            DistanceTest::Holds(_) => true,
-            DistanceTest::Fails(_, _) => false,
-            DistanceTest::BadStrength => false,
-            DistanceTest::BadSettings => false,
+            DistanceTest::Scanned(scan) => !scan.found,
+            DistanceTest::Refused(_) => false,
         }
     }
 
@@ -62,16 +60,13 @@ impl DistanceTest {
     pub fn triple(self) -> Triple
         ensures { λ r. ⌜ r ≡ distanceTriple self ⌝ }
     {
-        let origin = Triple {
-            row: 0,
-            plane: 0,
-            column: 0,
-        };
         match self {
-            DistanceTest::Holds(_) => origin,
-            DistanceTest::Fails(triple, _) => triple,
-            DistanceTest::BadStrength => origin,
-            DistanceTest::BadSettings => origin,
+            DistanceTest::Scanned(scan) => scan.triple,
+            DistanceTest::Refused(_) => Triple {
+                row: 0,
+                plane: 0,
+                column: 0,
+            },
         }
     }
 
@@ -80,10 +75,8 @@ impl DistanceTest {
         ensures { λ r. ⌜ r ≡ distanceTried self ⌝ }
     {
         match self {
-            DistanceTest::Holds(tried) => tried,
-            DistanceTest::Fails(_, tried) => tried,
-            DistanceTest::BadStrength => 0,
-            DistanceTest::BadSettings => 0,
+            DistanceTest::Scanned(scan) => scan.tried,
+            DistanceTest::Refused(_) => 0,
         }
     }
 }
@@ -288,28 +281,33 @@ fn settings_ok(m: usize, b: usize, c: usize) -> bool
     c < m
 }
 
+// The tests of the numbers: 2, 9.
+fn distance_tests(m: usize, b: usize, c: usize, t: usize) -> Tested
+    ensures { λ r. ⌜ testedNumber r ≡ testNumber m b c t ⌝ }
+{
+    if !within(1, MAX_TEST_STRENGTH, t) {
+        return Tested::Refused(Refusal::BadStrength);
+    }
+    if !settings_ok(m, b, c) {
+        return Tested::Refused(Refusal::BadSettings);
+    }
+    Tested::Passed
+}
+
 // Do the settings keep different cells of one class at least t apart? The refusals 2 and 9 come first.
 pub fn distance_test(m: usize, b: usize, c: usize, t: usize) -> DistanceTest
     ensures { λ r. ⌜ IsDistanceTest m b c t r ⌝ }
     ensures { λ r. do ⌜ (← ⟦MAX_TEST_STRENGTH⟧ .entry) ≡ maxTestStrength ⌝ }
     ensures { λ r. do ⌜ (← ⟦MAX_TEST_CLASSES⟧ .entry) ≡ maxTestClasses ⌝ }
 {
-    if !within(1, MAX_TEST_STRENGTH, t) {
-        return DistanceTest::BadStrength;
-    }
-    if !settings_ok(m, b, c) {
-        return DistanceTest::BadSettings;
+    let tested = distance_tests(m, b, c, t);
+    if let Tested::Refused(why) = tested {
+        return DistanceTest::Refused(why);
     }
     let k = Settings {
         m: m as u16,
         b: b as u16,
         c: c as u16,
     };
-    let outcome = scan_order(k, (t - 1) as u32);
-    let tried = outcome.tried;
-    if outcome.found {
-        let triple = outcome.triple;
-        return DistanceTest::Fails(triple, tried);
-    }
-    DistanceTest::Holds(tried)
+    DistanceTest::Scanned(scan_order(k, (t - 1) as u32))
 }

@@ -2,5 +2,6 @@
 pub mod capacity;
 pub mod class;
 pub mod distance;
+pub mod refusal;
 pub mod settings;
 pub mod shape;

@@ -2,8 +2,10 @@
 ghost use mathlib.Core.Path.{_≡_};
 ghost use Prim.Native.Nat.{_<_};
 ghost use Rattle.lattice.specs.Refusal.{figure};
-ghost use Rattle.lattice.specs.Settings.{flatSettings, stackSettings, settingsOf, settingsGiven};
-ghost use Rattle.lattice.specs.Shape.{numberOf};
+ghost use Rattle.lattice.specs.Settings.{flatSettings, stackSettings, settingsGiven};
+ghost use Rattle.lattice.specs.Shape.{shapeNumber};
+ghost use Rattle.lattice.specs.Class.{classesOf};
+use crate::refusal::Tested;
 use crate::shape::Shape;
 
 // m classes; b goes with the row and c with the plane.
@@ -63,20 +65,21 @@ impl Shape {
     pub fn settings(self) -> Settings
         ensures { λ r. ⌜ r ≡ settingsGiven self ⌝ }
     {
-        if self.refusal() == 0 {
-            if self.planes == 1 {
-                flat(self.strength)
-            } else {
-                stack(self.strength as usize)
+        match self.tests() {
+            Tested::Refused(_) => Settings { m: 0, b: 0, c: 0 },
+            Tested::Passed => {
+                if self.planes == 1 {
+                    flat(self.strength)
+                } else {
+                    stack(self.strength as usize)
+                }
             }
-        } else {
-            Settings { m: 0, b: 0, c: 0 }
         }
     }
 
     // The number of classes, m; 0 for a shape that the constructor refuses.
     pub fn classes(self) -> usize
-        ensures { λ r. ⌜ r ≡ figure (numberOf self) (settingsOf self .m) ⌝ }
+        ensures { λ r. ⌜ r ≡ figure (shapeNumber self) (classesOf self) ⌝ }
     {
         self.settings().m as usize
     }

@@ -1,8 +1,10 @@
 // The shape of a field: its limits, its constructor and its number of cells.
 ghost use mathlib.Core.Path.{_≡_};
-ghost use Rattle.lattice.specs.Refusal.{figure};
-ghost use Rattle.lattice.specs.Shape.{maxSide, maxPlanes, maxCells, maxFlatStrength, maxStackStrength, maxClasses, maxStrength, inRange, sizeOk, strengthOk, shapeNumber, numberOf, cellsOf};
+ghost use Rattle.lattice.specs.Refusal.{testedNumber, figure};
+ghost use Rattle.lattice.specs.Shape.{maxSide, maxPlanes, maxCells, maxFlatStrength, maxStackStrength, maxClasses, maxStrength, inRange, sizeOk, strengthOk, shapeFrom, shapeNumber, cellsOf};
 ghost use Rattle.lattice.specs.Answer.{IsNewShape, newNumber};
+use crate::refusal::Refusal;
+use crate::refusal::Tested;
 
 // W columns, H rows and D planes of cells, and the strength t.
 pub struct Shape {
@@ -24,8 +26,7 @@ pub struct ShapeNumbers {
 // What the constructor gives: the shape, or the refusal 1 or 2.
 pub enum NewShape {
     Accepted(Shape),
-    BadSize,
-    BadStrength,
+    Refused(Refusal),
 }
 
 impl NewShape {
@@ -35,8 +36,7 @@ impl NewShape {
     {
         match self {
             NewShape::Accepted(_) => 0,
-            NewShape::BadSize => 1,
-            NewShape::BadStrength => 2,
+            NewShape::Refused(why) => why.number(),
         }
     }
 }
@@ -95,60 +95,63 @@ impl Shape {
         within(1, Shape::max_strength(planes), strength)
     }
 
-    // The number that the limits give these four numbers: 0, 1 or 2.
-    fn number(columns: usize, rows: usize, planes: usize, strength: usize) -> u8
-        ensures { λ r. ⌜ r ≡ shapeNumber columns rows planes strength ⌝ }
+    // The tests of a shape's numbers: 1, 2.
+    fn tests_of(numbers: ShapeNumbers) -> Tested
+        ensures { λ r. ⌜ testedNumber r ≡ shapeNumber (shapeFrom numbers) ⌝ }
     {
-        if !Shape::size_ok(columns, rows, planes) {
-            return 1;
+        if !Shape::size_ok(numbers.columns, numbers.rows, numbers.planes) {
+            return Tested::Refused(Refusal::BadSize);
         }
-        if !Shape::strength_ok(planes, strength) {
-            return 2;
+        if !Shape::strength_ok(numbers.planes, numbers.strength) {
+            return Tested::Refused(Refusal::BadStrength);
         }
-        0
+        Tested::Passed
     }
 
-    // The shape of these four numbers, or the refusal 1 or 2.
-    pub fn new(columns: usize, rows: usize, planes: usize, strength: usize) -> NewShape
-        ensures { λ r. ⌜ IsNewShape columns rows planes strength r ⌝ }
+    // The shape of these numbers, or the refusal 1 or 2.
+    pub fn new(numbers: ShapeNumbers) -> NewShape
+        ensures { λ r. ⌜ IsNewShape numbers r ⌝ }
         ensures limits { λ r. do ⌜ ((← ⟦Shape::MAX_SIDE⟧ .entry) ≡ maxSide) × ((← ⟦Shape::MAX_PLANES⟧ .entry) ≡ maxPlanes) × ((← ⟦Shape::MAX_CELLS⟧ .entry) ≡ maxCells) ⌝ }
         ensures strengths { λ r. do ⌜ ((← ⟦Shape::MAX_FLAT_STRENGTH⟧ .entry) ≡ maxFlatStrength) × ((← ⟦Shape::MAX_STACK_STRENGTH⟧ .entry) ≡ maxStackStrength) × ((← ⟦Shape::MAX_CLASSES⟧ .entry) ≡ maxClasses) ⌝ }
     {
-        let number = Shape::number(columns, rows, planes, strength);
-        if number == 1 {
-            return NewShape::BadSize;
-        }
-        if number == 2 {
-            return NewShape::BadStrength;
+        let tested = Shape::tests_of(numbers);
+        if let Tested::Refused(why) = tested {
+            return NewShape::Refused(why);
         }
         NewShape::Accepted(Shape {
-            columns: columns as u16,
-            rows: rows as u16,
-            planes: planes as u16,
-            strength: strength as u16,
+            columns: numbers.columns as u16,
+            rows: numbers.rows as u16,
+            planes: numbers.planes as u16,
+            strength: numbers.strength as u16,
         })
     }
 
-    // The number that the constructor gives these four numbers.
-    pub fn refusal(self) -> u8
-        ensures { λ r. ⌜ r ≡ numberOf self ⌝ }
+    // The numbers of the shape.
+    pub fn numbers(self) -> ShapeNumbers
+        ensures { λ r. ⌜ shapeFrom r ≡ self ⌝ }
     {
-        Shape::number(
-            self.columns as usize,
-            self.rows as usize,
-            self.planes as usize,
-            self.strength as usize,
-        )
+        ShapeNumbers {
+            columns: self.columns as usize,
+            rows: self.rows as usize,
+            planes: self.planes as usize,
+            strength: self.strength as usize,
+        }
+    }
+
+    // The constructor's tests of the shape's own numbers.
+    pub fn tests(self) -> Tested
+        ensures { λ r. ⌜ testedNumber r ≡ shapeNumber self ⌝ }
+    {
+        Shape::tests_of(self.numbers())
     }
 
     // The number of cells; 0 for a shape that the constructor refuses.
     pub fn cells(self) -> usize
-        ensures { λ r. ⌜ r ≡ figure (numberOf self) (cellsOf self) ⌝ }
+        ensures { λ r. ⌜ r ≡ figure (shapeNumber self) (cellsOf self) ⌝ }
     {
-        if self.refusal() == 0 {
-            self.columns as usize * self.rows as usize * self.planes as usize
-        } else {
-            0
+        match self.tests() {
+            Tested::Refused(_) => 0,
+            Tested::Passed => self.columns as usize * self.rows as usize * self.planes as usize,
         }
     }
 }

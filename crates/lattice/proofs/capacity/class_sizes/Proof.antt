@@ -1,63 +1,66 @@
 -- `class_sizes` meets its contract. The loop's invariant: each entry is its class's size among the cells before i.
-use Prim.Native.Nat.{_≤_, _<_, _-_, zero-le}
-use mathlib.Core.Path.{_≡_, _∙_}
+use Prim.Native.Nat.{ℕ, _≤_, _<_, _-_, zero-le}
+use mathlib.Core.Path.{_≡_, ap, _∙_}
 use native.Mathlib.Nat.{lt-trans, lt-of-le-of-lt}
 use native.Mathlib.Omega.{arith}
+use borrow.Author.Needs.{needs}
 use lib.Dec.{lit<}
 use mir.Facts.{fits-lt, fits-lit}
-use Rattle.lattice.specs.Class.{classAt}
+use Rattle.lattice.specs.Shape.{Accepted}
+use Rattle.lattice.specs.Class.{classBy}
+use Rattle.lattice.specs.Position.{size}
+use Rattle.lattice.proofs.Answers.{refused, done, told, told-none}
+use Rattle.lattice.proofs.ClassAt.{placed-all, at-cells, at-limit, at-below}
 use Rattle.lattice.proofs.Sizes.{Sizes, sizes-none, sizes-more, sizes-most}
-use Rattle.lattice.proofs.ClassAt.{at-class, at-below, at-limit}
 use Rattle.lattice.proofs.capacity.class_sizes.Statement.{statement}
 use Rattle.lattice.proofs.capacity.class_sizes.Tie as tie
 
 abbrev Inv-loop : tie.InvT-loop
-Inv-loop shape sizes₀ settings cells i₀ sizes i = (i ≤ cells) × Sizes (classAt shape) sizes i
+Inv-loop sizes₀ placement cells i₀ sizes i = (i ≤ cells) × Sizes (classBy placement) sizes i
 
 abbrev μ-loop : tie.MeasureT-loop
-μ-loop shape sizes₀ settings cells i₀ sizes i = cells - i
+μ-loop sizes₀ placement cells i₀ sizes i = cells - i
 
--- the class that class_at gives in a turn
-module _ (c : tie.After-class-at Inv-loop μ-loop) where
-  class-is : c .class-at .result ≡ classAt (c .before .before .before .before .before .before .before .before .args .shape) (c .before .before .before .loop .i)
-  class-is =
-      at-class
-      _ _ _ _
-      (c .before .before .before .before .before .settings .ensures)
-      (c .before .before .before .before .cells .ensures)
-      (c .before .before .loop-test .taken)
-      _
-      (c .class-at .ensures)
-
-  class-below : c .class-at .result < 512
-  class-below =
-      at-below
-      _ _ _ _
-      (c .before .before .before .before .before .settings .ensures)
-      (c .before .before .before .before .cells .ensures)
-      (c .before .before .loop-test .taken)
-      _
-      (c .class-at .ensures)
+-- where the loop begins the shape is accepted
+accepted : (c : tie.After-cells Inv-loop μ-loop) → Accepted (c .before .before .before .before .before .before .before .args .shape)
+accepted c =
+    let e = c .before .before .before .before in told-none (e .before .before .tests .ensures) (e .enum-told2 .given .1)
 
 limit : (c : tie.In-loop Inv-loop μ-loop) → c .before .loop .i < 65536
 limit c =
-    at-limit
-    _ _ _ _
-    (c .before .before .before .settings .ensures)
-    (c .before .before .cells .ensures)
-    (c .loop-test .taken)
+    let e = c .before .before in
+    at-limit _ (accepted e) _ _ (e .cells .ensures) (c .loop-test .taken)
+
+-- the class that class_at gives in a turn
+class-below : (c : tie.After-class-at Inv-loop μ-loop) → c .class-at .result < 512
+class-below c =
+    let e = c .before .before .before .before in
+    at-below _ (accepted e) _ (e .before .placement .ensures) _ _ (c .class-at .ensures)
+
+tests-requires : tie.Need-tests-requires Inv-loop μ-loop
+tests-requires c κs = tt
+
+enum-told : tie.Need-enum-told Inv-loop μ-loop
+enum-told c = search needs
+
+returns : tie.Need-returns Inv-loop μ-loop
+returns c a l =
+    refused (c .enum-told .given .0 .0) _ _ _ (told (c .before .before .tests .ensures) (c .enum-told .given .1))
+
+enum-told-2 : tie.Need-enum-told-2 Inv-loop μ-loop
+enum-told-2 c = search needs
 
 clear-requires : tie.Need-clear-requires Inv-loop μ-loop
 clear-requires c κs = tt
 
-settings-requires : tie.Need-settings-requires Inv-loop μ-loop
-settings-requires c κs = tt
+placement-requires : tie.Need-placement-requires Inv-loop μ-loop
+placement-requires c κs = tt
 
 cells-requires : tie.Need-cells-requires Inv-loop μ-loop
 cells-requires c κs = tt
 
 loop-holds : tie.Need-loop-holds Inv-loop μ-loop
-loop-holds c = (zero-le, sizes-none (classAt (c .before .before .before .before .args .shape)) (c .before .before .clear .last .0) (c .before .before .clear .ensures))
+loop-holds c = (zero-le, sizes-none (classBy (c .before .placement .result)) (c .before .before .clear .last .0) (c .before .before .clear .ensures))
 
 cast-class-at : tie.Need-cast-class-at Inv-loop μ-loop
 cast-class-at c = fits-lt (limit (c .before)) (fits-lit tt)
@@ -85,21 +88,26 @@ loop-again : tie.Need-loop-again Inv-loop μ-loop
 loop-again c = (
   omega arith,
   sizes-more
-      (classAt (c .before .before .before .before .before .before .before .before .before .args .shape))
+      (classBy (c .before .before .before .before .before .before .placement .result))
       (c .before .before .before .before .loop .sizes)
       (c .count-one .last .0)
       (c .before .before .before .before .loop .i)
       (c .before .class-at .result)
       (c .before .before .before .before .loop .inv .1)
-      (class-is (c .before))
+      (c .before .class-at .ensures)
       (c .count-one .ensures .0)
       (c .count-one .ensures .1),
 )
 
-returns : tie.Need-returns Inv-loop μ-loop
-returns c =
-    let n : c .before .loop .i ≡ c .before .before .cells .result = omega arith in
-    rw (← (n ∙ c .before .before .cells .ensures)) (c .before .loop .inv .1)
+returns-2 : tie.Need-returns-2 Inv-loop μ-loop
+returns-2 c a l =
+    let e = c .before .before in
+    let n : c .before .loop .i ≡ e .cells .result = omega arith in
+    let all = placed-all _ (accepted e) _ (e .before .placement .ensures) in
+    done _ _ _ _ (accepted e)
+    (c .before .loop .inv .1 a l
+    ∙ ap (λ (f : ℕ → ℕ). size f a (c .before .loop .i)) all
+    ∙ ap (size _ a) (n ∙ at-cells _ (accepted e) _ (e .cells .ensures)))
 
 pub class-sizes-spec : {M : Type 1} → statement M
 class-sizes-spec =
@@ -107,8 +115,12 @@ class-sizes-spec =
     (tie.spec
     Inv-loop
     μ-loop
+    tests-requires
+    enum-told
+    returns
+    enum-told-2
     clear-requires
-    settings-requires
+    placement-requires
     cells-requires
     loop-holds
     cast-class-at
@@ -117,4 +129,4 @@ class-sizes-spec =
     add-i
     loop-less
     loop-again
-    returns)
+    returns-2)

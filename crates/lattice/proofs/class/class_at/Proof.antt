@@ -34,7 +34,8 @@ class-with-requires c κs = search needs
 returns : tie.Need-returns
 returns c =
     class-at
-    _ _ _ _ _ _ _ _
+    (c .before .before .before .before .before .before .before .before .before .before .before .args .placement)
+    _ _ _ _ _ _
     (c .before .before .before .before .before .before .before .quotient .ensures)
     (c .before .before .before .before .before .remainder .ensures)
     (c .before .before .before .quotient2 .ensures)

@@ -1,43 +1,21 @@
--- `lattice::distance::DistanceTest::triple` meets its contract: a case gives its triple.
-use mathlib.Core.Path.{sym, ap}
+-- `DistanceTest::triple` meets its contract.
+use mathlib.Core.Path.{refl, ap, sym}
 use borrow.Author.Needs.{needs}
 use Rattle.lattice.specs.Answer.{distanceTriple}
 use Rattle.lattice.proofs.distance.DistanceTest.triple.Statement.{statement}
 use Rattle.lattice.proofs.distance.DistanceTest.triple.Tie as tie
 
-enum-told : tie.Need-enum-told
-enum-told c = search needs
-
 enum-known-self : tie.Need-enum-known-self
 enum-known-self c = search needs
 
-enum-told-2 : tie.Need-enum-told-2
-enum-told-2 c = search needs
-
-enum-told-3 : tie.Need-enum-told-3
-enum-told-3 c = search needs
+enum-told : tie.Need-enum-told
+enum-told c = search needs
 
 returns : tie.Need-returns
-returns c = sym (ap distanceTriple (c .enum-told .given .1))
+returns c = search needs
 
 returns-2 : tie.Need-returns-2
-returns-2 c = search needs
-
-returns-3 : tie.Need-returns-3
-returns-3 c = sym (ap distanceTriple (c .enum-told2 .given .1))
-
-returns-4 : tie.Need-returns-4
-returns-4 c = sym (ap distanceTriple (c .enum-told3 .given .1))
+returns-2 c = sym (ap distanceTriple (c .enum-told .given .1))
 
 pub triple-spec : {M : Type 1} → statement M
-triple-spec =
-    tie.close
-    (tie.spec
-    enum-told
-    enum-known-self
-    enum-told-2
-    enum-told-3
-    returns
-    returns-2
-    returns-3
-    returns-4)
+triple-spec = tie.close (tie.spec enum-known-self enum-told returns returns-2)

@@ -1,15 +1,21 @@
 -- `Shape::cells` meets its contract.
-use mathlib.Core.Path.{sym, _∙_}
-use borrow.Author.Needs.{needs}
 use native.Mathlib.Nat.{mul-le-mul}
+use mathlib.Core.Path.{refl}
+use borrow.Author.Needs.{needs}
 use mir.Facts.{fits-below}
+use Rattle.lattice.proofs.Answers.{refused, done, told, told-none}
 use Rattle.lattice.proofs.Widths.{most-16, product-16-16}
-use Rattle.lattice.proofs.Figure.{figure-given, figure-none}
 use Rattle.lattice.proofs.shape.Shape.cells.Statement.{statement}
 use Rattle.lattice.proofs.shape.Shape.cells.Tie as tie
 
-refusal-requires : tie.Need-refusal-requires
-refusal-requires c κs = search needs
+tests-requires : tie.Need-tests-requires
+tests-requires c κs = search needs
+
+enum-told : tie.Need-enum-told
+enum-told c = search needs
+
+enum-told-2 : tie.Need-enum-told-2
+enum-told-2 c = search needs
 
 cast-result : tie.Need-cast-result
 cast-result c = search needs
@@ -32,20 +38,20 @@ mul-result-2 c =
     (most-16 (c .struct-known3 .given .1 .1 .0)))
 
 returns : tie.Need-returns
-returns c =
-    sym
-    (figure-given
-    _ _
-    (sym (c .before .before .before .before .refusal .ensures) ∙ c .before .before .before .if1 .taken))
+returns c = refused (c .enum-told .given .0 .0) _ _ _ (told (c .before .before .tests .ensures) (c .enum-told .given .1))
 
 returns-2 : tie.Need-returns-2
-returns-2 c = sym (figure-none _ _ (λ e. c .if1 .left (c .before .refusal .ensures ∙ e)))
+returns-2 c =
+    let e = c .before .before .before in
+    done _ _ _ _ (told-none (e .before .before .tests .ensures) (e .enum-told2 .given .1)) refl
 
 pub cells-spec : {M : Type 1} → statement M
 cells-spec =
     tie.close
     (tie.spec
-    refusal-requires
+    tests-requires
+    enum-told
+    enum-told-2
     cast-result
     cast-result-2
     mul-result

@@ -1,53 +1,57 @@
--- `Shape::new` meets its contract.
-use mathlib.Core.Path.{_≡_, refl, sym, _∙_}
+-- `Shape::new` meets its contract: a refusal settles the answer, and accepted numbers fit the shape's.
+use mathlib.Core.Path.{refl, sym}
 use borrow.Author.Needs.{needs}
 use mir.Facts.{fits-below}
-use Rattle.lattice.specs.Shape.{shapeNumber}
-use Rattle.lattice.proofs.Limits.{legal, strength-most, neither}
-use Rattle.lattice.proofs.NewShape.{bad-size, bad-strength, accepted}
+use Rattle.lattice.specs.Shape.{shapeFrom, Accepted}
+use Rattle.lattice.proofs.Answers.{refused, done, told, told-none}
+use Rattle.lattice.proofs.Limits.{legal, strength-most}
 use Rattle.lattice.proofs.shape.Shape.new.Statement.{statement}
 use Rattle.lattice.proofs.shape.Shape.new.Tie as tie
 
-zero : (c : tie.Else2)
-    → shapeNumber
-    (c .before .before .before .args .columns)
-    (c .before .before .before .args .rows)
-    (c .before .before .before .args .planes)
-    (c .before .before .before .args .strength)
-    ≡ 0
-zero c =
-    neither
-    _ _ _ _
-    (λ e. c .before .if1 .left (c .before .before .number .ensures ∙ e))
-    (λ e. c .if2 .left (c .before .before .number .ensures ∙ e))
+accepted : (c : tie.After-enum-told) → Accepted (shapeFrom (c .before .before .before .args .numbers))
+accepted c = told-none (c .before .before .tests-of .ensures) (c .enum-told .given .1)
 
-number-requires : tie.Need-number-requires
-number-requires c κs = search needs
+tests-of-requires : tie.Need-tests-of-requires
+tests-of-requires c κs = search needs
+
+enum-known-tested : tie.Need-enum-known-tested
+enum-known-tested c = search needs
 
 returns : tie.Need-returns
 returns c =
-    (bad-size _ _ _ _ (sym (c .before .number .ensures) ∙ c .if1 .taken), ((refl, refl, refl), (refl, refl, refl)))
+    let e = told (c .before .before .before .tests-of .ensures) (c .before .tested .given .1) in
+    (record { number = e; shape = refused (c .before .tested .given .0 .0) _ _ _ e }, ((refl, refl, refl), (refl, refl, refl)))
+
+enum-told : tie.Need-enum-told
+enum-told c = search needs
+
+cast-t4 : tie.Need-cast-t4
+cast-t4 c = fits-below tt (legal _ (accepted (c .before)) .width-high)
+
+cast-t5 : tie.Need-cast-t5
+cast-t5 c = fits-below tt (legal _ (accepted (c .before .before)) .height-high)
+
+cast-t6 : tie.Need-cast-t6
+cast-t6 c = fits-below tt (legal _ (accepted (c .before .before .before)) .planes-high)
+
+cast-t7 : tie.Need-cast-t7
+cast-t7 c = fits-below tt (strength-most _ (accepted (c .before .before .before .before)))
 
 returns-2 : tie.Need-returns-2
 returns-2 c =
-    (bad-strength _ _ _ _ (sym (c .before .before .number .ensures) ∙ c .if2 .taken), ((refl, refl, refl), (refl, refl, refl)))
-
-cast-t7 : tie.Need-cast-t7
-cast-t7 c = fits-below tt (legal _ _ _ _ (zero c) .width-high)
-
-cast-t8 : tie.Need-cast-t8
-cast-t8 c = fits-below tt (legal _ _ _ _ (zero c) .height-high)
-
-cast-t9 : tie.Need-cast-t9
-cast-t9 c = fits-below tt (legal _ _ _ _ (zero c) .planes-high)
-
-cast-t10 : tie.Need-cast-t10
-cast-t10 c = fits-below tt (strength-most _ _ _ _ (zero c))
-
-returns-3 : tie.Need-returns-3
-returns-3 c = (accepted _ _ _ _ (zero c), ((refl, refl, refl), (refl, refl, refl)))
+    let a = accepted (c .before .before .before .before) in
+    (record { number = sym a; shape = done _ _ _ _ a refl }, ((refl, refl, refl), (refl, refl, refl)))
 
 pub new-spec : {M : Type 1} → statement M
 new-spec =
     tie.close
-    (tie.spec number-requires returns returns-2 cast-t7 cast-t8 cast-t9 cast-t10 returns-3)
+    (tie.spec
+    tests-of-requires
+    enum-known-tested
+    returns
+    enum-told
+    cast-t4
+    cast-t5
+    cast-t6
+    cast-t7
+    returns-2)

@@ -1,0 +1,33 @@
+-- `Shape::tests_of` meets its contract: the two tests in their order.
+use mathlib.Core.Bool.{true}
+use mathlib.Core.Path.{_≡_, sym}
+use borrow.Author.Needs.{needs}
+use Rattle.lattice.specs.Shape.{sizeOk}
+use Rattle.lattice.proofs.Bools.{failed, passed}
+use Rattle.lattice.proofs.Limits.{number-size, number-strength, number-accepted}
+use Rattle.lattice.proofs.shape.Shape.tests_of.Statement.{statement}
+use Rattle.lattice.proofs.shape.Shape.tests_of.Tie as tie
+
+size-passed : (c : tie.Else1) → sizeOk (c .before .before .args .numbers .columns) (c .before .before .args .numbers .rows) (c .before .before .args .numbers .planes) ≡ true
+size-passed c = passed _ _ (c .if1 .left) (c .before .size-ok .ensures)
+
+size-ok-requires : tie.Need-size-ok-requires
+size-ok-requires c κs = search needs
+
+returns : tie.Need-returns
+returns c = sym (number-size _ (failed _ _ (c .if1 .taken) (c .before .size-ok .ensures)))
+
+strength-ok-requires : tie.Need-strength-ok-requires
+strength-ok-requires c κs = search needs
+
+returns-2 : tie.Need-returns-2
+returns-2 c =
+    sym (number-strength _ (size-passed (c .before .before)) (failed _ _ (c .if2 .taken) (c .before .strength-ok .ensures)))
+
+returns-3 : tie.Need-returns-3
+returns-3 c =
+    sym (number-accepted _ (size-passed (c .before .before)) (passed _ _ (c .if2 .left) (c .before .strength-ok .ensures)))
+
+pub tests-of-spec : {M : Type 1} → statement M
+tests-of-spec =
+    tie.close (tie.spec size-ok-requires returns strength-ok-requires returns-2 returns-3)

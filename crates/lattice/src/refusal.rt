@@ -1,0 +1,55 @@
+// Why an operation refuses, and what the tests of an operation give.
+ghost use mathlib.Core.Path.{_≡_};
+ghost use Rattle.lattice.specs.Refusal.{refusalNumber, testedNumber};
+
+// A case for each reason. A field whose length is wrong and a cell outside the shape are two reasons with the number 4.
+pub enum Refusal {
+    BadSize,
+    BadStrength,
+    PayloadLength,
+    FieldLength,
+    OutsideShape,
+    BadCell,
+    OutOfReach,
+    BadPadding,
+    BadForm,
+    BadSettings,
+}
+
+impl Refusal {
+    // The papers' number.
+    pub fn number(self) -> usize
+        ensures { λ r. ⌜ r ≡ refusalNumber self ⌝ }
+    {
+        match self {
+            Refusal::BadSize => 1,
+            Refusal::BadStrength => 2,
+            Refusal::PayloadLength => 3,
+            Refusal::FieldLength => 4,
+            Refusal::OutsideShape => 4,
+            Refusal::BadCell => 5,
+            Refusal::OutOfReach => 6,
+            Refusal::BadPadding => 7,
+            Refusal::BadForm => 8,
+            Refusal::BadSettings => 9,
+        }
+    }
+}
+
+// What tests give: they pass, or one of them refuses.
+pub enum Tested {
+    Passed,
+    Refused(Refusal),
+}
+
+impl Tested {
+    // The papers' number: 0 where the tests pass.
+    pub fn number(self) -> usize
+        ensures { λ r. ⌜ r ≡ testedNumber self ⌝ }
+    {
+        match self {
+            Tested::Passed => 0,
+            Tested::Refused(why) => why.number(),
+        }
+    }
+}
