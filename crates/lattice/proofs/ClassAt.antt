@@ -20,20 +20,14 @@ pub cell-at : (s : Shape) (i line row plane column : ℕ) → line ≡ i / s .co
 unfolding cellAt
 cell-at s i line row plane column l r p c = rw (r, p, c, l)
 
-pub class-at : (p : Placement) (i line row plane column a : ℕ) → line ≡ i / p .shape .columns → row ≡ line % p .shape .rows
-    → plane ≡ line / p .shape .rows → column ≡ i % p .shape .columns → a ≡ classWith (p .settings) (cell row plane column)
-    → a ≡ classBy p i
-unfolding classBy
-class-at k i line row plane column a l r p c e =
-    e ∙ ap (λ (x : Cell). classWith (k .settings) x) (cell-at (k .shape) i line row plane column l r p c)
+pub class-at : (k : Placement) (s : Shape) (i line row plane column a : ℕ) → line ≡ i / s .columns → row ≡ line % s .rows
+    → plane ≡ line / s .rows → column ≡ i % s .columns → a ≡ classBy k (cell row plane column) → a ≡ classBy k (cellAt s i)
+class-at k s i line row plane column a l r p c e = e ∙ ap (classBy k) (cell-at s i line row plane column l r p c)
 
--- by the placement of an accepted shape it is the class of the cell
-pub placed : (s : Shape) → Accepted s → (i : ℕ) → classBy (placementOf s) i ≡ classAt s i
+-- by the placement of an accepted shape the class of a cell is its own
+pub placed : (s : Shape) → Accepted s → (x : Cell) → classBy (placementOf s) x ≡ classOf s x
 unfolding classBy placementOf classOf
-placed s a i = ap (λ (k : Settings). classWith k (cellAt s i)) (given-accepted s a)
-
-pub placed-all : (s : Shape) → Accepted s → (p : Placement) → p ≡ placementOf s → _≡_ {A = ℕ → ℕ} (classBy p) (classAt s)
-placed-all s a p g = ap classBy g ∙ (λ k i. placed s a i k)
+placed s a x = ap (λ (k : Settings). classWith k x) (given-accepted s a)
 
 -- a cell of an accepted shape, and its class by the shape's placement
 module _ (s : Shape) (a : Accepted s) where
@@ -44,9 +38,9 @@ module _ (s : Shape) (a : Accepted s) where
   pub at-limit : (n i : ℕ) → n ≡ figure (shapeNumber s) (cellsOf s) → i < n → i < 65536
   at-limit n i e l = lt-of-lt-of-le l (rw (at-cells n e) (legal s a .product))
 
-  module _ (p : Placement) (g : p ≡ placementOf s) (i r : ℕ) (q : r ≡ classBy p i) where
+  module _ (p : Placement) (g : p ≡ placementOf s) (i r : ℕ) (q : r ≡ classBy p (cellAt s i)) where
     pub at-class : r ≡ classAt s i
-    at-class = q ∙ ap (λ (k : Placement). classBy k i) g ∙ placed s a i
+    at-class = q ∙ ap (λ (k : Placement). classBy k (cellAt s i)) g ∙ placed s a (cellAt s i)
 
     pub at-below : r < maxClasses
     at-below = rw at-class (lt-of-lt-of-le (class-below s a (cellAt s i)) (classes-limit s a))

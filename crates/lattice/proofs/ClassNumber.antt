@@ -3,18 +3,17 @@ use Prim.Native.Nat.{ℕ}
 use mathlib.Core.Bool.{true, false}
 use mathlib.Core.Path.{_≡_, sym, ap, _∙_}
 use Rattle.lattice.specs.declared.refusal.Refusal.{Refusal}
-use Rattle.lattice.specs.declared.settings.Settings.{Settings}
 use Rattle.lattice.specs.declared.shape.Shape.{Shape}
+use Rattle.lattice.specs.declared.class.Placement.{Placement}
 use Rattle.lattice.specs.declared.class.CellClass.the-variants as cls
 use Rattle.lattice.specs.Refusal.{refusalNumber}
 use Rattle.lattice.specs.Shape.{shapeNumber, Accepted}
-use Rattle.lattice.specs.Settings.{settingsGiven}
 use Rattle.lattice.specs.Cell.{Cell, InField}
-use Rattle.lattice.specs.Class.{inside, classWith, classOf, classNumber, classGiven}
+use Rattle.lattice.specs.Class.{inside, classNumber, classGiven, placementOf, classBy}
 use Rattle.lattice.specs.Answer.{IsCellClass}
 use Rattle.lattice.proofs.Answers.{done, earlier-told, unless-zero, or-else-zero}
+use Rattle.lattice.proofs.ClassAt.{placed}
 use Rattle.lattice.proofs.InField.{inside-field}
-use Rattle.lattice.proofs.SettingsLaws.{given-accepted}
 
 module _ (s : Shape) (x : Cell) where
   -- the shape's refusal stands; an accepted shape leaves the number to the cell
@@ -42,11 +41,11 @@ module _ (s : Shape) (x : Cell) where
       let both = or-else-zero (shapeNumber s) _ e in
       record { none = e; accepted = both .0; field = inside-field s x (unless-zero (inside s x) 3 0 (both .1) .0) }
 
-  -- the class by the settings that the shape gives is the cell's
-  pub class-given : (k : Settings) (a : ℕ) → Classed → k ≡ settingsGiven s → a ≡ classWith k x → IsCellClass s x (cls.Class a)
-  unfolding classGiven classOf
+  -- the class by the shape's placement is the cell's
+  pub class-given : (k : Placement) (a : ℕ) → Classed → k ≡ placementOf s → a ≡ classBy k x → IsCellClass s x (cls.Class a)
+  unfolding classGiven
   class-given k a c g e =
       record {
         number = sym (c .none);
-        class = done _ _ _ _ (c .none) (e ∙ ap (λ (j : Settings). classWith j x) (g ∙ given-accepted s (c .accepted)));
+        class = done _ _ _ _ (c .none) (e ∙ ap (λ (j : Placement). classBy j x) g ∙ placed s (c .accepted) x);
       }

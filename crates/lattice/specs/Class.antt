@@ -52,10 +52,10 @@ OutsideShape s x = (s .rows ≤ x .row) ⊎ ((s .planes ≤ x .plane) ⊎ (s .co
 abbrev pub classRefusals : Shape → Cell → List Listed
 classRefusals s x = shapeRefusals s ++ (listed 4 (OutsideShape s x) ∷ [])
 
--- what a pass over the cells of a field is handed, to find the class of each: the field's shape, and the settings that it gives
+-- how the cells of a field are placed in classes, as one value, which a pass over the cells is handed: the settings that the shape gives
 unfoldable pub placementOf : Shape → Placement
-placementOf s = record { shape = s; settings = settingsGiven s }
+placementOf s = record { settings = settingsGiven s }
 
--- the class of the cell with a byte number, by a placement
-unfoldable pub classBy : Placement → ℕ → ℕ
-classBy p i = classWith (p .settings) (cellAt (p .shape) i)
+-- the class of a cell by a placement
+unfoldable pub classBy : Placement → Cell → ℕ
+classBy p x = classWith (p .settings) x

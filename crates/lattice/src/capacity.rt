@@ -58,7 +58,7 @@ pub fn class_sizes(shape: Shape, sizes: &mut [u32; Shape::MAX_CLASSES])
     let cells = shape.cells();
     let mut i = 0;
     while i < cells {
-        count_one(sizes, class_at(placement, i as u32));
+        count_one(sizes, class_at(shape, placement, i as u32));
         i += 1;
     }
 }

@@ -1,7 +1,7 @@
 // The class of a cell.
 ghost use mathlib.Core.Path.{_≡_};
 ghost use Prim.Native.Nat.{_/_, _%_, _<_};
-ghost use Rattle.lattice.specs.Cell.{cell};
+ghost use Rattle.lattice.specs.Cell.{cell, cellAt};
 ghost use Rattle.lattice.specs.Refusal.{testedNumber};
 ghost use Rattle.lattice.specs.Class.{minusMod, classWith, inside, classNumber, placementOf, classBy};
 ghost use Rattle.lattice.specs.Answer.{IsCellClass, cellClassNumber, cellClass};
@@ -10,9 +10,8 @@ use crate::refusal::Tested;
 use crate::settings::Settings;
 use crate::shape::Shape;
 
-// What a pass over the cells of a field is handed, to find the class of each.
+// How the cells of a field are placed in classes: what a pass over the cells is handed, to find the class of each.
 pub struct Placement {
-    pub shape: Shape,
     pub settings: Settings,
 }
 
@@ -84,17 +83,23 @@ pub fn class_with(settings: Settings, row: u32, plane: u32, column: u32) -> usiz
     minus_mod(column as usize, z, m)
 }
 
-// The class of the cell with a byte number.
-pub fn class_at(placement: Placement, cell: u32) -> usize
-    ensures { λ r. ⌜ r ≡ classBy placement cell ⌝ }
+// The class of a cell by a placement.
+fn class_by(placement: Placement, row: u32, plane: u32, column: u32) -> usize
+    ensures { λ r. ⌜ r ≡ classBy placement (cell row plane column) ⌝ }
 {
-    let shape = placement.shape;
     let settings = placement.settings;
+    class_with(settings, row, plane, column)
+}
+
+// The class of the cell with a byte number.
+pub fn class_at(shape: Shape, placement: Placement, cell: u32) -> usize
+    ensures { λ r. ⌜ r ≡ classBy placement (cellAt shape cell) ⌝ }
+{
     let line = quotient(cell, shape.columns as u32);
     let row = remainder(line, shape.rows as u32);
     let plane = quotient(line, shape.rows as u32);
     let column = remainder(cell, shape.columns as u32);
-    class_with(settings, row, plane, column)
+    class_by(placement, row, plane, column)
 }
 
 impl Shape {
@@ -133,17 +138,14 @@ impl Shape {
         if let Tested::Refused(why) = tested {
             return CellClass::Refused(why);
         }
-        CellClass::Class(class_with(self.settings(), row as u32, plane as u32, column as u32))
+        CellClass::Class(class_by(self.placement(), row as u32, plane as u32, column as u32))
     }
 
-    // What a pass over the cells is handed, to find the class of each.
+    // How the cells of the field are placed in classes.
     pub fn placement(self) -> Placement
         ensures { λ r. ⌜ r ≡ placementOf self ⌝ }
     {
         let settings = self.settings();
-        Placement {
-            shape: self,
-            settings,
-        }
+        Placement { settings }
     }
 }

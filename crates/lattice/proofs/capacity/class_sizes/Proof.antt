@@ -7,19 +7,19 @@ use borrow.Author.Needs.{needs}
 use lib.Dec.{lit<}
 use mir.Facts.{fits-lt, fits-lit}
 use Rattle.lattice.specs.Shape.{Accepted}
-use Rattle.lattice.specs.Class.{classBy}
+use Rattle.lattice.specs.Class.{classAt}
 use Rattle.lattice.specs.Position.{size}
 use Rattle.lattice.proofs.Answers.{refused, done, told, told-none}
-use Rattle.lattice.proofs.ClassAt.{placed-all, at-cells, at-limit, at-below}
+use Rattle.lattice.proofs.ClassAt.{at-cells, at-limit, at-class, at-below}
 use Rattle.lattice.proofs.Sizes.{Sizes, sizes-none, sizes-more, sizes-most}
 use Rattle.lattice.proofs.capacity.class_sizes.Statement.{statement}
 use Rattle.lattice.proofs.capacity.class_sizes.Tie as tie
 
 abbrev Inv-loop : tie.InvT-loop
-Inv-loop sizes₀ placement cells i₀ sizes i = (i ≤ cells) × Sizes (classBy placement) sizes i
+Inv-loop shape sizes₀ placement cells i₀ sizes i = (i ≤ cells) × Sizes (classAt shape) sizes i
 
 abbrev μ-loop : tie.MeasureT-loop
-μ-loop sizes₀ placement cells i₀ sizes i = cells - i
+μ-loop shape sizes₀ placement cells i₀ sizes i = cells - i
 
 -- where the loop begins the shape is accepted
 accepted : (c : tie.After-cells Inv-loop μ-loop) → Accepted (c .before .before .before .before .before .before .before .args .shape)
@@ -32,6 +32,11 @@ limit c =
     at-limit _ (accepted e) _ _ (e .cells .ensures) (c .loop-test .taken)
 
 -- the class that class_at gives in a turn
+class-is : (c : tie.After-class-at Inv-loop μ-loop) → c .class-at .result ≡ classAt (c .before .before .before .before .before .before .before .before .before .before .before .args .shape) (c .before .before .before .loop .i)
+class-is c =
+    let e = c .before .before .before .before in
+    at-class _ (accepted e) _ (e .before .placement .ensures) _ _ (c .class-at .ensures)
+
 class-below : (c : tie.After-class-at Inv-loop μ-loop) → c .class-at .result < 512
 class-below c =
     let e = c .before .before .before .before in
@@ -60,7 +65,7 @@ cells-requires : tie.Need-cells-requires Inv-loop μ-loop
 cells-requires c κs = tt
 
 loop-holds : tie.Need-loop-holds Inv-loop μ-loop
-loop-holds c = (zero-le, sizes-none (classBy (c .before .placement .result)) (c .before .before .clear .last .0) (c .before .before .clear .ensures))
+loop-holds c = (zero-le, sizes-none (classAt (c .before .before .before .before .before .before .before .args .shape)) (c .before .before .clear .last .0) (c .before .before .clear .ensures))
 
 cast-class-at : tie.Need-cast-class-at Inv-loop μ-loop
 cast-class-at c = fits-lt (limit (c .before)) (fits-lit tt)
@@ -88,13 +93,13 @@ loop-again : tie.Need-loop-again Inv-loop μ-loop
 loop-again c = (
   omega arith,
   sizes-more
-      (classBy (c .before .before .before .before .before .before .placement .result))
+      (classAt (c .before .before .before .before .before .before .before .before .before .before .before .before .args .shape))
       (c .before .before .before .before .loop .sizes)
       (c .count-one .last .0)
       (c .before .before .before .before .loop .i)
       (c .before .class-at .result)
       (c .before .before .before .before .loop .inv .1)
-      (c .before .class-at .ensures)
+      (class-is (c .before))
       (c .count-one .ensures .0)
       (c .count-one .ensures .1),
 )
@@ -103,10 +108,8 @@ returns-2 : tie.Need-returns-2 Inv-loop μ-loop
 returns-2 c a l =
     let e = c .before .before in
     let n : c .before .loop .i ≡ e .cells .result = omega arith in
-    let all = placed-all _ (accepted e) _ (e .before .placement .ensures) in
     done _ _ _ _ (accepted e)
     (c .before .loop .inv .1 a l
-    ∙ ap (λ (f : ℕ → ℕ). size f a (c .before .loop .i)) all
     ∙ ap (size _ a) (n ∙ at-cells _ (accepted e) _ (e .cells .ensures)))
 
 pub class-sizes-spec : {M : Type 1} → statement M

@@ -28,19 +28,18 @@ cast-remainder-2 c = search needs
 remainder-requires-2 : tie.Need-remainder-requires-2
 remainder-requires-2 c κs = search needs
 
-class-with-requires : tie.Need-class-with-requires
-class-with-requires c κs = search needs
+class-by-requires : tie.Need-class-by-requires
+class-by-requires c κs = search needs
 
 returns : tie.Need-returns
 returns c =
     class-at
-    (c .before .before .before .before .before .before .before .before .before .before .before .args .placement)
-    _ _ _ _ _ _
+    _ _ _ _ _ _ _ _
     (c .before .before .before .before .before .before .before .quotient .ensures)
     (c .before .before .before .before .before .remainder .ensures)
     (c .before .before .before .quotient2 .ensures)
     (c .before .remainder2 .ensures)
-    (c .class-with .ensures)
+    (c .class-by .ensures)
 
 pub class-at-spec : {M : Type 1} → statement M
 class-at-spec =
@@ -54,5 +53,5 @@ class-at-spec =
     quotient-requires-2
     cast-remainder-2
     remainder-requires-2
-    class-with-requires
+    class-by-requires
     returns)

@@ -1,4 +1,4 @@
--- `Shape::class_of` meets its contract: a refusal settles the answer, and the class is that by the shape's settings.
+-- `Shape::class_of` meets its contract: a refusal settles the answer, and the class is that by the shape's placement.
 use mathlib.Core.Path.{_≡_, sym}
 use native.Mathlib.Nat.{le-of-lt, le-trans}
 use borrow.Author.Needs.{needs}
@@ -30,26 +30,26 @@ returns c =
 enum-told : tie.Need-enum-told
 enum-told c = search needs
 
-settings-requires : tie.Need-settings-requires
-settings-requires c κs = search needs
+placement-requires : tie.Need-placement-requires
+placement-requires c κs = search needs
 
-cast-class-with : tie.Need-cast-class-with
-cast-class-with c =
+cast-class-by : tie.Need-cast-class-by
+cast-class-by c =
     let k = known (c .before) in fits-below tt (le-trans (le-of-lt (k .field .row)) (legal _ (k .accepted) .height-high))
 
-cast-class-with-2 : tie.Need-cast-class-with-2
-cast-class-with-2 c =
+cast-class-by-2 : tie.Need-cast-class-by-2
+cast-class-by-2 c =
     let k = known (c .before) in fits-below tt (le-trans (le-of-lt (k .field .plane)) (legal _ (k .accepted) .planes-high))
 
-cast-class-with-3 : tie.Need-cast-class-with-3
-cast-class-with-3 c =
+cast-class-by-3 : tie.Need-cast-class-by-3
+cast-class-by-3 c =
     let k = known (c .before) in fits-below tt (le-trans (le-of-lt (k .field .column)) (legal _ (k .accepted) .width-high))
 
-class-with-requires : tie.Need-class-with-requires
-class-with-requires c κs = search needs
+class-by-requires : tie.Need-class-by-requires
+class-by-requires c κs = search needs
 
 returns-2 : tie.Need-returns-2
-returns-2 c = class-given _ _ _ _ (known (c .before .before)) (c .before .settings .ensures) (c .class-with .ensures)
+returns-2 c = class-given _ _ _ _ (known (c .before .before)) (c .before .placement .ensures) (c .class-by .ensures)
 
 pub class-of-spec : {M : Type 1} → statement M
 class-of-spec =
@@ -59,9 +59,9 @@ class-of-spec =
     enum-known-tested
     returns
     enum-told
-    settings-requires
-    cast-class-with
-    cast-class-with-2
-    cast-class-with-3
-    class-with-requires
+    placement-requires
+    cast-class-by
+    cast-class-by-2
+    cast-class-by-3
+    class-by-requires
     returns-2)
