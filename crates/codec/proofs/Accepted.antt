@@ -1,17 +1,14 @@
 -- An accepted shape: the plan's figures, and the numbers of the operations on buffers of the plan's lengths.
 use Prim.Native.Nat.{ℕ, _/_, _<_}
-use mathlib.Core.Bool.{true}
 use mathlib.Core.List.{List}
 use mathlib.Core.Path.{_≡_, sym, _∙_, ap}
 use borrow.Author.Tests.{eq-eqb}
 use lib.ListN.{length}
 use Rattle.lattice.specs.declared.shape.Shape.{Shape}
-use Rattle.lattice.specs.Shape.{sizeOk, strengthOk, cellsOf}
-use Rattle.lattice.specs.Settings.{settingsOf}
+use Rattle.lattice.specs.Shape.{Accepted, cellsOf}
 use Rattle.lattice.specs.Cell.{cellAt}
-use Rattle.lattice.specs.Class.{classAt}
+use Rattle.lattice.specs.Class.{classesOf, classAt}
 use Rattle.lattice.proofs.Figure.{figure-given}
-use Rattle.lattice.proofs.Limits.{size-held, strength-held}
 use Rattle.lattice.proofs.ClassBelow.{class-below}
 use Rattle.codec.specs.Payload.{payloadBytes}
 use Rattle.codec.specs.Plan.{planNumber, planClasses, planCapacity, planBytes, planCells}
@@ -19,13 +16,7 @@ use Rattle.codec.specs.Encode.{encodeNumber}
 use Rattle.codec.specs.Decode.{decodeNumber, fieldNumber}
 use Rattle.codec.specs.Correct.{correctNumber}
 
-module _ (s : Shape) (accepted : planNumber s ≡ 0) where
-  size-passes : sizeOk (s .columns) (s .rows) (s .planes) ≡ true
-  size-passes = size-held (s .columns) (s .rows) (s .planes) (s .strength) accepted
-
-  strength-passes : strengthOk (s .planes) (s .strength) ≡ true
-  strength-passes = strength-held (s .columns) (s .rows) (s .planes) (s .strength) accepted
-
+module _ (s : Shape) (accepted : Accepted s) where
   -- the plan's figures are those of the shape
   pub plan-bytes : planBytes s ≡ payloadBytes (classAt s) (cellsOf s)
   unfolding planBytes planCapacity payloadBytes
@@ -35,27 +26,27 @@ module _ (s : Shape) (accepted : planNumber s ≡ 0) where
   unfolding planCells
   plan-cells = figure-given (planNumber s) (cellsOf s) accepted
 
-  pub plan-classes : planClasses s ≡ settingsOf s .m
+  pub plan-classes : planClasses s ≡ classesOf s
   unfolding planClasses
-  plan-classes = figure-given (planNumber s) (settingsOf s .m) accepted
+  plan-classes = figure-given (planNumber s) (classesOf s) accepted
 
   -- every class is below the number of classes
-  pub class-at-below : (i : ℕ) → i < cellsOf s → classAt s i < settingsOf s .m
+  pub class-at-below : (i : ℕ) → i < cellsOf s → classAt s i < classesOf s
   class-at-below i h = class-below s accepted (cellAt s i)
 
   -- on buffers of the plan's lengths only the field is left to refuse
   pub encode-number : (payload field : List ℕ) → length payload ≡ planBytes s → length field ≡ cellsOf s → encodeNumber s payload field ≡ 0
   unfolding encodeNumber
   encode-number payload field hp hf =
-      rw (size-passes, strength-passes, eq-eqb (length payload) (planBytes s) hp, eq-eqb (length field) (planCells s) (hf ∙ sym plan-cells))
+      rw (accepted, eq-eqb (length payload) (planBytes s) hp, eq-eqb (length field) (planCells s) (hf ∙ sym plan-cells))
 
   pub decode-number : (payload field : List ℕ) → length payload ≡ planBytes s → length field ≡ cellsOf s
       → decodeNumber s payload field ≡ fieldNumber s field
   unfolding decodeNumber
   decode-number payload field hp hf =
-      rw (size-passes, strength-passes, eq-eqb (length payload) (planBytes s) hp, eq-eqb (length field) (planCells s) (hf ∙ sym plan-cells))
+      rw (accepted, eq-eqb (length payload) (planBytes s) hp, eq-eqb (length field) (planCells s) (hf ∙ sym plan-cells))
 
   pub correct-number : (field : List ℕ) → length field ≡ cellsOf s → correctNumber s field ≡ fieldNumber s field
   unfolding correctNumber
   correct-number field hf =
-      rw (size-passes, strength-passes, eq-eqb (length field) (planCells s) (hf ∙ sym plan-cells))
+      rw (accepted, eq-eqb (length field) (planCells s) (hf ∙ sym plan-cells))

@@ -12,15 +12,11 @@ use Rattle.lattice.specs.Position.{size, position, checks, holdsData}
 use Rattle.lattice.proofs.Positions.{position-rises, position-one}
 use Rattle.codec.specs.Field.{Field, Cells}
 use Rattle.codec.specs.Hamming.{syndrome, Codeword}
+use Rattle.codec.proofs.CellValues.{cell-most, zero-cell, cond-cell}
 use Rattle.codec.proofs.BinaryDigits.{bits-same, xor-bit, xor-bit-left, bit-above, power-bit, power-bit-other}
 use Rattle.codec.proofs.PowerPositions.{below-checks, check-exponent, check-power, check-cell}
 use Rattle.codec.proofs.Syndrome.{sumOf, syndrome-own, syndrome-other, syndrome-same, syndrome-below, syndrome-size, syndrome-sum}
 use Rattle.codec.proofs.Xor.{xor-zero, xor-equal}
-
--- either of two cells is a cell
-pub cond-cell : (b : Bool) {v w : ℕ} → v ≤ 1 → w ≤ 1 → cond b v w ≤ 1
-cond-cell true p q = p
-cond-cell false p q = q
 
 module _ (cls : ℕ → ℕ) (n : ℕ) where
   -- a field with 0 in its check cells, and with 0 in the others
@@ -31,10 +27,10 @@ module _ (cls : ℕ → ℕ) (n : ℕ) where
   checkPart f i = cond (holdsData cls n i) 0 (f i)
 
   pub data-cells : (f : Field) (m : ℕ) → Cells f m → Cells (dataPart f) m
-  data-cells f m c i l = cond-cell (holdsData cls n i) (c i l) zero-le
+  data-cells f m c i l = cond-cell (holdsData cls n i) _ _ (c i l) zero-cell
 
   pub check-cells : (f : Field) (m : ℕ) → Cells f m → Cells (checkPart f) m
-  check-cells f m c i l = cond-cell (holdsData cls n i) zero-le (c i l)
+  check-cells f m c i l = cond-cell (holdsData cls n i) _ _ zero-cell (c i l)
 
   -- the field is the sum of the two
   part-sum : (b : Bool) (v : ℕ) → bitXor (cond b v 0) (cond b 0 v) ≡ v
@@ -138,7 +134,7 @@ module _ (cls : ℕ → ℕ) (n : ℕ) where
         j
         k
         (λ i r q h. data-zero (holdsData cls n i) (f i) h)
-        (check-cells f n cells j l)
+        (cell-most _ (check-cells f n cells j l))
         l
         p
         e

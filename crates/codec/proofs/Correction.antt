@@ -9,8 +9,9 @@ use native.Mathlib.Omega.{arith}
 use borrow.Author.Tests.{eq-eqb, ne-eqb, le-leb, leb-true}
 use Rattle.lattice.specs.Position.{size, position}
 use Rattle.lattice.proofs.Positions.{position-least, position-most, position-one, position-some}
-use Rattle.codec.specs.Field.{Field, Cells, Same, flip}
+use Rattle.codec.specs.Field.{Field, Cells, Same, flip, isCell}
 use Rattle.codec.specs.Hamming.{syndrome, Codeword, Lawful, Near, Nearest, inReach, corrected}
+use Rattle.codec.proofs.CellValues.{cell-most, most-cell}
 use Rattle.codec.proofs.FieldLists.{cells-same}
 use Rattle.codec.proofs.Xor.{xor-zero, xor-equal}
 use Rattle.codec.proofs.Syndrome.{syndrome-same, near-turned}
@@ -53,9 +54,9 @@ module _ (cls : ℕ → ℕ) (n : ℕ) (f : Field) where
   pub corrected-cells : Cells f n → Cells (corrected cls n f) n
   corrected-cells p i l = go (ℕ-discrete (syndrome cls f (cls i) n) (position cls i))
     where
-      go : Dec (syndrome cls f (cls i) n ≡ position cls i) → corrected cls n f i ≤ 1
-      go (yes e) = omega (arith, corrected-turned i e)
-      go (no e) = omega (arith, corrected-kept i e, p i l)
+      go : Dec (syndrome cls f (cls i) n ≡ position cls i) → isCell (corrected cls n f i) ≡ true
+      go (yes e) = most-cell _ (omega (arith, corrected-turned i e))
+      go (no e) = rw (corrected-kept i e) (p i l)
 
   -- a cell differs after correction exactly when its position is the syndrome of its class
   pub corrected-differs : (i : ℕ) → f i ≢ corrected cls n f i → syndrome cls f (cls i) n ≡ position cls i
@@ -100,7 +101,7 @@ module _ (cls : ℕ → ℕ) (n : ℕ) (f : Field) where
           let s = position-some cls a n (syndrome cls f a n) (omega arith) (reach-size a r) in
           let e : syndrome cls f (cls (s .0)) n ≡ position cls (s .0) = ap (λ (b : ℕ). syndrome cls f b n) (s .2) ∙ sym (s .3) in
           near-turned cls f (corrected cls n f) a (s .0) n p (corrected-cells p) (corrected-near a) (s .1) (s .2)
-          (differs-corrected (s .0) (p (s .0) (s .1)) e)
+          (differs-corrected (s .0) (cell-most _ (p (s .0) (s .1))) e)
           ∙ xor-equal (syndrome cls f a n) (position cls (s .0)) (sym (s .3))
 
   pub corrected-lawful : Cells f n → ((a : ℕ) → inReach cls n f a ≡ true) → Lawful cls n (corrected cls n f)
@@ -154,7 +155,7 @@ module _ (cls : ℕ → ℕ) (n : ℕ) (f g : Field) (a : ℕ) (p : Cells f n) (
               d .3 (subst (λ (k : ℕ). f k ≡ g k) (position-one cls i (d .0) (c ∙ sym (d .2)) (sym s ∙ here)) e))
               ∙ e
           go (no e) =
-              omega (arith, corrected-turned cls n f i (here ∙ ap (λ (k : ℕ). position cls k) (near (d .0) i (d .1) l (d .2) c (d .3) e)), p i l, q i l)
+              omega (arith, corrected-turned cls n f i (here ∙ ap (λ (k : ℕ). position cls k) (near (d .0) i (d .1) l (d .2) c (d .3) e)), cell-most _ (p i l), cell-most _ (q i l))
 
 module _ (cls : ℕ → ℕ) (n : ℕ) (f : Field) (p : Cells f n) where
   -- the nearest lawful field, where there is one, is the corrected field

@@ -4,9 +4,10 @@ use mathlib.Core.Bool.{Bool, true, false}
 use mathlib.Core.Logic.{_≢_}
 use mathlib.Core.Path.{_≡_, refl, sym, _∙_}
 use native.Mathlib.Omega.{arith}
-use Rattle.codec.specs.Field.{Field, Cells, flip}
+use Rattle.codec.specs.Field.{Field, Cells, flip, isCell}
 use Rattle.codec.specs.Hamming.{Lawful, Near, Nearest}
 use Rattle.codec.specs.Recovery.{damaged}
+use Rattle.codec.proofs.CellValues.{most-cell}
 
 module _ (f : Field) (selected : ℕ → Bool) where
   pub damaged-turned : (i : ℕ) → selected i ≡ true → damaged f selected i ≡ flip (f i)
@@ -20,9 +21,9 @@ module _ (f : Field) (selected : ℕ → Bool) where
   pub damaged-cells : (n : ℕ) → Cells f n → Cells (damaged f selected) n
   damaged-cells n p i l = go (selected i) refl
     where
-      go : (b : Bool) → selected i ≡ b → damaged f selected i ≤ 1
-      go true e = omega (arith, damaged-turned i e)
-      go false e = omega (arith, damaged-kept i e, p i l)
+      go : (b : Bool) → selected i ≡ b → isCell (damaged f selected i) ≡ true
+      go true e = most-cell _ (omega (arith, damaged-turned i e))
+      go false e = rw (damaged-kept i e) (p i l)
 
   -- a cell that differs was selected
   pub damaged-selected : (i : ℕ) → damaged f selected i ≢ f i → selected i ≡ true

@@ -6,9 +6,8 @@ use native.Mathlib.Nat.{le-trans, le-refl}
 use native.Mathlib.Omega.{arith}
 use Rattle.lattice.specs.Refusal.{figure}
 use Rattle.lattice.specs.Shape.{cellsOf}
-use Rattle.lattice.specs.Settings.{settingsOf}
 use Rattle.lattice.specs.Cell.{cellAt, cellNumber}
-use Rattle.lattice.specs.Class.{classAt}
+use Rattle.lattice.specs.Class.{classesOf, classAt}
 use Rattle.lattice.proofs.Numbering.{numbering}
 use Rattle.lattice.proofs.ClusterClasses.{clusterClasses}
 use Rattle.lattice.proofs.LabelsNeeded.{labelsNeeded}
@@ -41,4 +40,4 @@ figure-most (suc n) x = omega arith
 pub classesNeeded : ClassesNeeded
 unfolding planClasses
 classesNeeded s flat some wide high L separates =
-    le-trans (figure-most (planNumber s) (settingsOf s .m)) (labelsNeeded s flat some wide high L separates)
+    le-trans (figure-most (planNumber s) (classesOf s)) (labelsNeeded s flat some wide high L separates)

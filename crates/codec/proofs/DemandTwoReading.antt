@@ -1,20 +1,18 @@
 -- Demand 2, reading: decoding and correcting find the one lawful field that differs in at most one cell of each class.
 use Prim.Native.Nat.{ℕ}
-use mathlib.Core.Bool.{Bool, true, false, true≢false, cond}
+use mathlib.Core.Bool.{Bool, true, false, true≢false}
 use mathlib.Core.List.{List}
 use mathlib.Core.Logic.{_↔_}
 use mathlib.Core.Path.{_≡_, refl, sym, _∙_, ap₂, ap}
 use native.Mathlib.Omega.{arith}
-use borrow.Author.Tests.{eq-eqb}
-use lib.Dec.{eqb}
 use lib.ListN.{length}
 use Rattle.lattice.specs.declared.shape.Shape.{Shape}
 use Rattle.lattice.specs.Refusal.{unless}
-use Rattle.lattice.specs.Shape.{cellsOf}
-use Rattle.lattice.specs.Settings.{settingsOf}
-use Rattle.lattice.specs.Class.{classAt}
+use Rattle.lattice.specs.Shape.{Accepted, cellsOf}
+use Rattle.lattice.specs.Class.{classesOf, classAt}
+use Rattle.lattice.proofs.Answers.{beside-zero}
 use Rattle.lattice.proofs.Figure.{figure-given}
-use Rattle.codec.specs.Field.{Field, fieldOf, Same, differences, listOf}
+use Rattle.codec.specs.Field.{Field, fieldOf, Cells, Same, differences, listOf}
 use Rattle.codec.specs.Hamming.{allInReach}
 use Rattle.codec.specs.Payload.{PaddingRight, paddingOk, Carries, heldPayload}
 use Rattle.codec.specs.Decode.{correctedField, fieldNumber, correctedCount, decodeNumber, decodeCount, decodeLeaves}
@@ -22,16 +20,21 @@ use Rattle.codec.specs.Reading.{Readable, NearestTo, RightField, WrongFi
 use Rattle.codec.specs.Plan.{planBytes}
 use Rattle.codec.specs.Correct.{correctNumber, correctCount, correctLeaves}
 use Rattle.codec.proofs.Accepted.{class-at-below, plan-bytes, decode-number, correct-number}
-use Rattle.codec.proofs.FieldLists.{cells-ok, length-listOf, getD-listOf}
+use Rattle.codec.proofs.CellValues.{received-cells}
+use Rattle.codec.proofs.FieldLists.{received-ok, length-listOf, getD-listOf}
 use Rattle.codec.proofs.Correction.{nearest-corrected, nearest-one, corrected-cells}
 use Rattle.codec.proofs.Reach.{reach-nearest, nearest-all}
 use Rattle.codec.proofs.Differences.{differences-nearest}
 use Rattle.codec.proofs.PaddingCells.{padding-ok, ok-padding, not-padding, padding-right-same}
 use Rattle.codec.proofs.HeldPayload.{held-length, held-bytes, held-carries, carries-same}
 
+-- the cells of a field that can be read
+pub cells-of : {s : Shape} {field : List ℕ} → Readable s field → Cells (fieldOf field) (cellsOf s)
+cells-of {s} {field} readable = received-cells (fieldOf field) (cellsOf s) (readable .cells)
+
 -- Theorem. There is at most one lawful field that differs in at most one cell of each class.
 pub oneNearest : OneNearest
-oneNearest s field readable g h = nearest-one (classAt s) (cellsOf s) (fieldOf field) (readable .cells) g h
+oneNearest s field readable g h = nearest-one (classAt s) (cellsOf s) (fieldOf field) (cells-of readable) g h
 
 -- the two tests that are left where every cell is 0 or 1
 number-of : Bool → Bool → ℕ
@@ -39,27 +42,27 @@ number-of reach padding = unless reach 6 (unless padding 7 0)
 
 module _ (s : Shape) (field : List ℕ) (readable : Readable s field) where
   reach : Bool
-  reach = allInReach (classAt s) (cellsOf s) (settingsOf s .m) (fieldOf field)
+  reach = allInReach (classAt s) (cellsOf s) (classesOf s) (fieldOf field)
 
   right : Bool
   right = paddingOk (classAt s) (cellsOf s) (correctedField s field)
 
   field-number : fieldNumber s field ≡ number-of reach right
   unfolding fieldNumber number-of reach right
-  field-number = rw (cells-ok (fieldOf field) (cellsOf s) (readable .cells))
+  field-number = rw (received-ok (fieldOf field) (cellsOf s) (readable .cells))
 
   -- the mended field is the nearest one where a codeword is in reach of each class
   mended-nearest : reach ≡ true → NearestTo s field (correctedField s field)
   unfolding reach
-  mended-nearest = reach-nearest (classAt s) (cellsOf s) (settingsOf s .m) (class-at-below s (readable .accepted)) (fieldOf field) (readable .cells)
+  mended-nearest = reach-nearest (classAt s) (cellsOf s) (classesOf s) (class-at-below s (readable .accepted)) (fieldOf field) (cells-of readable)
 
   nearest-reach : (g : Field) → NearestTo s field g → reach ≡ true
   unfolding reach
-  nearest-reach = nearest-all (classAt s) (cellsOf s) (settingsOf s .m) (class-at-below s (readable .accepted)) (fieldOf field) (readable .cells)
+  nearest-reach = nearest-all (classAt s) (cellsOf s) (classesOf s) (class-at-below s (readable .accepted)) (fieldOf field) (cells-of readable)
 
   -- and any nearest field is the mended one
   pub nearest-mended : (g : Field) → NearestTo s field g → Same (correctedField s field) g (cellsOf s)
-  nearest-mended = nearest-corrected (classAt s) (cellsOf s) (fieldOf field) (readable .cells)
+  nearest-mended = nearest-corrected (classAt s) (cellsOf s) (fieldOf field) (cells-of readable)
 
   mended-right : right ≡ true → PaddingRight (classAt s) (cellsOf s) (correctedField s field)
   unfolding right
@@ -124,11 +127,7 @@ module _ (s : Shape) (field : List ℕ) (readable : Readable s field) where
   -- the count is the number of cells where the nearest field differs
   pub count-nearest : (g : Field) → NearestTo s field g → correctedCount s field ≡ differences (fieldOf field) g (cellsOf s)
   unfolding correctedCount
-  count-nearest = differences-nearest (classAt s) (cellsOf s) (fieldOf field) (readable .cells)
-
--- what an operation leaves and counts beside the number 0
-pub leaves-new : (n : ℕ) (new old : List ℕ) → n ≡ 0 → cond (eqb n 0) new old ≡ new
-leaves-new n new old e = rw (eq-eqb n 0 e)
+  count-nearest = differences-nearest (classAt s) (cellsOf s) (fieldOf field) (cells-of readable)
 
 -- an equation of numbers carries what the one means to the other
 carry : {P : Type 0} (a b k : ℕ) → a ≡ b → (b ≡ k) ↔ P → (a ≡ k) ↔ P
@@ -140,7 +139,7 @@ module _ (s : Shape) (payload field : List ℕ) (readable : Readable s field) (f
 
   pub decode-leaves : decodeNumber s payload field ≡ 0 → decodeLeaves s payload field ≡ heldPayload (classAt s) (cellsOf s) (correctedField s field)
   unfolding decodeLeaves
-  decode-leaves = leaves-new (decodeNumber s payload field) _ payload
+  decode-leaves = beside-zero (decodeNumber s payload field) _ payload
 
   pub decode-count : decodeNumber s payload field ≡ 0 → decodeCount s payload field ≡ correctedCount s field
   unfolding decodeCount
@@ -154,7 +153,7 @@ module _ (s : Shape) (payload field : List ℕ) (readable : Readable s field) (f
   gives g near padding =
       rw (decode-leaves (decoded g near padding))
       (carries-same (classAt s) (cellsOf s) (correctedField s field) g _ (nearest-mended s field readable g near)
-      (held-carries (classAt s) (cellsOf s) (correctedField s field) (corrected-cells (classAt s) (cellsOf s) (fieldOf field) (readable .cells))
+      (held-carries (classAt s) (cellsOf s) (correctedField s field) (corrected-cells (classAt s) (cellsOf s) (fieldOf field) (cells-of readable))
       (padding-right-same (classAt s) (cellsOf s) g (correctedField s field) (λ i h. sym (nearest-mended s field readable g near i h)) padding)))
 
 -- Theorem. Decoding gives 0, 6 or 7 by the lawful fields in reach, and with 0 the payload that it carries and the number of cells where it differs.
@@ -167,7 +166,7 @@ decodeMeaning s payload field readable fits =
       long = λ e. ap length (decode-leaves s payload field readable fits e) ∙ held-length (classAt s) (cellsOf s) (correctedField s field) ∙ sym (plan-bytes s (readable .accepted));
       bytes = λ e.
           rw (decode-leaves s payload field readable fits e)
-          (held-bytes (classAt s) (cellsOf s) (correctedField s field) (corrected-cells (classAt s) (cellsOf s) (fieldOf field) (readable .cells)));
+          (held-bytes (classAt s) (cellsOf s) (correctedField s field) (corrected-cells (classAt s) (cellsOf s) (fieldOf field) (cells-of readable)));
       gives = gives s payload field readable fits;
       count = λ g near padding.
           decode-count s payload field readable fits (decoded s payload field readable fits g near padding) ∙ count-nearest s field readable g near;
@@ -179,7 +178,7 @@ decodeMeaning s payload field readable fits =
 module _ (s : Shape) (field : List ℕ) (readable : Readable s field) where
   pub correct-leaves : correctNumber s field ≡ 0 → correctLeaves s field ≡ listOf (correctedField s field) (cellsOf s)
   unfolding correctLeaves
-  correct-leaves = leaves-new (correctNumber s field) _ field
+  correct-leaves = beside-zero (correctNumber s field) _ field
 
   pub correct-count : correctNumber s field ≡ 0 → correctCount s field ≡ correctedCount s field
   unfolding correctCount

@@ -8,7 +8,8 @@ use Rattle.lattice.specs.Position.{position, holdsData}
 use Rattle.codec.specs.Field.{Field, Cells, Same}
 use Rattle.codec.specs.Hamming.{syndrome, Codeword, Lawful}
 use Rattle.codec.specs.Payload.{rank, dataValue, dataField, encoded, Carries}
-use Rattle.codec.proofs.CheckBits.{cond-cell, dataPart, codeword-checks, checks-codeword}
+use Rattle.codec.proofs.CellValues.{most-cell, cond-cell}
+use Rattle.codec.proofs.CheckBits.{dataPart, codeword-checks, checks-codeword}
 use Rattle.codec.proofs.PayloadBits.{data-value-most}
 use Rattle.codec.proofs.Syndrome.{syndrome-same}
 
@@ -16,7 +17,7 @@ module _ (cls : ℕ → ℕ) (n : ℕ) (p : List ℕ) where
   -- the cells of the field written are 0 or 1
   pub encoded-cells : (m : ℕ) → Cells (encoded cls n p) m
   unfolding encoded
-  encoded-cells m i l = cond-cell (holdsData cls n i) (data-value-most cls n p (rank cls n i)) (omega arith)
+  encoded-cells m i l = cond-cell (holdsData cls n i) _ _ (most-cell _ (data-value-most cls n p (rank cls n i))) (most-cell _ (omega arith))
 
   -- the value of a cell of the field written
   pub encoded-data : (i : ℕ) → holdsData cls n i ≡ true → encoded cls n p i ≡ dataValue cls n p (rank cls n i)

@@ -8,8 +8,7 @@ use native.Mathlib.Nat.{le-refl, not-suc-le-zero, eq-or-lt-of-le, le-of-suc-le-s
 use native.Mathlib.Omega.{arith}
 use lib.ListN.{length, getD, length-append, List·getD-append, List·getD-eq-default}
 use lib.Seq.{getD-at, ext-getD}
-use borrow.Author.Tests.{le-leb, leb-true, leb-false}
-use Rattle.codec.specs.Field.{Field, fieldOf, listOf, isCell, cellsOk, Cells, Same}
+use Rattle.codec.specs.Field.{Field, fieldOf, listOf, Cells, isReceived, Received, cellsOk, Same}
 use Rattle.codec.proofs.AllBelow.{all-below, below-all, some-fails}
 
 pub length-listOf : (f : Field) (n : ℕ) → length (listOf f n) ≡ n
@@ -46,18 +45,18 @@ list-field l f n e p =
 pub listOf-fieldOf : (l : List ℕ) → listOf (fieldOf l) (length l) ≡ l
 listOf-fieldOf l = sym (list-field l (fieldOf l) (length l) refl (λ i k. refl))
 
--- the test of the cells
-pub cells-ok : (f : Field) (n : ℕ) → Cells f n → cellsOk f n ≡ true
+-- the test of a field that is handed in
+pub received-ok : (f : Field) (n : ℕ) → Received f n → cellsOk f n ≡ true
 unfolding cellsOk
-cells-ok f n p = all-below (λ i. isCell (f i)) n (λ i l. le-leb (f i) 1 (p i l))
+received-ok f n p = all-below (λ i. isReceived (f i)) n p
 
-pub ok-cells : (f : Field) (n : ℕ) → cellsOk f n ≡ true → Cells f n
+pub ok-received : (f : Field) (n : ℕ) → cellsOk f n ≡ true → Received f n
 unfolding cellsOk
-ok-cells f n p i l = leb-true (f i) 1 (below-all (λ i. isCell (f i)) n p i l)
+ok-received f n p = below-all (λ i. isReceived (f i)) n p
 
-pub not-cells : (f : Field) (n : ℕ) → cellsOk f n ≡ false → (i : ℕ) × (i < n) × (1 < f i)
+pub not-received : (f : Field) (n : ℕ) → cellsOk f n ≡ false → (i : ℕ) × (i < n) × (isReceived (f i) ≡ false)
 unfolding cellsOk
-not-cells f n p = let r = some-fails (λ i. isCell (f i)) n p in (r .0, r .1, leb-false (f (r .0)) 1 (r .2))
+not-received f n p = some-fails (λ i. isReceived (f i)) n p
 
 pub cells-same : (f g : Field) (n : ℕ) → Same f g n → Cells f n → Cells g n
-cells-same f g n s p i l = omega (arith, s i l, p i l)
+cells-same f g n s p i l = rw (← s i l) (p i l)

@@ -10,6 +10,7 @@ use lib.Pow.{pow-mono}
 use Rattle.lattice.specs.Position.{holdsData}
 use Rattle.codec.specs.Field.{Field, Cells, Same}
 use Rattle.codec.specs.Payload.{Bytes, payloadBytes, rank, payloadBit, dataValue, encoded, Carries, PaddingRight, heldByte, heldPayload}
+use Rattle.codec.proofs.CellValues.{cell-most}
 use Rattle.codec.proofs.EncodedField.{encoded-carries}
 use Rattle.codec.proofs.FieldLists.{length-listOf, getD-listOf, getD-listOf-behind, listOf-same}
 use Rattle.codec.proofs.HeldByte.{DataCells, bitsOf, byte-below, byte-bit, byte-same}
@@ -63,7 +64,7 @@ module _ (cls : ℕ → ℕ) (n : ℕ) where
       (full (rank cls n i) (rank cls n n) (payloadBytes cls n) r (omega (arith, bytes-most cls n, rank-all cls n)))
 
   data-cells : (f : Field) → Cells f n → DataCells cls n f n
-  data-cells f c i l h = c i l
+  data-cells f c i l h = cell-most _ (c i l)
 
   pub held-bytes : (f : Field) → Cells f n → Bytes (heldPayload cls n f)
   held-bytes f c = bytes f (data-cells f c)

@@ -3,6 +3,7 @@ pub mod Accepted
 pub mod AllBelow
 pub mod BinaryDigits
 pub mod BitsTell
+pub mod CellValues
 pub mod CheckBits
 pub mod Correction
 pub mod Damage
@@ -16,10 +17,6 @@ pub mod FieldLists
 pub mod HeldByte
 pub mod HeldPayload
 pub mod NothingToCorrect
-pub mod OnCorrect
-pub mod OnDecode
-pub mod OnEncode
-pub mod OnPlan
 pub mod OneCodeword
 pub mod PaddingCells
 pub mod PaddingFew

@@ -5,7 +5,7 @@ use mathlib.Core.List.{List}
 use mathlib.Core.Path.{_≡_, refl, sym, _∙_, ap}
 use lib.ListN.{length}
 use Rattle.lattice.specs.declared.shape.Shape.{Shape}
-use Rattle.lattice.specs.Shape.{cellsOf}
+use Rattle.lattice.specs.Shape.{cellsOf, Accepted}
 use Rattle.lattice.specs.Cell.{Cell, cellAt}
 use Rattle.lattice.specs.Class.{classAt}
 use Rattle.codec.specs.Field.{Field, fieldOf, flip, Same, differences}
@@ -22,13 +22,13 @@ use Rattle.codec.proofs.Damage.{OneEach, damaged-cells, damaged-nearest
 use Rattle.codec.proofs.Differences.{differences-comm, differences-same}
 use Rattle.codec.proofs.EncodedField.{encoded-cells, encoded-lawful, encoded-carries}
 use Rattle.codec.proofs.FieldLists.{length-listOf, getD-listOf, listOf-same, cells-same}
-use Rattle.codec.proofs.DemandTwoReading.{nearest-mended}
+use Rattle.codec.proofs.CellValues.{cells-received}
 use Rattle.codec.proofs.HeldPayload.{held-same, encoded-held}
 use Rattle.codec.proofs.PaddingCells.{carries-padding}
-use Rattle.codec.proofs.DemandTwoReading.{decodeMeaning, correctMeaning, decode-leaves, correct-leaves}
+use Rattle.codec.proofs.DemandTwoReading.{nearest-mended, decodeMeaning, correctMeaning, decode-leaves, correct-leaves}
 use Rattle.codec.proofs.DemandTwoWriting.{written-cells}
 
-module _ (s : Shape) (accepted : planNumber s ≡ 0) (p : List ℕ) (p-long : length p ≡ planBytes s) (p-bytes : Bytes p) (selected : Cell → Bool)
+module _ (s : Shape) (accepted : Accepted s) (p : List ℕ) (p-long : length p ≡ planBytes s) (p-bytes : Bytes p) (selected : Cell → Bool)
     (one : OneEach (classAt s) (cellsOf s) (λ i. selected (cellAt s i))) (buffer : List ℕ) (fits : length buffer ≡ planBytes s) where
   -- F, cell by cell, and G as a buffer
   F : Field
@@ -53,8 +53,10 @@ module _ (s : Shape) (accepted : planNumber s ≡ 0) (p : List ℕ) (p-long : le
       record {
         accepted = accepted;
         long = length-listOf (damaged (fieldOf (encodedField s p)) (λ i. selected (cellAt s i))) (cellsOf s);
-        cells = cells-same (damaged F chosen) (fieldOf G) (cellsOf s) damaged-same
-            (damaged-cells F chosen (cellsOf s) (encoded-cells (classAt s) (cellsOf s) p (cellsOf s)));
+        cells =
+            cells-received (fieldOf G) (cellsOf s)
+            (cells-same (damaged F chosen) (fieldOf G) (cellsOf s) damaged-same
+            (damaged-cells F chosen (cellsOf s) (encoded-cells (classAt s) (cellsOf s) p (cellsOf s))));
       }
 
   -- F is the lawful field in reach of G, and its padding is right
@@ -93,7 +95,7 @@ module _ (s : Shape) (accepted : planNumber s ≡ 0) (p : List ℕ) (p-long : le
       correct-leaves s G readable mend
       ∙ listOf-same (correctedField s G) F (cellsOf s) (nearest-mended s G readable F nearest)
 
-  recovered : Recovered s p selected buffer
+  recovered : Recovered s p (encodedField s p) (damagedField s p selected) buffer
   unfolding G
   recovered =
       record {

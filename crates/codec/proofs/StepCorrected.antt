@@ -12,10 +12,11 @@ use Rattle.lattice.specs.Shape.{cellsOf}
 use Rattle.lattice.specs.Class.{classAt}
 use Rattle.lattice.specs.Position.{position}
 use Rattle.lattice.proofs.Counting.{count-step, count-most}
-use Rattle.codec.specs.Field.{Field, fieldOf, listOf, flip, Cells, differences}
+use Rattle.codec.specs.Field.{Field, fieldOf, listOf, flip, Cells, differences, isCell}
 use Rattle.codec.specs.Hamming.{syndrome, corrected}
 use Rattle.codec.specs.Decode.{correctedField, correctedCount}
 use Rattle.codec.specs.Working.{HoldsZeros, HoldsSizes, HoldsSyndromes, PlaceOf}
+use Rattle.codec.proofs.CellValues.{cell-most, most-cell, cond-cell}
 use Rattle.codec.proofs.StepList.{filled-more, filled-next, length-filled}
 use Rattle.codec.proofs.StepPlace.{counts-none}
 
@@ -32,16 +33,16 @@ mended-is s field syndromes held i a p counts place v e =
     (place .position)
 
 -- its cells are 0 or 1 where the field's are
-flip-most : (b : Bool) (v : ℕ) → v ≤ 1 → cond b (flip v) v ≤ 1
-flip-most true v l = omega arith
-flip-most false v l = l
+flip-cell : (v : ℕ) → isCell v ≡ true → isCell (flip v) ≡ true
+flip-cell v p = most-cell _ (omega (arith, cell-most v p))
 
 pub mended-cells : (s : Shape) (field : List ℕ) → Cells (fieldOf field) (cellsOf s) → Cells (correctedField s field) (cellsOf s)
 unfolding corrected
 mended-cells s field c i l =
-    flip-most
+    cond-cell
     (eqb (syndrome (classAt s) (fieldOf field) (classAt s i) (cellsOf s)) (position (classAt s) i))
-    (getD field i 0)
+    _ _
+    (flip-cell (getD field i 0) (c i l))
     (c i l)
 
 -- the number of cells that differ, over one cell more

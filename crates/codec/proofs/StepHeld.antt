@@ -20,6 +20,7 @@ use Rattle.codec.specs.Field.{Field, fieldOf, Cells}
 use Rattle.codec.specs.Payload.{payloadBytes, heldByte, heldPayload}
 use Rattle.codec.specs.Decode.{correctedField}
 use Rattle.codec.specs.Working.{BitStored, rankAt}
+use Rattle.codec.proofs.CellValues.{cell-most}
 use Rattle.codec.proofs.FieldLists.{list-field}
 use Rattle.codec.proofs.HeldByte.{bitsOf, byte-below}
 use Rattle.codec.proofs.StepCorrected.{mended-cells}
@@ -82,7 +83,7 @@ bytes-more s f l after i r v d holds long held ranked value st =
 byte-limit : (s : Shape) (f : Field) (j : ℕ) → Cells f (cellsOf s) → heldByte (classAt s) (cellsOf s) f j (cellsOf s) < 256
 byte-limit s f j c =
     let m : bitsOf j (rankAt s (cellsOf s)) ≤ 8 = omega arith in
-    lt-of-lt-of-le (byte-below (classAt s) (cellsOf s) f j (cellsOf s) (λ k l h. c k l)) (pow-mono m)
+    lt-of-lt-of-le (byte-below (classAt s) (cellsOf s) f j (cellsOf s) (λ k l h. cell-most _ (c k l))) (pow-mono m)
 
 -- all the cells: the buffer is the payload that the mended field holds
 pub bytes-all : (s : Shape) (field l : List ℕ) (n i : ℕ) → Cells (fieldOf field) (cellsOf s)

@@ -1,76 +1,110 @@
--- The number that tests give in their order: the shape's refusals, and the lengths of the plan.
-use Prim.Native.Nat.{ℕ, _/_}
+-- The numbers that an operation's tests give in their order: what each test adds, and what the number 0 tells.
+use Prim.Native.Nat.{ℕ, zero, suc, _/_}
 use mathlib.Core.Bool.{Bool, true, false}
 use mathlib.Core.List.{List}
 use mathlib.Core.Path.{_≡_, refl, sym, ap, _∙_}
-use native.Mathlib.Omega.{arith}
 use lib.Dec.{eqb}
-use borrow.Author.Tests.{eq-eqb, ne-eqb}
+use lib.ListN.{length}
+use borrow.Author.Tests.{eq-eqb, ne-eqb, eqb-true}
+use Rattle.lattice.specs.declared.refusal.Refusal.{Refusal}
 use Rattle.lattice.specs.declared.shape.Shape.{Shape}
-use Rattle.lattice.specs.Refusal.{unless, figure}
-use Rattle.lattice.specs.Shape.{shapeNumber, numberOf, sizeOk, strengthOk, Accepted, cellsOf}
+use Rattle.lattice.specs.Refusal.{refusalNumber, unless, orElse, figure}
+use Rattle.lattice.specs.Shape.{shapeNumber, Accepted, cellsOf}
 use Rattle.lattice.specs.Class.{classAt}
 use Rattle.lattice.specs.Position.{capacity, dataIn}
+use Rattle.lattice.proofs.Answers.{earlier-told, unless-zero, or-else-zero}
 use Rattle.lattice.proofs.CapacityGiven.{capacity-accepted}
 use Rattle.lattice.proofs.Figure.{figure-given}
+use Rattle.codec.specs.Field.{fieldOf, Received}
 use Rattle.codec.specs.Payload.{payloadBytes}
 use Rattle.codec.specs.Plan.{planCapacity, planBytes, planCells}
-use Rattle.codec.specs.Working.{HoldsSizes}
+use Rattle.codec.specs.Encode.{encodeNumber}
+use Rattle.codec.specs.Decode.{fieldNumber, decodeNumber}
+use Rattle.codec.specs.Correct.{correctNumber}
+use Rattle.codec.specs.Working.{HoldsSizes, lengthNumber, FieldFits}
+use Rattle.codec.proofs.Accepted.{plan-bytes, plan-cells}
+use Rattle.codec.proofs.StepExamine.{zero-cells}
 
--- a shape that is refused settles the number, and one that is accepted leaves it to the later tests
-refused : (a b : Bool) (later k : ℕ) → unless a 1 (unless b 2 0) ≡ k → (k ≡ 0 → ⊥) → unless a 1 (unless b 2 later) ≡ k
-refused true true later k p q = absurd (q (sym p))
-refused true false later k p q = p
-refused false b later k p q = p
+-- the payload's length that the sizes of the classes give is the plan's
+pub bytes-given : (s : Shape) (sizes : List ℕ) (k : ℕ) → Accepted s → HoldsSizes (classAt s) sizes (cellsOf s) → k ≡ dataIn sizes
+    → k / 8 ≡ planBytes s
+unfolding planBytes planCapacity
+bytes-given s sizes k a p e =
+    ap
+    (λ (n : ℕ). n / 8)
+    (e ∙ capacity-accepted s sizes a (p .at) ∙ sym (figure-given (shapeNumber s) (capacity (classAt s) (cellsOf s)) a))
 
-accepted : (a b : Bool) (later : ℕ) → unless a 1 (unless b 2 0) ≡ 0 → unless a 1 (unless b 2 later) ≡ later
-accepted true true later p = refl
-accepted true false later p = absurd (omega arith)
-accepted false b later p = absurd (omega arith)
+pub cells-given : (s : Shape) (n : ℕ) → n ≡ figure (shapeNumber s) (cellsOf s) → n ≡ planCells s
+unfolding planCells
+cells-given s n e = e
 
-module _ (s : Shape) (later : ℕ) where
-  pub shape-refused : (k : ℕ) → numberOf s ≡ k → (k ≡ 0 → ⊥)
-      → unless (sizeOk (s .columns) (s .rows) (s .planes)) 1 (unless (strengthOk (s .planes) (s .strength)) 2 later) ≡ k
-  unfolding shapeNumber
-  shape-refused k p q = refused (sizeOk (s .columns) (s .rows) (s .planes)) (strengthOk (s .planes) (s .strength)) later k p q
+-- the tests of the lengths
+module _ (s : Shape) (payload field : List ℕ) where
+  pub length-refused : (r : Refusal) → refusalNumber r ≡ shapeNumber s → refusalNumber r ≡ lengthNumber s payload field
+  unfolding lengthNumber
+  length-refused r e = earlier-told r _ _ e
 
-  pub shape-accepted : Accepted s
-      → unless (sizeOk (s .columns) (s .rows) (s .planes)) 1 (unless (strengthOk (s .planes) (s .strength)) 2 later) ≡ later
-  unfolding shapeNumber
-  shape-accepted p = accepted (sizeOk (s .columns) (s .rows) (s .planes)) (strengthOk (s .planes) (s .strength)) later p
+  module _ (a : Accepted s) where
+    pub payload-number : (length payload ≡ planBytes s → ⊥) → lengthNumber s payload field ≡ 3
+    unfolding lengthNumber
+    payload-number d = rw (a, ne-eqb (length payload) (planBytes s) d)
 
--- a test of two numbers that must be equal
-pub unless-equal : (a b k later : ℕ) → a ≡ b → unless (eqb a b) k later ≡ later
-unless-equal a b k later e = rw (eq-eqb a b e)
+    module _ (e : length payload ≡ planBytes s) where
+      pub field-number : (length field ≡ planCells s → ⊥) → lengthNumber s payload field ≡ 4
+      unfolding lengthNumber
+      field-number d = rw (a, eq-eqb (length payload) (planBytes s) e, ne-eqb (length field) (planCells s) d)
 
-pub unless-other : (a b k later : ℕ) → (a ≡ b → ⊥) → unless (eqb a b) k later ≡ k
-unless-other a b k later e = rw (ne-eqb a b e)
+      pub fit-number : length field ≡ planCells s → lengthNumber s payload field ≡ 0
+      unfolding lengthNumber
+      fit-number f = rw (a, eq-eqb (length payload) (planBytes s) e, eq-eqb (length field) (planCells s) f)
 
--- a test that passed, and one that failed
-pub unless-passed : (ok : Bool) (k later : ℕ) → ok ≡ true → unless ok k later ≡ later
-unless-passed ok k later e = rw e
+  -- encoding has these tests, and decoding has the field's own behind them
+  pub encode-tests : encodeNumber s payload field ≡ lengthNumber s payload field
+  unfolding encodeNumber lengthNumber
+  encode-tests = refl
 
-pub unless-failed : (ok : Bool) (k later : ℕ) → ok ≡ false → unless ok k later ≡ k
-unless-failed ok k later e = rw e
+  pub decode-tests : orElse (lengthNumber s payload field) (fieldNumber s field) ≡ decodeNumber s payload field
+  unfolding decodeNumber lengthNumber
+  decode-tests = go (shapeNumber s) (eqb (length payload) (planBytes s)) (eqb (length field) (planCells s))
+    where
+      go : (n : ℕ) (p f : Bool)
+          → orElse (orElse n (unless p 3 (unless f 4 0))) (fieldNumber s field) ≡ orElse n (unless p 3 (unless f 4 (fieldNumber s field)))
+      go zero true true = refl
+      go zero true false = refl
+      go zero false f = refl
+      go (suc n) p f = refl
 
--- the lengths that the sizes of the classes and the shape give are the plan's
-module _ (s : Shape) where
-  pub bytes-given : (sizes : List ℕ) (k : ℕ) → Accepted s → HoldsSizes (classAt s) sizes (cellsOf s) → k ≡ dataIn sizes
-      → k / 8 ≡ planBytes s
-  unfolding planBytes planCapacity
-  bytes-given sizes k a p e =
-      ap
-      (λ (n : ℕ). n / 8)
-      (e ∙ capacity-accepted s sizes a (p .at) ∙ sym (figure-given (numberOf s) (capacity (classAt s) (cellsOf s)) a))
+-- what a field that is not refused tells: the lengths are the plan's, and it has nothing but cells
+pub record Taken (s : Shape) (field : List ℕ) : Type 0 where
+  pub fits : FieldFits s field
+  pub cells : Received (fieldOf field) (cellsOf s)
 
-  pub cells-given : (n : ℕ) → n ≡ figure (numberOf s) (cellsOf s) → n ≡ planCells s
-  unfolding planCells
-  cells-given n e = e
+taken : (s : Shape) (field : List ℕ) → Accepted s → unless (eqb (length field) (planCells s)) 4 (fieldNumber s field) ≡ 0 → Taken s field
+taken s field a e =
+    let f = unless-zero (eqb (length field) (planCells s)) 3 _ e in
+    record {
+      fits = record { accepted = a; long = eqb-true (length field) (planCells s) (f .0) ∙ plan-cells s a };
+      cells = zero-cells s field (f .1);
+    }
 
-  pub bytes-accepted : Accepted s → planBytes s ≡ payloadBytes (classAt s) (cellsOf s)
-  unfolding planBytes planCapacity payloadBytes
-  bytes-accepted a = ap (λ (n : ℕ). n / 8) (figure-given (numberOf s) (capacity (classAt s) (cellsOf s)) a)
+pub decode-taken : (s : Shape) (payload field : List ℕ) → decodeNumber s payload field ≡ 0
+    → Taken s field × (length payload ≡ payloadBytes (classAt s) (cellsOf s))
+unfolding decodeNumber
+decode-taken s payload field e =
+    let a = or-else-zero (shapeNumber s) _ e in
+    let p = unless-zero (eqb (length payload) (planBytes s)) 2 _ (a .1) in
+    (taken s field (a .0) (p .1), eqb-true (length payload) (planBytes s) (p .0) ∙ plan-bytes s (a .0))
 
-  pub cells-accepted : Accepted s → planCells s ≡ cellsOf s
-  unfolding planCells
-  cells-accepted a = figure-given (numberOf s) (cellsOf s) a
+-- correcting has the test of the field's length alone between the shape's and the field's own
+module _ (s : Shape) (field : List ℕ) where
+  pub correct-refused : (r : Refusal) → refusalNumber r ≡ shapeNumber s → refusalNumber r ≡ correctNumber s field
+  unfolding correctNumber
+  correct-refused r e = earlier-told r _ _ e
+
+  pub correct-length : Accepted s → (length field ≡ planCells s → ⊥) → correctNumber s field ≡ 4
+  unfolding correctNumber
+  correct-length a d = rw (a, ne-eqb (length field) (planCells s) d)
+
+  pub correct-taken : correctNumber s field ≡ 0 → Taken s field
+  unfolding correctNumber
+  correct-taken e = let a = or-else-zero (shapeNumber s) _ e in taken s field (a .0) (a .1)

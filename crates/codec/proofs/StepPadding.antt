@@ -12,7 +12,8 @@ use Rattle.lattice.specs.Position.{holdsData, dataIn}
 use Rattle.codec.specs.Field.{Field}
 use Rattle.codec.specs.Payload.{payloadBytes, padding, isPadding, paddingOk}
 use Rattle.codec.specs.Working.{HoldsSizes, rankAt, rightAt}
-use Rattle.codec.proofs.StepNumber.{bytes-given, bytes-accepted}
+use Rattle.codec.proofs.Accepted.{plan-bytes}
+use Rattle.codec.proofs.StepNumber.{bytes-given}
 use Rattle.codec.proofs.StepTest.{Passed, passed-all, failed-at}
 
 -- a cell that is no padding passes, and a padding cell passes by its value
@@ -51,7 +52,7 @@ right s f i =
 -- the bits of the payload, from the sizes of the classes
 pub bits-given : (s : Shape) (sizes : List ℕ) (k : ℕ) → Accepted s → HoldsSizes (classAt s) sizes (cellsOf s)
     → k ≡ dataIn sizes → 8 * (k / 8) ≡ 8 * payloadBytes (classAt s) (cellsOf s)
-bits-given s sizes k e p q = ap (λ (n : ℕ). 8 * n) (bytes-given s sizes k e p q ∙ bytes-accepted s e)
+bits-given s sizes k e p q = ap (λ (n : ℕ). 8 * n) (bytes-given s sizes k e p q ∙ plan-bytes s e)
 
 pub right-is : (s : Shape) (f : Field) (i r bits v : ℕ) (d b : Bool) → d ≡ holdsData (classAt s) (cellsOf s) i → r ≡ rankAt s i
     → bits ≡ 8 * payloadBytes (classAt s) (cellsOf s) → v ≡ f i

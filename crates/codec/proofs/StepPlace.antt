@@ -1,19 +1,20 @@
 -- The place of a cell in a pass over the cells, from the counts of the cells before it.
 use Prim.Native.Nat.{ℕ, _+_, _<_}
 use mathlib.Core.List.{List}
-use mathlib.Core.Path.{_≡_, sym, ap, _∙_}
+use mathlib.Core.Path.{_≡_, refl, sym, ap, _∙_}
 use native.Mathlib.Nat.{lt-of-le-of-lt, lt-of-lt-of-le, lt-trans}
 use lib.Dec.{lit<}
 use lib.ListN.{length, getD, set, replicate, getD-replicate}
 use lib.Seq.{getD-set-same, getD-set-other}
-use Rattle.lattice.specs.declared.settings.Settings.{Settings}
+use Rattle.lattice.specs.declared.class.Placement.{Placement}
 use Rattle.lattice.specs.declared.shape.Shape.{Shape}
-use Rattle.lattice.specs.Refusal.{figure}
-use Rattle.lattice.specs.Shape.{numberOf, cellsOf, maxClasses, Accepted}
+use Rattle.lattice.specs.Refusal.{beside, figure}
+use Rattle.lattice.specs.Shape.{shapeNumber, cellsOf, maxClasses, Accepted}
 use Rattle.lattice.specs.Cell.{cellAt}
-use Rattle.lattice.specs.Class.{classWith, classAt}
+use Rattle.lattice.specs.Class.{classAt, classBy}
 use Rattle.lattice.specs.Position.{size, position}
-use Rattle.lattice.proofs.ClassAt.{at-class, at-below, at-limit}
+use Rattle.lattice.proofs.ClassAt.{at-class, at-below}
+use Rattle.lattice.proofs.Answers.{beside-zero}
 use Rattle.lattice.proofs.Figure.{figure-given}
 use Rattle.lattice.proofs.Limits.{legal}
 use Rattle.lattice.proofs.Positions.{size-none}
@@ -25,37 +26,36 @@ pub stored : (l : List ℕ) (a v : ℕ) → a < length l → Stored l (set l a v
 stored l a v h = record { own = getD-set-same l a v 0 h; others = λ b e. getD-set-other l a b v 0 e }
 
 -- an accepted shape gives its cells, which are at most 65,536
-pub cells-are : (s : Shape) (n : ℕ) → Accepted s → n ≡ figure (numberOf s) (cellsOf s) → n ≡ cellsOf s
-cells-are s n a e = e ∙ figure-given (numberOf s) (cellsOf s) a
+pub cells-are : (s : Shape) (n : ℕ) → Accepted s → n ≡ figure (shapeNumber s) (cellsOf s) → n ≡ cellsOf s
+cells-are s n a e = e ∙ figure-given (shapeNumber s) (cellsOf s) a
 
 module _ (s : Shape) (n : ℕ) (e : n ≡ cellsOf s) (i : ℕ) (l : i < n) where
   pub cell-below : i < cellsOf s
   cell-below = rw (← e) l
 
   pub cell-limit : Accepted s → i < 65536
-  cell-limit a = lt-of-lt-of-le cell-below (legal _ _ _ _ a .product)
+  cell-limit a = lt-of-lt-of-le cell-below (legal _ a .product)
 
 -- the counts before the first cell
 pub counts-none : (s : Shape) (counts : List ℕ) → HoldsZeros counts → HoldsSizes (classAt s) counts 0
 counts-none s counts p = record { at = λ a l. p .at a l ∙ sym (size-none (classAt s) a) }
 
 -- the sizes that an accepted shape gives
-pub sizes-given : (s : Shape) (sizes : List ℕ) → Accepted s
-    → ((a : ℕ) → a < maxClasses → getD sizes a 0 ≡ size (classAt s) a (figure (numberOf s) (cellsOf s)))
+pub sizes-given : (s : Shape) (sizes : List ℕ) (held : ℕ → ℕ) → Accepted s
+    → ((a : ℕ) → a < maxClasses → getD sizes a 0 ≡ beside (shapeNumber s) (size (classAt s) a (cellsOf s)) (held a))
     → HoldsSizes (classAt s) sizes (cellsOf s)
-sizes-given s sizes e p =
-    record { at = λ a l. p a l ∙ ap (λ (n : ℕ). size (classAt s) a n) (figure-given (numberOf s) (cellsOf s) e) }
+sizes-given s sizes held e p = record { at = λ a l. p a l ∙ beside-zero (shapeNumber s) _ _ e }
 
 -- an array of zeros
 pub zeros : HoldsZeros (replicate 512 0)
 zeros = record { at = λ a l. getD-replicate 512 a 0 0 l }
 
-module _ (s : Shape) (k : Settings) (counts : List ℕ) (i : ℕ) (at : AtCell s k counts i) (a : ℕ) (e : a ≡ classWith k (cellAt s i)) where
+module _ (s : Shape) (k : Placement) (counts : List ℕ) (i : ℕ) (at : AtCell s k counts i) (a : ℕ) (e : a ≡ classBy k (cellAt s i)) where
   own : a ≡ classAt s i
-  own = at-class s k (cellsOf s) i (at .settings) (sym (figure-given (numberOf s) (cellsOf s) (at .accepted))) (at .below) a e
+  own = at-class s (at .accepted) k (at .placement) i a e
 
   pub class-below : a < maxClasses
-  class-below = at-below s k (cellsOf s) i (at .settings) (sym (figure-given (numberOf s) (cellsOf s) (at .accepted))) (at .below) a e
+  class-below = at-below s (at .accepted) k (at .placement) i a e
 
   -- the count of its class fits 32 bits
   pub count-below : getD counts a 0 < 4294967295
@@ -63,7 +63,7 @@ module _ (s : Shape) (k : Settings) (counts : List ℕ) (i : ℕ) (at : AtCell s
       lt-trans
       (lt-of-le-of-lt
       (sizes-most (classAt s) counts i a (at .counted .at) class-below)
-      (at-limit s k (cellsOf s) i (at .settings) (sym (figure-given (numberOf s) (cellsOf s) (at .accepted))) (at .below)))
+      (cell-limit s (cellsOf s) refl i (at .below) (at .accepted)))
       (lit< tt)
 
   -- the class and the position of the cell, and the counts with the cell

@@ -25,7 +25,7 @@ module _ (s : Shape) (counts part : List ℕ) (i r : ℕ) (at : AtPlane s counts
   plane-room = omega (arith, at .room)
 
   pub plane-limit : Accepted s → i + j < 65536
-  plane-limit a = lt-of-lt-of-le plane-below (legal _ _ _ _ a .product)
+  plane-limit a = lt-of-lt-of-le plane-below (legal _ a .product)
 
 pub filled-none : (s : Shape) (payload counts part : List ℕ) (i r : ℕ) → AtPlane s counts part i r → Filled s payload part part counts i r 0
 filled-none s payload counts part i r at =

@@ -32,7 +32,7 @@ module _ (s : Shape) (m : ℕ) (e : m ≡ planeCells s) where
   plane-within z l = omega (arith, mul-le-mul-right m l, planes-cells)
 
   pub plane-start : Accepted s → (z : ℕ) → z < s .planes → z * m ≤ 65536
-  plane-start a z l = le-trans (planes-within z (le-of-lt l)) (legal _ _ _ _ a .product)
+  plane-start a z l = le-trans (planes-within z (le-of-lt l)) (legal _ a .product)
 
 module _ (s : Shape) (payload xs : List ℕ) (long : length xs ≡ cellsOf s) (m : ℕ) (e : m ≡ planeCells s) where
   pub planes-none : (counts : List ℕ) → HoldsZeros counts → Filled s payload xs xs counts 0 0 (0 * m)

@@ -8,9 +8,8 @@ use lib.Dec.{leb}
 use lib.ListN.{getD}
 use Rattle.lattice.specs.declared.shape.Shape.{Shape}
 use Rattle.lattice.specs.Refusal.{figure}
-use Rattle.lattice.specs.Shape.{Accepted, numberOf, cellsOf}
-use Rattle.lattice.specs.Settings.{settingsOf}
-use Rattle.lattice.specs.Class.{classAt}
+use Rattle.lattice.specs.Shape.{Accepted, shapeNumber, cellsOf}
+use Rattle.lattice.specs.Class.{classesOf, classAt}
 use Rattle.lattice.specs.Position.{allBelow}
 use Rattle.lattice.proofs.ClassBelow.{classes-limit}
 use Rattle.lattice.proofs.Figure.{figure-given}
@@ -24,16 +23,16 @@ abbrev pub reaches : List ℕ → List ℕ → ℕ → Bool
 reaches sizes syndromes a = leb (getD syndromes a 0) (getD sizes a 0)
 
 pub all-reach : (s : Shape) (field sizes syndromes : List ℕ) (m : ℕ) (b : Bool) → Accepted s → Examined s field sizes syndromes
-    → m ≡ figure (numberOf s) (settingsOf s .m) → b ≡ allBelow (reaches sizes syndromes) m
-    → b ≡ allInReach (classAt s) (cellsOf s) (settingsOf s .m) (fieldOf field)
+    → m ≡ figure (shapeNumber s) (classesOf s) → b ≡ allBelow (reaches sizes syndromes) m
+    → b ≡ allInReach (classAt s) (cellsOf s) (classesOf s) (fieldOf field)
 unfolding allInReach inReach
 all-reach s field sizes syndromes m b a x e p =
     p
-    ∙ ap (allBelow (reaches sizes syndromes)) (e ∙ figure-given (numberOf s) (settingsOf s .m) a)
+    ∙ ap (allBelow (reaches sizes syndromes)) (e ∙ figure-given (shapeNumber s) (classesOf s) a)
     ∙ all-same
     (reaches sizes syndromes)
     (inReach (classAt s) (cellsOf s) (fieldOf field))
-    (settingsOf s .m)
+    (classesOf s)
     (λ c l.
     ap₂
     leb

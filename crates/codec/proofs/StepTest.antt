@@ -5,10 +5,9 @@ use mathlib.Core.List.{List}
 use mathlib.Core.Path.{_≡_, refl, sym, ap, _∙_}
 use native.Mathlib.Nat.{le-antisymm}
 use lib.ListN.{length, getD}
-use borrow.Author.Tests.{le-leb, lt-leb}
 use Rattle.lattice.specs.Position.{allBelow}
 use Rattle.lattice.proofs.Bools.{and-true}
-use Rattle.codec.specs.Field.{fieldOf, isCell, cellsOk}
+use Rattle.codec.specs.Field.{fieldOf, isReceived, cellsOk}
 use Rattle.codec.proofs.AllBelow.{all-step, fails-below}
 
 -- the numbers below n pass the test
@@ -31,15 +30,15 @@ module _ (f : ℕ → Bool) where
 -- the test of the cells
 module _ (field : List ℕ) where
   unfoldable pub cellAt : ℕ → Bool
-  cellAt i = isCell (fieldOf field i)
+  cellAt i = isReceived (fieldOf field i)
 
-  pub cell-passes : (i : ℕ) → getD field i 0 ≤ 1 → cellAt i ≡ true
+  pub cell-passes : (i : ℕ) → isReceived (getD field i 0) ≡ true → cellAt i ≡ true
   unfolding cellAt
-  cell-passes i l = le-leb (getD field i 0) 1 l
+  cell-passes i e = e
 
-  pub cell-fails : (i : ℕ) → i < length field → 1 < getD field i 0 → false ≡ cellsOk (fieldOf field) (length field)
+  pub cell-fails : (i : ℕ) → i < length field → isReceived (getD field i 0) ≡ false → false ≡ cellsOk (fieldOf field) (length field)
   unfolding cellsOk cellAt
-  cell-fails i l h = failed-at cellAt i (length field) l (lt-leb (getD field i 0) 1 h)
+  cell-fails i l e = failed-at cellAt i (length field) l e
 
   pub cells-pass : (i : ℕ) → Passed cellAt i → i ≤ length field → length field ≤ i → true ≡ cellsOk (fieldOf field) (length field)
   unfolding cellsOk cellAt

@@ -15,6 +15,7 @@ use Rattle.lattice.specs.Position.{size, position}
 use Rattle.lattice.proofs.Positions.{position-most}
 use Rattle.codec.specs.Field.{Field, Cells}
 use Rattle.codec.specs.Hamming.{term, syndrome, Near}
+use Rattle.codec.proofs.CellValues.{cell-most}
 use Rattle.codec.proofs.Xor.{xor-cancel-left, xor-exchange}
 
 -- the sum of two fields, cell by cell: of cells 0 and 1 it is 1 where they differ
@@ -134,7 +135,7 @@ module _ (cls : ℕ → ℕ) where
       ap₂
       bitXor
       (syndrome-sum f g a n (λ i l. p i (omega arith)) (λ i l. q i (omega arith)))
-      (sym (sum-term (eqb (cls n) a) (f n) (g n) (position cls n) (p n (le-refl _)) (q n (le-refl _))))
+      (sym (sum-term (eqb (cls n) a) (f n) (g n) (position cls n) (cell-most _ (p n (le-refl _))) (cell-most _ (q n (le-refl _)))))
       ∙ xor-exchange (syndrome cls f a n) (syndrome cls g a n) (term cls f a n) (term cls g a n)
 
   -- fields that differ in one cell of the class have syndromes that differ by its position
@@ -154,7 +155,7 @@ module _ (cls : ℕ → ℕ) where
           n
           l
           c
-          (sum-one (f i) (g i) (p i l) (q i l) d)
+          (sum-one (f i) (g i) (cell-most _ (p i l)) (cell-most _ (q i l)) d)
           (λ j m e o. only j m e (one-sum (f j) (g j) o))
 
   pub near-turned : (f g : Field) (a i n : ℕ) → Cells f n → Cells g n → Near cls n f g a → i < n → cls i ≡ a → f i ≢ g i

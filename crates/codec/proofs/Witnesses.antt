@@ -8,10 +8,10 @@ use native.Mathlib.Omega.{arith}
 use borrow.Author.Tests.{eqb-true}
 use lib.Dec.{eqb, lit<}
 use lib.ListN.{length}
-use Rattle.lattice.specs.Shape.{inRange, maxStrength, sizeOk, strengthOk, shapeNumber, cellsOf}
+use Rattle.lattice.specs.Shape.{inRange, maxStrength, sizeOk, strengthOk, shapeNumber, Accepted, cellsOf}
 use Rattle.lattice.specs.Settings.{oddSettings, flatSettings, settingsFor}
 use Rattle.lattice.specs.Cell.{Cell, cellAt, cellNumber}
-use Rattle.lattice.specs.Class.{minusMod, classWith, classAt}
+use Rattle.lattice.specs.Class.{minusMod, classWith, classOf, classAt}
 use Rattle.lattice.specs.Position.{size, position, isPower, isCheck, holdsData, capacity}
 use Rattle.lattice.proofs.Bools.{and-left, and-right}
 use Rattle.lattice.proofs.Numbering.{numbering}
@@ -24,13 +24,14 @@ use Rattle.codec.specs.Encode.{encodeNumber, encodedField}
 use Rattle.codec.specs.Decode.{decodeNumber}
 use Rattle.codec.specs.Correct.{correctNumber}
 use Rattle.codec.specs.Reading.{Readable, NearestTo}
+use Rattle.codec.proofs.CellValues.{cells-received}
 use Rattle.codec.proofs.Correction.{lawful-nearest}
 use Rattle.codec.proofs.NothingToCorrect.{nothingToCorrect}
 use Rattle.codec.proofs.PaddingCells.{carries-padding}
 use Rattle.codec.proofs.DemandTwoWriting.{encodeMeaning}
 
 -- the plan accepts the field
-pub accepted : planNumber field ≡ 0
+pub accepted : Accepted field
 unfolding shapeNumber sizeOk strengthOk maxStrength inRange
 accepted = refl
 
@@ -41,7 +42,7 @@ payload = 165 ∷ []
 pub payload-long : length payload ≡ planBytes field
 unfolding
     planBytes planCapacity shapeNumber sizeOk strengthOk maxStrength inRange
-    capacity holdsData size position isPower isCheck cellAt classWith minusMod settingsFor flatSettings oddSettings
+    capacity holdsData size position isPower isCheck cellAt classOf classWith minusMod settingsFor flatSettings oddSettings
 payload-long = refl
 
 pub payload-bytes : Bytes payload
@@ -57,7 +58,9 @@ written-readable =
     record {
       accepted = accepted;
       long = encodeMeaning .long field payload;
-      cells = encodeMeaning .lawful field accepted payload payload-long payload-bytes .cells;
+      cells =
+          cells-received (fieldOf written) (cellsOf field)
+          (encodeMeaning .lawful field accepted payload payload-long payload-bytes .cells);
     }
 
 pub written-nearest : NearestTo field written (fieldOf written)
@@ -101,7 +104,7 @@ corner-one i j hi hj si sj same =
 
 -- the field written is mended, and is lawful and carries the payload
 pub written-mended : correctNumber field written ≡ 0
-written-mended = nothingToCorrect .mend field accepted payload payload-long payload-bytes .0
+written-mended = nothingToCorrect .written field accepted payload payload-long payload-bytes payload payload-long .corrected-number
 
 pub written-lawful : Lawful (classAt field) (cellsOf field) (fieldOf written)
 written-lawful = encodeMeaning .lawful field accepted payload payload-long payload-bytes
@@ -121,11 +124,11 @@ plan-refused e = omega (arith, e)
 
 -- an empty payload and an empty field are refused
 pub encode-refused : encodeNumber field [] [] ≢ 0
-unfolding encodeNumber planBytes planCapacity planCells shapeNumber sizeOk strengthOk maxStrength inRange capacity holdsData size position isPower isCheck cellAt classWith minusMod settingsFor flatSettings oddSettings
+unfolding encodeNumber planBytes planCapacity planCells shapeNumber sizeOk strengthOk maxStrength inRange capacity holdsData size position isPower isCheck cellAt classOf classWith minusMod settingsFor flatSettings oddSettings
 encode-refused e = omega (arith, e)
 
 pub decode-refused : decodeNumber field [] [] ≢ 0
-unfolding decodeNumber planBytes planCapacity planCells shapeNumber sizeOk strengthOk maxStrength inRange capacity holdsData size position isPower isCheck cellAt classWith minusMod settingsFor flatSettings oddSettings
+unfolding decodeNumber planBytes planCapacity planCells shapeNumber sizeOk strengthOk maxStrength inRange capacity holdsData size position isPower isCheck cellAt classOf classWith minusMod settingsFor flatSettings oddSettings
 decode-refused e = omega (arith, e)
 
 pub correct-refused : correctNumber field [] ≢ 0

@@ -1,23 +1,21 @@
 -- Correcting, the papers' mending: its number, its count, and what it leaves in the lent field.
 use Prim.Native.Nat.{ℕ}
-use mathlib.Core.Bool.{cond}
 use mathlib.Core.List.{List}
 use lib.Dec.{eqb}
 use lib.ListN.{length}
 use Rattle.lattice.specs.declared.shape.Shape.{Shape}
-use Rattle.lattice.specs.Refusal.{unless, figure}
-use Rattle.lattice.specs.Shape.{sizeOk, strengthOk, cellsOf}
+use Rattle.lattice.specs.Refusal.{unless, beside, figure}
+use Rattle.lattice.specs.Shape.{afterShape, cellsOf}
 use Rattle.codec.specs.Field.{listOf}
 use Rattle.codec.specs.Plan.{planCells}
 use Rattle.codec.specs.Decode.{correctedField, fieldNumber, correctedCount}
 
--- the number: 1, 2, then 4 for a field whose length isn't the plan's, then the field's own 5, 6 and 7
+-- the number: the shape's, then 4 for a field whose length isn't the plan's, then the field's own 5, 6 and 7
 unfoldable pub correctNumber : Shape → List ℕ → ℕ
 correctNumber s field =
-    unless (sizeOk (s .columns) (s .rows) (s .planes)) 1
-    (unless (strengthOk (s .planes) (s .strength)) 2
+    afterShape s
     (unless (eqb (length field) (planCells s)) 4
-    (fieldNumber s field)))
+    (fieldNumber s field))
 
 -- the count that correcting gives
 unfoldable pub correctCount : Shape → List ℕ → ℕ
@@ -25,4 +23,4 @@ correctCount s field = figure (correctNumber s field) (correctedCount s field)
 
 -- what correcting leaves in the lent field: the mended field, or beside a refusal its bytes
 unfoldable pub correctLeaves : Shape → List ℕ → List ℕ
-correctLeaves s field = cond (eqb (correctNumber s field) 0) (listOf (correctedField s field) (cellsOf s)) field
+correctLeaves s field = beside (correctNumber s field) (listOf (correctedField s field) (cellsOf s)) field

@@ -1,25 +1,23 @@
 -- Encoding, the papers' writing: its number, the field written from a payload, and what it leaves in the lent field.
 use Prim.Native.Nat.{ℕ}
-use mathlib.Core.Bool.{cond}
 use mathlib.Core.List.{List}
 use lib.Dec.{eqb}
 use lib.ListN.{length}
 use Rattle.lattice.specs.declared.shape.Shape.{Shape}
-use Rattle.lattice.specs.Refusal.{unless}
-use Rattle.lattice.specs.Shape.{sizeOk, strengthOk, cellsOf}
+use Rattle.lattice.specs.Refusal.{unless, beside}
+use Rattle.lattice.specs.Shape.{afterShape, cellsOf}
 use Rattle.lattice.specs.Class.{classAt}
 use Rattle.codec.specs.Field.{listOf}
 use Rattle.codec.specs.Payload.{encoded}
 use Rattle.codec.specs.Plan.{planBytes, planCells}
 
--- the number: 1, 2, then 3 for a payload and 4 for a field whose length isn't the plan's
+-- the number: the shape's, then 3 for a payload and 4 for a field whose length isn't the plan's
 unfoldable pub encodeNumber : Shape → List ℕ → List ℕ → ℕ
 encodeNumber s p field =
-    unless (sizeOk (s .columns) (s .rows) (s .planes)) 1
-    (unless (strengthOk (s .planes) (s .strength)) 2
+    afterShape s
     (unless (eqb (length p) (planBytes s)) 3
     (unless (eqb (length field) (planCells s)) 4
-    0)))
+    0))
 
 -- the field written from a payload
 unfoldable pub encodedField : Shape → List ℕ → List ℕ
@@ -27,4 +25,4 @@ encodedField s p = listOf (encoded (classAt s) (cellsOf s) p) (cellsOf s)
 
 -- what encoding leaves in the lent field: the field written, or beside a refusal its bytes
 unfoldable pub encodeLeaves : Shape → List ℕ → List ℕ → List ℕ
-encodeLeaves s p field = cond (eqb (encodeNumber s p field) 0) (encodedField s p) field
+encodeLeaves s p field = beside (encodeNumber s p field) (encodedField s p) field

@@ -1,6 +1,6 @@
 -- A field as a function: the value of each cell by its byte number.
-use Prim.Native.Nat.{ℕ, zero, suc, _-_, _<_, _≤_}
-use mathlib.Core.Bool.{Bool, not}
+use Prim.Native.Nat.{ℕ, zero, suc, _-_, _<_}
+use mathlib.Core.Bool.{Bool, true, not}
 use mathlib.Core.List.{List, [], _∷_, _++_}
 use mathlib.Core.Path.{_≡_}
 use lib.Dec.{leb, eqb}
@@ -19,16 +19,23 @@ abbrev pub listOf : Field → ℕ → List ℕ
 listOf f zero = []
 listOf f (suc n) = listOf f n ++ (f n ∷ [])
 
--- a cell is 0 for white or 1 for black
-abbrev pub isCell : ℕ → Bool
+-- the values of a cell: 0 for white and 1 for black
+unfoldable pub isCell : ℕ → Bool
 isCell v = leb v 1
 
-unfoldable pub cellsOk : Field → ℕ → Bool
-cellsOk f n = allBelow (λ i. isCell (f i)) n
-
--- every cell of the first n is 0 or 1
+-- each of the first n is a cell
 abbrev pub Cells : Field → ℕ → Type 0
-Cells f n = (i : ℕ) → i < n → f i ≤ 1
+Cells f n = (i : ℕ) → i < n → isCell (f i) ≡ true
+
+-- the same of a field that is handed in, whose cells have the values of a cell and no other
+unfoldable pub isReceived : ℕ → Bool
+isReceived v = isCell v
+
+abbrev pub Received : Field → ℕ → Type 0
+Received f n = (i : ℕ) → i < n → isReceived (f i) ≡ true
+
+unfoldable pub cellsOk : Field → ℕ → Bool
+cellsOk f n = allBelow (λ i. isReceived (f i)) n
 
 -- to turn a cell over is to make 0 of 1 or 1 of 0
 abbrev pub flip : ℕ → ℕ

@@ -2,18 +2,17 @@
 use Prim.Native.Nat.{ℕ, _/_}
 use Rattle.lattice.specs.declared.shape.Shape.{Shape}
 use Rattle.lattice.specs.Refusal.{figure}
-use Rattle.lattice.specs.Shape.{numberOf, cellsOf}
-use Rattle.lattice.specs.Settings.{settingsOf}
-use Rattle.lattice.specs.Class.{classAt}
+use Rattle.lattice.specs.Shape.{shapeNumber, cellsOf}
+use Rattle.lattice.specs.Class.{classesOf, classAt}
 use Rattle.lattice.specs.Position.{capacity}
 
--- the number: 0, 1 or 2
+-- the number: the constructor's
 abbrev pub planNumber : Shape → ℕ
-planNumber s = numberOf s
+planNumber s = shapeNumber s
 
 -- m
 unfoldable pub planClasses : Shape → ℕ
-planClasses s = figure (planNumber s) (settingsOf s .m)
+planClasses s = figure (planNumber s) (classesOf s)
 
 -- K, the number of cells that hold no check
 unfoldable pub planCapacity : Shape → ℕ

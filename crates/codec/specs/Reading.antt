@@ -5,13 +5,13 @@ use mathlib.Core.Logic.{_↔_}
 use mathlib.Core.Path.{_≡_}
 use lib.ListN.{length}
 use Rattle.lattice.specs.declared.shape.Shape.{Shape}
-use Rattle.lattice.specs.Shape.{cellsOf}
+use Rattle.lattice.specs.Shape.{Accepted, cellsOf}
 use Rattle.lattice.specs.Class.{classAt}
 use Rattle.lattice.specs.Position.{size}
-use Rattle.codec.specs.Field.{Field, fieldOf, Cells, Same, differences}
+use Rattle.codec.specs.Field.{Field, fieldOf, Cells, Received, Same, differences}
 use Rattle.codec.specs.Hamming.{syndrome, Codeword, Near, Nearest}
 use Rattle.codec.specs.Payload.{Bytes, Carries, PaddingRight}
-use Rattle.codec.specs.Plan.{planNumber, planBytes}
+use Rattle.codec.specs.Plan.{planBytes}
 use Rattle.codec.specs.Decode.{decodeNumber, decodeCount, decodeLeaves}
 use Rattle.codec.specs.Correct.{correctNumber, correctCount, correctLeaves}
 
@@ -24,11 +24,11 @@ pub record OneCodeword : Type 0 where
   pub none : (cls : ℕ → ℕ) (n : ℕ) (f g : Field) (a : ℕ) → Cells f n → Cells g n → size cls a n < syndrome cls f a n
       → Near cls n f g a → ¬ Codeword cls n g a
 
--- what is asked of a reading of a field: an accepted shape, a field of the plan's length, and cells that are all 0 or 1
+-- what is asked of a reading of a field: an accepted shape, a field of the plan's length, and nothing but cells
 pub record Readable (s : Shape) (field : List ℕ) : Type 0 where
-  pub accepted : planNumber s ≡ 0
+  pub accepted : Accepted s
   pub long : length field ≡ cellsOf s
-  pub cells : Cells (fieldOf field) (cellsOf s)
+  pub cells : Received (fieldOf field) (cellsOf s)
 
 -- g is a lawful field that differs from the buffer's field in at most one cell of each class
 abbrev pub NearestTo : Shape → List ℕ → Field → Type 0

@@ -1,14 +1,15 @@
 -- Demand 1: each refusal's condition by itself, and what a refusal changes.
 use Prim.Native.Nat.{ℕ, _<_}
+use mathlib.Core.Bool.{false}
 use mathlib.Core.List.{List, [], _∷_, _++_}
 use mathlib.Core.Logic.{_≢_}
 use mathlib.Core.Path.{_≡_}
 use lib.ListN.{length, getD}
 use Rattle.lattice.specs.declared.shape.Shape.{Shape}
-use Rattle.lattice.specs.Refusal.{Refusal, refusal, Settled}
-use Rattle.lattice.specs.Shape.{BadSize, BadStrength, cellsOf}
+use Rattle.lattice.specs.Refusal.{Listed, listed, Settled}
+use Rattle.lattice.specs.Shape.{shapeRefusals, cellsOf}
 use Rattle.lattice.specs.Class.{classAt}
-use Rattle.codec.specs.Field.{Field, fieldOf, Cells}
+use Rattle.codec.specs.Field.{Field, fieldOf, Cells, isReceived}
 use Rattle.codec.specs.Hamming.{Codeword, Near, Nearest}
 use Rattle.codec.specs.Payload.{PaddingRight}
 use Rattle.codec.specs.Plan.{planNumber, planClasses, planCapacity, planBytes, planCells}
@@ -24,9 +25,9 @@ WrongPayload s payload = length payload ≢ planBytes s
 abbrev pub WrongField : Shape → List ℕ → Type 0
 WrongField s field = length field ≢ planCells s
 
--- 5: some cell is above 1
-abbrev pub CellAbove : List ℕ → Type 0
-CellAbove field = (i : ℕ) × (i < length field) × (1 < getD field i 0)
+-- 5: some byte is no cell: it is above 1
+abbrev pub NoCell : List ℕ → Type 0
+NoCell field = (i : ℕ) × (i < length field) × (isReceived (getD field i 0) ≡ false)
 
 -- 6: for some class no codeword differs in at most one cell
 abbrev pub NoneInReach : Shape → List ℕ → Type 0
@@ -39,31 +40,28 @@ abbrev pub WrongPadding : Shape → List ℕ → Type 0
 WrongPadding s field =
     (g : Field) × Nearest (classAt s) (cellsOf s) (fieldOf field) g × (¬ PaddingRight (classAt s) (cellsOf s) g)
 
-abbrev pub shapeConditions : Shape → List Refusal
-shapeConditions s = refusal 1 (BadSize (s .columns) (s .rows) (s .planes)) ∷ refusal 2 (BadStrength (s .planes) (s .strength)) ∷ []
-
-abbrev pub fieldConditions : Shape → List ℕ → List Refusal
+abbrev pub fieldConditions : Shape → List ℕ → List Listed
 fieldConditions s field =
-    refusal 4 (WrongField s field)
-    ∷ refusal 5 (CellAbove field)
-    ∷ refusal 6 (NoneInReach s field)
-    ∷ refusal 7 (WrongPadding s field)
+    listed 4 (WrongField s field)
+    ∷ listed 5 (NoCell field)
+    ∷ listed 6 (NoneInReach s field)
+    ∷ listed 7 (WrongPadding s field)
     ∷ []
 
 -- the refusals of each operation, in the listed order
-abbrev pub encodeConditions : Shape → List ℕ → List ℕ → List Refusal
+abbrev pub encodeConditions : Shape → List ℕ → List ℕ → List Listed
 encodeConditions s payload field =
-    shapeConditions s ++ (refusal 3 (WrongPayload s payload) ∷ refusal 4 (WrongField s field) ∷ [])
+    shapeRefusals s ++ (listed 3 (WrongPayload s payload) ∷ listed 4 (WrongField s field) ∷ [])
 
-abbrev pub decodeConditions : Shape → List ℕ → List ℕ → List Refusal
-decodeConditions s payload field = shapeConditions s ++ (refusal 3 (WrongPayload s payload) ∷ fieldConditions s field)
+abbrev pub decodeConditions : Shape → List ℕ → List ℕ → List Listed
+decodeConditions s payload field = shapeRefusals s ++ (listed 3 (WrongPayload s payload) ∷ fieldConditions s field)
 
-abbrev pub correctConditions : Shape → List ℕ → List Refusal
-correctConditions s field = shapeConditions s ++ fieldConditions s field
+abbrev pub correctConditions : Shape → List ℕ → List Listed
+correctConditions s field = shapeRefusals s ++ fieldConditions s field
 
 -- Theorem (demand 1). The plan's number is settled by its conditions in the listed order: 1, 2.
 abbrev pub PlanRefused : Type 0
-PlanRefused = (s : Shape) → Settled (shapeConditions s) (planNumber s)
+PlanRefused = (s : Shape) → Settled (shapeRefusals s) (planNumber s)
 
 -- Theorem (demand 1). Encoding's number is: 1, 2, 3, 4.
 abbrev pub EncodeRefused : Type 0

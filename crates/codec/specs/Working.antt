@@ -6,14 +6,15 @@ use mathlib.Core.List.{List, _++_}
 use mathlib.Core.Path.{_≡_}
 use lib.Dec.{eqb, leb, ltb}
 use lib.ListN.{length, getD, drop}
-use Rattle.lattice.specs.declared.settings.Settings.{Settings}
+use Rattle.lattice.specs.declared.class.Placement.{Placement}
 use Rattle.lattice.specs.declared.shape.Shape.{Shape}
-use Rattle.lattice.specs.Shape.{maxClasses, Accepted, cellsOf}
-use Rattle.lattice.specs.Settings.{settingsGiven}
-use Rattle.lattice.specs.Class.{classAt}
+use Rattle.lattice.specs.Refusal.{unless}
+use Rattle.lattice.specs.Shape.{maxClasses, Accepted, afterShape, cellsOf}
+use Rattle.lattice.specs.Class.{classAt, placementOf}
 use Rattle.lattice.specs.Position.{size, position}
 use Rattle.codec.specs.Field.{Field, fieldOf, listOf}
 use Rattle.codec.specs.Hamming.{syndrome}
+use Rattle.codec.specs.Plan.{planBytes, planCells}
 use Rattle.codec.specs.Payload.{payloadBytes, payloadBit, padding, rank, dataField, encoded}
 
 -- the array holds 0 for each class
@@ -34,9 +35,9 @@ pub record Stored (before after : List ℕ) (a v : ℕ) : Type 0 where
   pub others : (b : ℕ) → (b ≡ a → ⊥) → getD after b 0 ≡ getD before b 0
 
 -- the next cell of a pass is cell i, and the array counts the cells before it
-pub record AtCell (s : Shape) (k : Settings) (counts : List ℕ) (i : ℕ) : Type 0 where
+pub record AtCell (s : Shape) (k : Placement) (counts : List ℕ) (i : ℕ) : Type 0 where
   pub accepted : Accepted s
-  pub settings : k ≡ settingsGiven s
+  pub placement : k ≡ placementOf s
   pub below : i < cellsOf s
   pub counted : HoldsSizes (classAt s) counts i
 
@@ -90,6 +91,19 @@ rightAt d k bits v = not (d && leb bits k) || eqb v (padding (k - bits))
 pub record FieldFits (s : Shape) (field : List ℕ) : Type 0 where
   pub accepted : Accepted s
   pub long : length field ≡ cellsOf s
+
+-- the tests of encoding and decoding before the field's own: the shape's, then 3 and 4 for a payload and a field whose length isn't the plan's
+unfoldable pub lengthNumber : Shape → List ℕ → List ℕ → ℕ
+lengthNumber s payload field =
+    afterShape s
+    (unless (eqb (length payload) (planBytes s)) 3
+    (unless (eqb (length field) (planCells s)) 4
+    0))
+
+-- what they leave where they pass
+pub record Fits (s : Shape) (payload field sizes : List ℕ) : Type 0 where
+  pub of-payload : PayloadFits s payload sizes
+  pub of-field : FieldFits s field
 
 -- the arrays hold the size and the syndrome of each class of the field
 pub record Examined (s : Shape) (field sizes syndromes : List ℕ) : Type 0 where

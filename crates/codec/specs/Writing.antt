@@ -4,13 +4,13 @@ use mathlib.Core.List.{List}
 use mathlib.Core.Path.{_≡_}
 use lib.ListN.{length}
 use Rattle.lattice.specs.declared.shape.Shape.{Shape}
-use Rattle.lattice.specs.Shape.{cellsOf}
+use Rattle.lattice.specs.Shape.{Accepted, cellsOf}
 use Rattle.lattice.specs.Class.{classAt}
 use Rattle.lattice.specs.Position.{count}
 use Rattle.codec.specs.Field.{Field, fieldOf, Same}
 use Rattle.codec.specs.Hamming.{Lawful}
 use Rattle.codec.specs.Payload.{Bytes, Carries, payloadBit, isPadding}
-use Rattle.codec.specs.Plan.{planNumber, planBytes}
+use Rattle.codec.specs.Plan.{planBytes}
 use Rattle.codec.specs.Encode.{encodedField}
 
 -- Theorem. A payload is told by its bits: two of one length with the same bits are one.
@@ -27,11 +27,11 @@ PaddingFew = (cls : ℕ → ℕ) (n : ℕ) → count (isPadding cls n) n ≤ 7
 -- is lawful, has the payload's bits and the padding in the cells that hold no check, and is the only such field; and two different payloads give two different fields.
 pub record EncodeMeaning : Type 0 where
   pub long : (s : Shape) (p : List ℕ) → length (encodedField s p) ≡ cellsOf s
-  pub lawful : (s : Shape) → planNumber s ≡ 0 → (p : List ℕ) → length p ≡ planBytes s → Bytes p
+  pub lawful : (s : Shape) → Accepted s → (p : List ℕ) → length p ≡ planBytes s → Bytes p
       → Lawful (classAt s) (cellsOf s) (fieldOf (encodedField s p))
-  pub carries : (s : Shape) → planNumber s ≡ 0 → (p : List ℕ) → length p ≡ planBytes s → Bytes p
+  pub carries : (s : Shape) → Accepted s → (p : List ℕ) → length p ≡ planBytes s → Bytes p
       → Carries (classAt s) (cellsOf s) (fieldOf (encodedField s p)) p
-  pub only : (s : Shape) → planNumber s ≡ 0 → (p : List ℕ) → length p ≡ planBytes s → Bytes p
+  pub only : (s : Shape) → Accepted s → (p : List ℕ) → length p ≡ planBytes s → Bytes p
       → (f : Field) → Lawful (classAt s) (cellsOf s) f → Carries (classAt s) (cellsOf s) f p → Same f (fieldOf (encodedField s p)) (cellsOf s)
-  pub different : (s : Shape) → planNumber s ≡ 0 → (p q : List ℕ) → length p ≡ planBytes s → length q ≡ planBytes s → Bytes p → Bytes q
+  pub different : (s : Shape) → Accepted s → (p q : List ℕ) → length p ≡ planBytes s → length q ≡ planBytes s → Bytes p → Bytes q
       → encodedField s p ≡ encodedField s q → p ≡ q

@@ -1,27 +1,26 @@
 // Correcting, the papers' mending.
 ghost use mathlib.Core.Path.{_≡_};
+ghost use Rattle.lattice.specs.Refusal.{testedNumber};
 ghost use Rattle.lattice.specs.Shape.{cellsOf};
 ghost use Rattle.lattice.specs.Class.{classAt};
 ghost use Rattle.codec.specs.Field.{fieldOf, listOf};
 ghost use Rattle.codec.specs.Decode.{correctedField, correctedCount};
+ghost use Rattle.codec.specs.Correct.{correctNumber};
 ghost use Rattle.codec.specs.Answer.{IsCorrected, correctAnswerNumber, correctAnswerCount};
-ghost use Rattle.codec.specs.Working.{HoldsSyndromes, FieldFits};
+ghost use Rattle.codec.specs.Working.{HoldsZeros, HoldsSyndromes, FieldFits};
 use crate::examine::examine;
 use crate::walk::corrected_value;
 use crate::walk::count_if;
 use crate::walk::place_of;
 use lattice::capacity::class_sizes;
+use lattice::refusal::Refusal;
+use lattice::refusal::Tested;
 use lattice::shape::Shape;
 
 // The number of cells turned over, or the refusal 1, 2, 4, 5, 6 or 7.
 pub enum CorrectAnswer {
     Corrected(usize),
-    BadSize,
-    BadStrength,
-    FieldLength,
-    BadCell,
-    OutOfReach,
-    BadPadding,
+    Refused(Refusal),
 }
 
 impl CorrectAnswer {
@@ -31,12 +30,7 @@ impl CorrectAnswer {
     {
         match self {
             CorrectAnswer::Corrected(_) => 0,
-            CorrectAnswer::BadSize => 1,
-            CorrectAnswer::BadStrength => 2,
-            CorrectAnswer::FieldLength => 4,
-            CorrectAnswer::BadCell => 5,
-            CorrectAnswer::OutOfReach => 6,
-            CorrectAnswer::BadPadding => 7,
+            CorrectAnswer::Refused(why) => why.number(),
         }
     }
 
@@ -46,12 +40,7 @@ impl CorrectAnswer {
     {
         match self {
             CorrectAnswer::Corrected(count) => count,
-            CorrectAnswer::BadSize => 0,
-            CorrectAnswer::BadStrength => 0,
-            CorrectAnswer::FieldLength => 0,
-            CorrectAnswer::BadCell => 0,
-            CorrectAnswer::OutOfReach => 0,
-            CorrectAnswer::BadPadding => 0,
+            CorrectAnswer::Refused(_) => 0,
         }
     }
 }
@@ -63,12 +52,12 @@ fn store_corrected(shape: Shape, syndromes: &[u32; Shape::MAX_CLASSES], field: &
     ensures { λ r. ⌜ now (field .exit) ≡ listOf (correctedField shape (now (field .entry))) (cellsOf shape) ⌝ }
     ensures { λ r. ⌜ r ≡ correctedCount shape (now (field .entry)) ⌝ }
 {
-    let settings = shape.settings();
+    let placement = shape.placement();
     let mut counts = [0u32; Shape::MAX_CLASSES];
     let mut flipped = 0;
     let mut i = 0;
     while i < field.len() {
-        let place = place_of(&mut counts, shape, settings, i as u32);
+        let place = place_of(&mut counts, shape, placement, i as u32);
         let before = field[i];
         let value = corrected_value(syndromes, place, before);
         field[i] = value;
@@ -78,32 +67,32 @@ fn store_corrected(shape: Shape, syndromes: &[u32; Shape::MAX_CLASSES], field: &
     flipped
 }
 
+// The tests of correcting in their order, 1, 2, 4, 5, 6, 7; where they pass, the array holds the syndrome of each class.
+fn correct_tests(shape: Shape, field: &[u8], syndromes: &mut [u32; Shape::MAX_CLASSES]) -> Tested
+    requires { ⌜ HoldsZeros (now syndromes) ⌝ }
+    ensures { λ r. ⌜ testedNumber r ≡ correctNumber shape (now (field .entry)) ⌝ }
+    ensures { λ r. ⌜ (testedNumber r ≡ 0 → HoldsSyndromes (classAt shape) (fieldOf (now (field .entry))) (now (syndromes .exit)) (cellsOf shape)) ⌝ }
+{
+    let tested = shape.tests();
+    if let Tested::Refused(why) = tested {
+        return Tested::Refused(why);
+    }
+    if field.len() != shape.cells() {
+        return Tested::Refused(Refusal::FieldLength);
+    }
+    let mut sizes = [0u32; Shape::MAX_CLASSES];
+    class_sizes(shape, &mut sizes);
+    examine(shape, field, &sizes, syndromes)
+}
+
 // Stores the mended field and gives the number of cells turned over, or gives the refusal 1, 2, 4, 5, 6 or 7.
 pub fn correct(shape: Shape, field: &mut [u8]) -> CorrectAnswer
     ensures { λ r. ⌜ IsCorrected shape (now (field .entry)) (now (field .exit)) r ⌝ }
 {
-    let number = shape.refusal();
-    if number == 1 {
-        return CorrectAnswer::BadSize;
-    }
-    if number == 2 {
-        return CorrectAnswer::BadStrength;
-    }
-    if field.len() != shape.cells() {
-        return CorrectAnswer::FieldLength;
-    }
-    let mut sizes = [0u32; Shape::MAX_CLASSES];
-    class_sizes(shape, &mut sizes);
     let mut syndromes = [0u32; Shape::MAX_CLASSES];
-    let tested = examine(shape, field, &sizes, &mut syndromes);
-    if tested == 5 {
-        return CorrectAnswer::BadCell;
-    }
-    if tested == 6 {
-        return CorrectAnswer::OutOfReach;
-    }
-    if tested == 7 {
-        return CorrectAnswer::BadPadding;
+    let tested = correct_tests(shape, field, &mut syndromes);
+    if let Tested::Refused(why) = tested {
+        return CorrectAnswer::Refused(why);
     }
     CorrectAnswer::Corrected(store_corrected(shape, &syndromes, field))
 }

@@ -2,32 +2,28 @@
 ghost use mathlib.Core.Path.{_≡_};
 ghost use Prim.Native.Nat.{ℕ};
 ghost use lib.ListN.{getD, length};
+ghost use Rattle.lattice.specs.Refusal.{testedNumber};
 ghost use Rattle.lattice.specs.Shape.{cellsOf};
 ghost use Rattle.lattice.specs.Class.{classAt};
-ghost use Rattle.codec.specs.Field.{fieldOf, Cells};
+ghost use Rattle.codec.specs.Field.{fieldOf, Received};
 ghost use Rattle.codec.specs.Payload.{payloadBytes, heldPayload};
-ghost use Rattle.codec.specs.Decode.{correctedField, correctedCount};
+ghost use Rattle.codec.specs.Decode.{correctedField, correctedCount, decodeNumber};
 ghost use Rattle.codec.specs.Answer.{IsDecoded, decodeAnswerNumber, decodeAnswerCount};
-ghost use Rattle.codec.specs.Working.{FieldFits, Examined, BitStored};
+ghost use Rattle.codec.specs.Working.{HoldsZeros, FieldFits, Examined, BitStored};
 use crate::examine::examine;
+use crate::lengths::length_tests;
 use crate::walk::corrected_value;
 use crate::walk::count_if;
 use crate::walk::holds_data;
 use crate::walk::place_of;
-use lattice::capacity::class_sizes;
-use lattice::capacity::data_in;
+use lattice::refusal::Refusal;
+use lattice::refusal::Tested;
 use lattice::shape::Shape;
 
 // The number of cells turned over, or the refusal 1, 2, 3, 4, 5, 6 or 7.
 pub enum DecodeAnswer {
     Decoded(usize),
-    BadSize,
-    BadStrength,
-    PayloadLength,
-    FieldLength,
-    BadCell,
-    OutOfReach,
-    BadPadding,
+    Refused(Refusal),
 }
 
 impl DecodeAnswer {
@@ -37,13 +33,7 @@ impl DecodeAnswer {
     {
         match self {
             DecodeAnswer::Decoded(_) => 0,
-            DecodeAnswer::BadSize => 1,
-            DecodeAnswer::BadStrength => 2,
-            DecodeAnswer::PayloadLength => 3,
-            DecodeAnswer::FieldLength => 4,
-            DecodeAnswer::BadCell => 5,
-            DecodeAnswer::OutOfReach => 6,
-            DecodeAnswer::BadPadding => 7,
+            DecodeAnswer::Refused(why) => why.number(),
         }
     }
 
@@ -53,13 +43,7 @@ impl DecodeAnswer {
     {
         match self {
             DecodeAnswer::Decoded(count) => count,
-            DecodeAnswer::BadSize => 0,
-            DecodeAnswer::BadStrength => 0,
-            DecodeAnswer::PayloadLength => 0,
-            DecodeAnswer::FieldLength => 0,
-            DecodeAnswer::BadCell => 0,
-            DecodeAnswer::OutOfReach => 0,
-            DecodeAnswer::BadPadding => 0,
+            DecodeAnswer::Refused(_) => 0,
         }
     }
 }
@@ -97,19 +81,19 @@ fn store_payload(
 ) -> usize
     requires { ⌜ FieldFits shape (now field) ⌝ }
     requires { ⌜ Examined shape (now field) (now sizes) (now syndromes) ⌝ }
-    requires { ⌜ Cells (fieldOf (now field)) (cellsOf shape) ⌝ }
+    requires { ⌜ Received (fieldOf (now field)) (cellsOf shape) ⌝ }
     requires { ⌜ length (now payload) ≡ payloadBytes (classAt shape) (cellsOf shape) ⌝ }
     ensures { λ r. ⌜ now (payload .exit) ≡ heldPayload (classAt shape) (cellsOf shape) (correctedField shape (now (field .entry))) ⌝ }
     ensures { λ r. ⌜ r ≡ correctedCount shape (now (field .entry)) ⌝ }
 {
     clear(payload);
-    let settings = shape.settings();
+    let placement = shape.placement();
     let mut counts = [0u32; Shape::MAX_CLASSES];
     let mut rank = 0;
     let mut flipped = 0;
     let mut i = 0;
     while i < field.len() {
-        let place = place_of(&mut counts, shape, settings, i as u32);
+        let place = place_of(&mut counts, shape, placement, i as u32);
         let is_data = holds_data(sizes, place);
         let before = field[i];
         let value = corrected_value(syndromes, place, before);
@@ -121,35 +105,34 @@ fn store_payload(
     flipped
 }
 
+// The tests of decoding in their order, 1 to 7; where they pass, the arrays hold the size and the syndrome of each class.
+fn decode_tests(
+    shape: Shape,
+    payload: &[u8],
+    field: &[u8],
+    sizes: &mut [u32; Shape::MAX_CLASSES],
+    syndromes: &mut [u32; Shape::MAX_CLASSES],
+) -> Tested
+    requires { ⌜ HoldsZeros (now syndromes) ⌝ }
+    ensures { λ r. ⌜ testedNumber r ≡ decodeNumber shape (now (payload .entry)) (now (field .entry)) ⌝ }
+    ensures { λ r. ⌜ (testedNumber r ≡ 0 → Examined shape (now (field .entry)) (now (sizes .exit)) (now (syndromes .exit))) ⌝ }
+{
+    let tested = length_tests(shape, payload, field, sizes);
+    if let Tested::Refused(why) = tested {
+        return Tested::Refused(why);
+    }
+    examine(shape, field, sizes, syndromes)
+}
+
 // Stores the payload and gives the number of cells turned over, or gives the refusal 1, 2, 3, 4, 5, 6 or 7.
 pub fn decode(shape: Shape, payload: &mut [u8], field: &[u8]) -> DecodeAnswer
     ensures { λ r. ⌜ IsDecoded shape (now (payload .entry)) (now (field .entry)) (now (payload .exit)) r ⌝ }
 {
-    let number = shape.refusal();
-    if number == 1 {
-        return DecodeAnswer::BadSize;
-    }
-    if number == 2 {
-        return DecodeAnswer::BadStrength;
-    }
     let mut sizes = [0u32; Shape::MAX_CLASSES];
-    class_sizes(shape, &mut sizes);
-    if payload.len() != data_in(&sizes) / 8 {
-        return DecodeAnswer::PayloadLength;
-    }
-    if field.len() != shape.cells() {
-        return DecodeAnswer::FieldLength;
-    }
     let mut syndromes = [0u32; Shape::MAX_CLASSES];
-    let tested = examine(shape, field, &sizes, &mut syndromes);
-    if tested == 5 {
-        return DecodeAnswer::BadCell;
-    }
-    if tested == 6 {
-        return DecodeAnswer::OutOfReach;
-    }
-    if tested == 7 {
-        return DecodeAnswer::BadPadding;
+    let tested = decode_tests(shape, payload, field, &mut sizes, &mut syndromes);
+    if let Tested::Refused(why) = tested {
+        return DecodeAnswer::Refused(why);
     }
     DecodeAnswer::Decoded(store_payload(shape, field, &sizes, &syndromes, payload))
 }

@@ -7,6 +7,7 @@ ghost use Rattle.lattice.specs.Shape.{maxClasses, cellsOf};
 ghost use Rattle.codec.specs.Encode.{encodedField};
 ghost use Rattle.codec.specs.Answer.{IsEncoded, encodeAnswerNumber};
 ghost use Rattle.codec.specs.Working.{HoldsZeros, HoldsData, PayloadFits, AtPlane, Filled, planeCells, valueAt};
+use crate::lengths::length_tests;
 use crate::walk::Place;
 use crate::walk::count_if;
 use crate::walk::holds_data;
@@ -14,17 +15,14 @@ use crate::walk::padding_value;
 use crate::walk::payload_bit;
 use crate::walk::place_of;
 use crate::walk::take_in;
-use lattice::capacity::class_sizes;
-use lattice::capacity::data_in;
+use lattice::refusal::Refusal;
+use lattice::refusal::Tested;
 use lattice::shape::Shape;
 
 // Done, or the refusal 1, 2, 3 or 4.
 pub enum EncodeAnswer {
     Encoded,
-    BadSize,
-    BadStrength,
-    PayloadLength,
-    FieldLength,
+    Refused(Refusal),
 }
 
 impl EncodeAnswer {
@@ -34,10 +32,7 @@ impl EncodeAnswer {
     {
         match self {
             EncodeAnswer::Encoded => 0,
-            EncodeAnswer::BadSize => 1,
-            EncodeAnswer::BadStrength => 2,
-            EncodeAnswer::PayloadLength => 3,
-            EncodeAnswer::FieldLength => 4,
+            EncodeAnswer::Refused(why) => why.number(),
         }
     }
 }
@@ -84,13 +79,13 @@ fn data_syndromes(
     requires { ⌜ HoldsZeros (now syndromes) ⌝ }
     ensures { λ _. ⌜ HoldsData shape (now (payload .entry)) (now (syndromes .exit)) ⌝ }
 {
-    let settings = shape.settings();
+    let placement = shape.placement();
     let cells = shape.cells();
     let mut counts = [0u32; Shape::MAX_CLASSES];
     let mut rank = 0;
     let mut i = 0;
     while i < cells {
-        let place = place_of(&mut counts, shape, settings, i as u32);
+        let place = place_of(&mut counts, shape, placement, i as u32);
         let is_data = holds_data(sizes, place);
         take_in(syndromes, place, cell_value(is_data, payload, rank, 0));
         rank = count_if(is_data, rank);
@@ -121,12 +116,12 @@ fn fill_plane(
     requires { ⌜ AtPlane shape (now counts) (now part) at first ⌝ }
     ensures { λ r. ⌜ Filled shape (now (payload .entry)) (now (part .entry)) (now (part .exit)) (now (counts .exit)) at r (planeCells shape) ⌝ }
 {
-    let settings = shape.settings();
+    let placement = shape.placement();
     let cells = plane_cells(shape);
     let mut rank = first;
     let mut j = 0;
     while j < cells {
-        let place = place_of(counts, shape, settings, (at + j) as u32);
+        let place = place_of(counts, shape, placement, (at + j) as u32);
         let is_data = holds_data(sizes, place);
         part[j] = cell_value(is_data, payload, rank, check_value(syndromes, place));
         rank = count_if(is_data, rank);
@@ -184,20 +179,10 @@ fn write_field(shape: Shape, payload: &[u8], sizes: &[u32; Shape::MAX_CLASSES], 
 pub fn encode(shape: Shape, payload: &[u8], field: &mut [u8]) -> EncodeAnswer
     ensures { λ r. ⌜ IsEncoded shape (now (payload .entry)) (now (field .entry)) (now (field .exit)) r ⌝ }
 {
-    let number = shape.refusal();
-    if number == 1 {
-        return EncodeAnswer::BadSize;
-    }
-    if number == 2 {
-        return EncodeAnswer::BadStrength;
-    }
     let mut sizes = [0u32; Shape::MAX_CLASSES];
-    class_sizes(shape, &mut sizes);
-    if payload.len() != data_in(&sizes) / 8 {
-        return EncodeAnswer::PayloadLength;
-    }
-    if field.len() != shape.cells() {
-        return EncodeAnswer::FieldLength;
+    let tested = length_tests(shape, payload, field, &mut sizes);
+    if let Tested::Refused(why) = tested {
+        return EncodeAnswer::Refused(why);
     }
     write_field(shape, payload, &sizes, field);
     EncodeAnswer::Encoded

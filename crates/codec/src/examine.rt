@@ -3,10 +3,11 @@ ghost use mathlib.Core.Path.{_≡_};
 ghost use Prim.Native.Nat.{_≤_};
 ghost use lib.Dec.{leb};
 ghost use lib.ListN.{getD, length};
+ghost use Rattle.lattice.specs.Refusal.{testedNumber};
 ghost use Rattle.lattice.specs.Shape.{maxClasses, cellsOf};
 ghost use Rattle.lattice.specs.Class.{classAt};
 ghost use Rattle.lattice.specs.Position.{allBelow};
-ghost use Rattle.codec.specs.Field.{fieldOf, cellsOk};
+ghost use Rattle.codec.specs.Field.{fieldOf, isReceived, cellsOk};
 ghost use Rattle.codec.specs.Payload.{paddingOk};
 ghost use Rattle.codec.specs.Decode.{correctedField, fieldNumber};
 ghost use Rattle.codec.specs.Working.{HoldsZeros, HoldsSizes, HoldsSyndromes, FieldFits, Examined, rightAt};
@@ -17,15 +18,24 @@ use crate::walk::padding_value;
 use crate::walk::place_of;
 use crate::walk::take_in;
 use lattice::capacity::data_in;
+use lattice::refusal::Refusal;
+use lattice::refusal::Tested;
 use lattice::shape::Shape;
 
-// Is every cell 0 or 1?
+// Is the byte a cell?
+fn is_received(value: u8) -> bool
+    ensures { λ r. ⌜ r ≡ isReceived value ⌝ }
+{
+    value <= 1
+}
+
+// Is every byte a cell?
 fn cells_ok(field: &[u8]) -> bool
     ensures { λ r. ⌜ r ≡ cellsOk (fieldOf (now (field .entry))) (length (now (field .entry))) ⌝ }
 {
     let mut i = 0;
     while i < field.len() {
-        if field[i] > 1 {
+        if !is_received(field[i]) {
             return false;
         }
         i += 1;
@@ -39,11 +49,11 @@ fn field_syndromes(shape: Shape, field: &[u8], syndromes: &mut [u32; Shape::MAX_
     requires { ⌜ HoldsZeros (now syndromes) ⌝ }
     ensures { λ _. ⌜ HoldsSyndromes (classAt shape) (fieldOf (now (field .entry))) (now (syndromes .exit)) (cellsOf shape) ⌝ }
 {
-    let settings = shape.settings();
+    let placement = shape.placement();
     let mut counts = [0u32; Shape::MAX_CLASSES];
     let mut i = 0;
     while i < field.len() {
-        let place = place_of(&mut counts, shape, settings, i as u32);
+        let place = place_of(&mut counts, shape, placement, i as u32);
         take_in(syndromes, place, field[i]);
         i += 1;
     }
@@ -92,13 +102,13 @@ fn padding_ok(
     requires { ⌜ Examined shape (now field) (now sizes) (now syndromes) ⌝ }
     ensures { λ r. ⌜ r ≡ paddingOk (classAt shape) (cellsOf shape) (correctedField shape (now (field .entry))) ⌝ }
 {
-    let settings = shape.settings();
+    let placement = shape.placement();
     let bits = 8 * (data_in(sizes) / 8);
     let mut counts = [0u32; Shape::MAX_CLASSES];
     let mut rank = 0;
     let mut i = 0;
     while i < field.len() {
-        let place = place_of(&mut counts, shape, settings, i as u32);
+        let place = place_of(&mut counts, shape, placement, i as u32);
         let is_data = holds_data(sizes, place);
         if !is_right(
             is_data,
@@ -114,28 +124,28 @@ fn padding_ok(
     true
 }
 
-// The number that the field's own tests give, 0, 5, 6 or 7, where `sizes` holds the size of each class; the syndromes of the classes are stored.
+// The field's own tests in their order, 5, 6, 7, where `sizes` holds the size of each class; the syndromes of the classes are stored.
 pub(crate) fn examine(
     shape: Shape,
     field: &[u8],
     sizes: &[u32; Shape::MAX_CLASSES],
     syndromes: &mut [u32; Shape::MAX_CLASSES],
-) -> u8
+) -> Tested
     requires { ⌜ FieldFits shape (now field) ⌝ }
     requires { ⌜ HoldsSizes (classAt shape) (now sizes) (cellsOf shape) ⌝ }
     requires { ⌜ HoldsZeros (now syndromes) ⌝ }
-    ensures { λ r. ⌜ r ≡ fieldNumber shape (now (field .entry)) ⌝ }
+    ensures { λ r. ⌜ testedNumber r ≡ fieldNumber shape (now (field .entry)) ⌝ }
     ensures { λ r. ⌜ Examined shape (now (field .entry)) (now (sizes .entry)) (now (syndromes .exit)) ⌝ }
 {
     field_syndromes(shape, field, syndromes);
     if !cells_ok(field) {
-        return 5;
+        return Tested::Refused(Refusal::BadCell);
     }
     if !all_in_reach(shape.classes(), sizes, syndromes) {
-        return 6;
+        return Tested::Refused(Refusal::OutOfReach);
     }
     if !padding_ok(shape, field, sizes, syndromes) {
-        return 7;
+        return Tested::Refused(Refusal::BadPadding);
     }
-    0
+    Tested::Passed
 }

@@ -3,5 +3,6 @@ pub mod correct;
 pub mod decode;
 pub mod encode;
 mod examine;
+mod lengths;
 pub mod plan;
 mod walk;

@@ -1,6 +1,8 @@
 // The plan of a field.
 ghost use mathlib.Core.Path.{_≡_};
 ghost use Rattle.codec.specs.Answer.{IsPlan, planAnswerNumber, planFigures};
+use lattice::refusal::Refusal;
+use lattice::refusal::Tested;
 use lattice::shape::Shape;
 
 // The classes m, the capacity K, the payload's bytes and the cells.
@@ -14,8 +16,7 @@ pub struct FieldPlan {
 // The plan, or the refusal 1 or 2.
 pub enum PlanAnswer {
     Planned(FieldPlan),
-    BadSize,
-    BadStrength,
+    Refused(Refusal),
 }
 
 impl PlanAnswer {
@@ -25,8 +26,7 @@ impl PlanAnswer {
     {
         match self {
             PlanAnswer::Planned(_) => 0,
-            PlanAnswer::BadSize => 1,
-            PlanAnswer::BadStrength => 2,
+            PlanAnswer::Refused(why) => why.number(),
         }
     }
 
@@ -34,29 +34,25 @@ impl PlanAnswer {
     pub fn figures(self) -> FieldPlan
         ensures { λ r. ⌜ r ≡ planFigures self ⌝ }
     {
-        let none = FieldPlan {
-            classes: 0,
-            capacity: 0,
-            bytes: 0,
-            cells: 0,
-        };
         match self {
             PlanAnswer::Planned(figures) => figures,
-            PlanAnswer::BadSize => none,
-            PlanAnswer::BadStrength => none,
+            PlanAnswer::Refused(_) => FieldPlan {
+                classes: 0,
+                capacity: 0,
+                bytes: 0,
+                cells: 0,
+            },
         }
     }
 }
 
+// The figures of a field, or the refusal 1 or 2.
 pub fn plan(shape: Shape) -> PlanAnswer
     ensures { λ r. ⌜ IsPlan shape r ⌝ }
 {
-    let number = shape.refusal();
-    if number == 1 {
-        return PlanAnswer::BadSize;
-    }
-    if number == 2 {
-        return PlanAnswer::BadStrength;
+    let tested = shape.tests();
+    if let Tested::Refused(why) = tested {
+        return PlanAnswer::Refused(why);
     }
     let capacity = shape.capacity();
     PlanAnswer::Planned(FieldPlan {

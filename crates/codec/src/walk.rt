@@ -11,8 +11,8 @@ ghost use Rattle.codec.specs.Field.{flip};
 ghost use Rattle.codec.specs.Payload.{payloadBit, padding};
 ghost use Rattle.codec.specs.Working.{Stored, AtCell, PlaceOf};
 use lattice::capacity::checks;
+use lattice::class::Placement;
 use lattice::class::class_at;
-use lattice::settings::Settings;
 use lattice::shape::Shape;
 
 // The class of a cell and its position there, from 1.
@@ -37,13 +37,13 @@ fn count_in(counts: &mut [u32], class: usize) -> u32
 pub(crate) fn place_of(
     counts: &mut [u32; Shape::MAX_CLASSES],
     shape: Shape,
-    settings: Settings,
+    placement: Placement,
     cell: u32,
 ) -> Place
-    requires { ⌜ AtCell shape settings (now counts) cell ⌝ }
+    requires { ⌜ AtCell shape placement (now counts) cell ⌝ }
     ensures { λ r. ⌜ PlaceOf shape cell (r .class) (r .position) (now (counts .exit)) ⌝ }
 {
-    let class = class_at(shape, settings, cell);
+    let class = class_at(shape, placement, cell);
     let position = count_in(counts, class);
     Place { class, position }
 }

@@ -10,10 +10,10 @@ use Rattle.codec.proofs.correct.store_corrected.Statement.{statement}
 use Rattle.codec.proofs.correct.store_corrected.Tie as tie
 
 abbrev Inv-loop : tie.InvT-loop
-Inv-loop shape syndromes field₀ settings counts₀ turned₀ i₀ field counts flipped i = (i ≤ length field₀) × MendedTo shape field₀ field counts flipped i
+Inv-loop shape syndromes field₀ placement counts₀ turned₀ i₀ field counts flipped i = (i ≤ length field₀) × MendedTo shape field₀ field counts flipped i
 
 abbrev μ-loop : tie.MeasureT-loop
-μ-loop shape syndromes field₀ settings counts₀ turned₀ i₀ field counts flipped i = length field - i
+μ-loop shape syndromes field₀ placement counts₀ turned₀ i₀ field counts flipped i = length field - i
 
 same : (c : tie.At-loop Inv-loop μ-loop) → length (c .loop .field) ≡ length (c .before .before .before .args .field .now)
 same c = mended-length _ _ _ _ _ _ (c .loop .inv .1) (c .loop .inv .0)
@@ -24,8 +24,8 @@ inside c = rw (← (same (c .before))) (c .loop-test .taken)
 limit : (c : tie.In-loop Inv-loop μ-loop) → c .before .loop .i < 65536
 limit c = cell-limit _ _ (c .before .before .before .before .pre .0 .long) _ (inside c) (c .before .before .before .before .pre .0 .accepted)
 
-settings-requires : tie.Need-settings-requires Inv-loop μ-loop
-settings-requires c κs = tt
+placement-requires : tie.Need-placement-requires Inv-loop μ-loop
+placement-requires c κs = tt
 
 loop-holds : tie.Need-loop-holds Inv-loop μ-loop
 loop-holds c = (zero-le, mended-none _ _ _ zeros)
@@ -37,7 +37,7 @@ place-of-requires : tie.Need-place-of-requires Inv-loop μ-loop
 place-of-requires c κs =
     record {
       accepted = c .before .before .before .before .before .pre .0 .accepted;
-      settings = c .before .before .before .settings .ensures;
+      placement = c .before .before .before .placement .ensures;
       below = cell-below (c .before .before .before .before .before .args .shape) _ (c .before .before .before .before .before .pre .0 .long) _ (inside (c .before));
       counted = c .before .before .loop .inv .1 .counted;
     }
@@ -92,7 +92,7 @@ store-corrected-spec =
     (tie.spec
     Inv-loop
     μ-loop
-    settings-requires
+    placement-requires
     loop-holds
     cast-place-of
     place-of-requires

@@ -1,169 +1,62 @@
--- `decode` meets its contract.
-use Prim.Native.Nat.{_/_}
-use mathlib.Core.Path.{_≡_, sym, _∙_}
-use lib.ListN.{length}
+-- `decode` meets its contract: a refusal settles the answer, and else the payload is stored.
+use mathlib.Core.Path.{_≡_, sym, ap}
 use borrow.Author.Needs.{needs}
-use Rattle.lattice.specs.Shape.{Accepted, cellsOf}
-use Rattle.lattice.specs.Class.{classAt}
-use Rattle.lattice.proofs.Limits.{neither}
-use Rattle.codec.specs.Plan.{planBytes, planCells}
-use Rattle.codec.specs.Decode.{fieldNumber}
-use Rattle.codec.specs.Working.{HoldsSizes, FieldFits}
-use Rattle.codec.proofs.OnDecode.{bad-size, bad-strength, payload-length, field-length, bad-cell, out-of-reach, bad-padding, given}
-use Rattle.codec.proofs.StepExamine.{number-zero, zero-cells}
-use Rattle.codec.proofs.StepNumber.{bytes-given, cells-given, bytes-accepted, cells-accepted}
-use Rattle.codec.proofs.StepPlace.{zeros, sizes-given}
+use Rattle.codec.specs.Decode.{decodeNumber, decodeCount, decodeLeaves}
+use Rattle.lattice.specs.Refusal.{testedNumber}
+use Rattle.lattice.proofs.Answers.{refused, done, told, told-none}
+use Rattle.codec.proofs.StepNumber.{decode-taken}
+use Rattle.codec.proofs.StepPlace.{zeros}
 use Rattle.codec.proofs.decode.decode.Statement.{statement}
 use Rattle.codec.proofs.decode.decode.Tie as tie
 
-accepted : (c : tie.Else2) → Accepted (c .before .before .before .before .before .args .shape)
-accepted c =
-    neither
-    _ _ _ _
-    (λ e. c .before .if1 .left (c .before .before .refusal .ensures ∙ e))
-    (λ e. c .if2 .left (c .before .before .refusal .ensures ∙ e))
+-- where the tests pass
+none : (c : tie.After-enum-told) → decodeNumber (c .before .before .before .before .before .before .before .before .args .shape) (c .before .before .before .before .before .before .before .before .args .payload .now) (c .before .before .before .before .before .before .before .before .args .field .now) ≡ 0
+none c = told-none (c .before .before .decode-tests .ensures .0) (c .enum-told .given .1)
 
-sized : (c : tie.After-class-sizes)
-    → HoldsSizes (classAt (c .before .before .before .before .before .before .before .args .shape)) (c .class-sizes .last .1 .0) (cellsOf (c .before .before .before .before .before .before .before .args .shape))
-sized c = sizes-given _ _ (accepted (c .before .before)) (c .class-sizes .ensures)
+decode-tests-requires : tie.Need-decode-tests-requires
+decode-tests-requires c κs = zeros
 
-planned : (c : tie.After-data-in) → c .data-in .result / 8 ≡ planBytes (c .before .before .before .before .before .before .before .before .before .args .shape)
-planned c =
-    bytes-given _ (c .before .before .class-sizes .last .1 .0) _ (accepted (c .before .before .before .before)) (sized (c .before .before)) (c .data-in .ensures)
-
-bytes : (c : tie.Else3) → length (c .before .before .before .before .before .before .before .before .before .before .args .payload .now) ≡ planBytes (c .before .before .before .before .before .before .before .before .before .before .args .shape)
-bytes c = c .if3 .left ∙ planned (c .before)
-
-cells : (c : tie.Else4) → length (c .before .before .before .before .before .before .before .before .before .before .before .before .args .field .now) ≡ planCells (c .before .before .before .before .before .before .before .before .before .before .before .before .args .shape)
-cells c = c .if4 .left ∙ cells-given _ _ (c .before .cells .ensures)
-
-fits : (c : tie.Else4) → FieldFits (c .before .before .before .before .before .before .before .before .before .before .before .before .args .shape) (c .before .before .before .before .before .before .before .before .before .before .before .before .args .field .now)
-fits c = record { accepted = accepted (c .before .before .before .before .before .before .before); long = cells c ∙ cells-accepted _ (accepted (c .before .before .before .before .before .before .before)) }
-
-none : (c : tie.Else7) → fieldNumber (c .before .before .before .before .before .before .before .before .before .before .before .before .before .before .before .before .before .before .args .shape) (c .before .before .before .before .before .before .before .before .before .before .before .before .before .before .before .before .before .before .args .field .now) ≡ 0
-none c =
-    sym (c .before .before .before .examine .ensures .0)
-    ∙ number-zero
-    _ _ _
-    (c .before .before .before .examine .ensures .0)
-    (c .before .before .if5 .left)
-    (c .before .if6 .left)
-    (c .if7 .left)
-
-refusal-requires : tie.Need-refusal-requires
-refusal-requires c κs = search needs
-
-returns : tie.Need-returns
-returns c = bad-size _ _ _ (sym (c .before .refusal .ensures) ∙ c .if1 .taken)
-
-returns-2 : tie.Need-returns-2
-returns-2 c = bad-strength _ _ _ (sym (c .before .before .refusal .ensures) ∙ c .if2 .taken)
-
-class-sizes-requires : tie.Need-class-sizes-requires
-class-sizes-requires c κs = search needs
-
-data-in-requires : tie.Need-data-in-requires
-data-in-requires c κs = search needs
-
-returns-3 : tie.Need-returns-3
-returns-3 c =
-    payload-length
-    _ _ _
-    (accepted (c .before .before .before .before .before))
-    (λ e. c .if3 .taken (e ∙ sym (planned (c .before))))
-
-cells-requires : tie.Need-cells-requires
-cells-requires c κs = search needs
-
-returns-4 : tie.Need-returns-4
-returns-4 c =
-    field-length
-    _ _ _
-    (accepted (c .before .before .before .before .before .before .before))
-    (bytes (c .before .before))
-    (λ e. c .if4 .taken (e ∙ sym (cells-given _ _ (c .before .cells .ensures))))
-
-examine-requires : tie.Need-examine-requires
-examine-requires c κs = (fits (c .before .before), (sized (c .before .before .before .before .before .before .before), zeros))
-
-returns-5 : tie.Need-returns-5
-returns-5 c =
-    bad-cell
-    _ _ _
-    (accepted (c .before .before .before .before .before .before .before .before .before .before .before))
-    (bytes (c .before .before .before .before .before .before))
-    (cells (c .before .before .before .before))
-    _
-    (c .before .examine .ensures .0)
-    (c .if5 .taken)
-
-returns-6 : tie.Need-returns-6
-returns-6 c =
-    out-of-reach
-    _ _ _
-    (accepted (c .before .before .before .before .before .before .before .before .before .before .before .before))
-    (bytes (c .before .before .before .before .before .before .before))
-    (cells (c .before .before .before .before .before))
-    _
-    (c .before .before .examine .ensures .0)
-    (c .if6 .taken)
-
-returns-7 : tie.Need-returns-7
-returns-7 c =
-    bad-padding
-    _ _ _
-    (accepted (c .before .before .before .before .before .before .before .before .before .before .before .before .before))
-    (bytes (c .before .before .before .before .before .before .before .before))
-    (cells (c .before .before .before .before .before .before))
-    _
-    (c .before .before .before .examine .ensures .0)
-    (c .if7 .taken)
-
-store-payload-requires : tie.Need-store-payload-requires
-store-payload-requires c κs = (
-  fits (c .before .before .before .before .before .before .before .before .before),
-  (
-    c .before .before .before .before .before .before .examine .ensures .1,
-    (zero-cells _ _ (none (c .before .before .before)), bytes (c .before .before .before .before .before .before .before .before .before .before .before) ∙ bytes-accepted _ (accepted (c .before .before .before .before .before .before .before .before .before .before .before .before .before .before .before .before))),
-  ),
-)
+enum-known-tested : tie.Need-enum-known-tested
+enum-known-tested c = search needs
 
 same-length : tie.Need-same-length
 same-length c = search needs
 
-returns-8 : tie.Need-returns-8
-returns-8 c =
-    given
-    _ _ _
-    (accepted (c .before .before .before .before .before .before .before .before .before .before .before .before .before .before .before .before .before .before .before))
-    (bytes (c .before .before .before .before .before .before .before .before .before .before .before .before .before .before))
-    (cells (c .before .before .before .before .before .before .before .before .before .before .before .before))
-    _
-    (c .before .before .before .before .before .before .before .before .before .examine .ensures .0)
-    (c .before .before .before .before .before .before .before .before .if5 .left)
-    (c .before .before .before .before .before .before .before .if6 .left)
-    (c .before .before .before .before .before .before .if7 .left)
-    _
-    (c .before .before .store-payload .ensures .0)
-    _
-    (c .before .before .store-payload .ensures .1)
+returns : tie.Need-returns
+unfolding decodeCount decodeLeaves
+returns c =
+    let why = c .before .tested .given .0 .0 in
+    let e = told (c .before .before .before .decode-tests .ensures .0) (c .before .tested .given .1) in
+    record { number = e; count = refused why _ _ _ e; leaves = refused why _ _ _ e }
+
+enum-told : tie.Need-enum-told
+enum-told c = search needs
+
+store-payload-requires : tie.Need-store-payload-requires
+store-payload-requires c κs =
+    let e = c .before .before .before in
+    let t = decode-taken _ _ _ (none e) in
+    (t .0 .fits, (e .before .before .decode-tests .ensures .1 (ap testedNumber (e .enum-told .given .1)), (t .0 .cells, t .1)))
+
+same-length-2 : tie.Need-same-length-2
+same-length-2 c = search needs
+
+returns-2 : tie.Need-returns-2
+unfolding decodeCount decodeLeaves
+returns-2 c =
+    let z = none (c .before .before .before .before .before .before) in
+    let made = c .before .before .store-payload .ensures in
+    record { number = sym z; count = done _ _ _ _ z (made .1); leaves = done _ _ _ _ z (made .0) }
 
 pub decode-spec : {M : Type 1} → statement M
 decode-spec =
     tie.close
     (tie.spec
-    refusal-requires
-    returns
-    returns-2
-    class-sizes-requires
-    data-in-requires
-    returns-3
-    cells-requires
-    returns-4
-    examine-requires
-    returns-5
-    returns-6
-    returns-7
-    store-payload-requires
+    decode-tests-requires
+    enum-known-tested
     same-length
-    returns-8)
+    returns
+    enum-told
+    store-payload-requires
+    same-length-2
+    returns-2)

@@ -10,6 +10,7 @@ use Rattle.lattice.specs.Position.{holdsData}
 use Rattle.codec.specs.Field.{fieldOf, differences}
 use Rattle.codec.specs.Decode.{correctedField}
 use Rattle.codec.specs.Working.{HoldsSizes, rankAt}
+use Rattle.codec.proofs.CellValues.{received-cells}
 use Rattle.codec.proofs.StepData.{data-is, rank-none, rank-more, rank-limit}
 use Rattle.codec.proofs.StepHeld.{HoldsBytes, bytes-none, bytes-more, bytes-all}
 use Rattle.codec.proofs.StepCorrected.{mended-is, differences-none, differences-more, differences-limit, differences-all}
@@ -18,13 +19,13 @@ use Rattle.codec.proofs.decode.store_payload.Statement.{statement}
 use Rattle.codec.proofs.decode.store_payload.Tie as tie
 
 abbrev Inv-loop : tie.InvT-loop
-Inv-loop shape field sizes syndromes payload₀ settings counts₀ rank₀ turned₀ i₀ payload counts rank flipped i =
+Inv-loop shape field sizes syndromes payload₀ placement counts₀ rank₀ turned₀ i₀ payload counts rank flipped i =
     (i ≤ length field) × HoldsSizes (classAt shape) counts i × (rank ≡ rankAt shape i) × (length payload ≡ length payload₀)
     × HoldsBytes shape (correctedField shape field) payload i
     × (flipped ≡ differences (fieldOf field) (correctedField shape field) i)
 
 abbrev μ-loop : tie.MeasureT-loop
-μ-loop shape field sizes syndromes payload₀ settings counts₀ rank₀ turned₀ i₀ payload counts rank flipped i = length field - i
+μ-loop shape field sizes syndromes payload₀ placement counts₀ rank₀ turned₀ i₀ payload counts rank flipped i = length field - i
 
 limit : (c : tie.In-loop Inv-loop μ-loop) → c .before .loop .i < 65536
 limit c = cell-limit _ _ (c .before .before .before .before .before .before .before .before .before .pre .0 .long) _ (c .loop-test .taken) (c .before .before .before .before .before .before .before .before .before .pre .0 .accepted)
@@ -52,8 +53,8 @@ value c =
 clear-requires : tie.Need-clear-requires Inv-loop μ-loop
 clear-requires c κs = tt
 
-settings-requires : tie.Need-settings-requires Inv-loop μ-loop
-settings-requires c κs = tt
+placement-requires : tie.Need-placement-requires Inv-loop μ-loop
+placement-requires c κs = tt
 
 loop-holds : tie.Need-loop-holds Inv-loop μ-loop
 loop-holds c = (
@@ -72,7 +73,7 @@ place-of-requires : tie.Need-place-of-requires Inv-loop μ-loop
 place-of-requires c κs =
     record {
       accepted = c .before .before .before .before .before .before .before .before .before .before .pre .0 .accepted;
-      settings = c .before .before .before .settings .ensures;
+      placement = c .before .before .before .placement .ensures;
       below = cell-below (c .before .before .before .before .before .before .before .before .before .before .args .shape) _ (c .before .before .before .before .before .before .before .before .before .before .pre .0 .long) _ (c .before .loop-test .taken);
       counted = c .before .before .loop .inv .1;
     }
@@ -140,7 +141,7 @@ returns c = (
       _
       (c .before .before .before .before .before .before .before .before .before .args .field .now)
       _ _ _
-      (c .before .before .before .before .before .before .before .before .before .pre .1 .1 .0)
+      (received-cells _ _ (c .before .before .before .before .before .before .before .before .before .pre .1 .1 .0))
       (c .before .loop .inv .3 ∙ c .before .before .before .before .before .clear .kept .0 ∙ c .before .before .before .before .before .before .before .before .before .pre .1 .1 .1)
       (c .before .before .before .before .before .before .before .before .before .pre .0 .long)
       (c .before .loop .inv .0)
@@ -163,7 +164,7 @@ store-payload-spec =
     Inv-loop
     μ-loop
     clear-requires
-    settings-requires
+    placement-requires
     loop-holds
     cast-place-of
     place-of-requires

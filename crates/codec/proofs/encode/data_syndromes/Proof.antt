@@ -16,13 +16,13 @@ use Rattle.codec.proofs.encode.data_syndromes.Statement.{statement}
 use Rattle.codec.proofs.encode.data_syndromes.Tie as tie
 
 abbrev Inv-loop : tie.InvT-loop
-Inv-loop shape payload sizes syndromes₀ settings cells counts₀ rank₀ i₀ syndromes counts rank i =
+Inv-loop shape payload sizes syndromes₀ placement cells counts₀ rank₀ i₀ syndromes counts rank i =
     (i ≤ cells) × HoldsSizes (classAt shape) counts i
     × HoldsSyndromes (classAt shape) (dataField (classAt shape) (cellsOf shape) payload) syndromes i
     × (rank ≡ rankAt shape i)
 
 abbrev μ-loop : tie.MeasureT-loop
-μ-loop shape payload sizes syndromes₀ settings cells counts₀ rank₀ i₀ syndromes counts rank i = cells - i
+μ-loop shape payload sizes syndromes₀ placement cells counts₀ rank₀ i₀ syndromes counts rank i = cells - i
 
 cells : (c : tie.After-cells Inv-loop μ-loop) → c .cells .result ≡ cellsOf (c .before .before .before .args .shape)
 cells c = cells-are _ _ (c .before .before .before .pre .0 .accepted) (c .cells .ensures)
@@ -36,8 +36,8 @@ held : (c : tie.After-holds-data Inv-loop μ-loop)
     ≡ holdsData (classAt (c .before .before .before .before .before .before .before .before .args .shape)) (cellsOf (c .before .before .before .before .before .before .before .before .args .shape)) (c .before .before .before .before .loop .i)
 held c = data-is _ _ (c .before .before .before .before .before .before .before .before .pre .0 .sized) _ _ _ _ (c .before .place-of .ensures) _ (c .holds-data .ensures)
 
-settings-requires : tie.Need-settings-requires Inv-loop μ-loop
-settings-requires c κs = tt
+placement-requires : tie.Need-placement-requires Inv-loop μ-loop
+placement-requires c κs = tt
 
 cells-requires : tie.Need-cells-requires Inv-loop μ-loop
 cells-requires c κs = tt
@@ -52,7 +52,7 @@ place-of-requires : tie.Need-place-of-requires Inv-loop μ-loop
 place-of-requires c κs =
     record {
       accepted = c .before .before .before .before .before .before .pre .0 .accepted;
-      settings = c .before .before .before .before .settings .ensures;
+      placement = c .before .before .before .before .placement .ensures;
       below = cell-below (c .before .before .before .before .before .before .args .shape) _ (cells (c .before .before .before)) _ (c .before .loop-test .taken);
       counted = c .before .before .loop .inv .1;
     }
@@ -114,7 +114,7 @@ data-syndromes-spec =
     (tie.spec
     Inv-loop
     μ-loop
-    settings-requires
+    placement-requires
     cells-requires
     loop-holds
     cast-place-of

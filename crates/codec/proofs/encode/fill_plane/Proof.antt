@@ -16,11 +16,11 @@ use Rattle.codec.proofs.encode.fill_plane.Statement.{statement}
 use Rattle.codec.proofs.encode.fill_plane.Tie as tie
 
 abbrev Inv-loop : tie.InvT-loop
-Inv-loop shape payload sizes syndromes counts₀ at first part₀ settings cells rank₀ j₀ counts part rank j =
+Inv-loop shape payload sizes syndromes counts₀ at first part₀ placement cells rank₀ j₀ counts part rank j =
     (j ≤ cells) × Filled shape payload part₀ part counts at rank j
 
 abbrev μ-loop : tie.MeasureT-loop
-μ-loop shape payload sizes syndromes counts₀ at first part₀ settings cells rank₀ j₀ counts part rank j =
+μ-loop shape payload sizes syndromes counts₀ at first part₀ placement cells rank₀ j₀ counts part rank j =
     cells - j
 
 limit : (c : tie.In-loop Inv-loop μ-loop) → c .before .before .before .before .before .before .args .at + c .before .loop .j < 65536
@@ -51,8 +51,8 @@ held : (c : tie.After-holds-data Inv-loop μ-loop)
     (c .before .before .before .before .before .before .before .before .before .args .at + c .before .before .before .before .loop .j)
 held c = data-is _ _ (c .before .before .before .before .before .before .before .before .before .pre .0 .sized) _ _ _ _ (c .before .place-of .ensures) _ (c .holds-data .ensures)
 
-settings-requires : tie.Need-settings-requires Inv-loop μ-loop
-settings-requires c κs = tt
+placement-requires : tie.Need-placement-requires Inv-loop μ-loop
+placement-requires c κs = tt
 
 plane-cells-requires : tie.Need-plane-cells-requires Inv-loop μ-loop
 plane-cells-requires c κs = tt
@@ -70,7 +70,7 @@ place-of-requires : tie.Need-place-of-requires Inv-loop μ-loop
 place-of-requires c κs =
     record {
       accepted = c .before .before .before .before .before .before .before .pre .0 .accepted;
-      settings = c .before .before .before .before .settings .ensures;
+      placement = c .before .before .before .before .placement .ensures;
       below =
           plane-below _ _ _ _ _ (c .before .before .before .before .before .before .before .pre .1 .1) _ _ (c .before .before .before .plane-cells .ensures) (c .before .loop-test .taken);
       counted = c .before .before .loop .inv .1 .counted;
@@ -142,7 +142,7 @@ fill-plane-spec =
     (tie.spec
     Inv-loop
     μ-loop
-    settings-requires
+    placement-requires
     plane-cells-requires
     loop-holds
     add-place-of

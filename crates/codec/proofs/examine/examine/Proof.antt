@@ -3,8 +3,7 @@ use mathlib.Core.Bool.{true}
 use mathlib.Core.Path.{_≡_}
 use borrow.Author.Needs.{needs}
 use Rattle.lattice.specs.Shape.{cellsOf}
-use Rattle.lattice.specs.Settings.{settingsOf}
-use Rattle.lattice.specs.Class.{classAt}
+use Rattle.lattice.specs.Class.{classesOf, classAt}
 use Rattle.lattice.proofs.Bools.{failed, passed}
 use Rattle.lattice.proofs.CapacityGiven.{classes-given}
 use Rattle.codec.specs.Field.{fieldOf, cellsOk}
@@ -32,7 +31,7 @@ reach : (c : tie.After-all-in-reach)
     ≡ allInReach
     (classAt (c .before .before .before .before .before .before .before .before .args .shape))
     (cellsOf (c .before .before .before .before .before .before .before .before .args .shape))
-    (settingsOf (c .before .before .before .before .before .before .before .before .args .shape) .m)
+    (classesOf (c .before .before .before .before .before .before .before .before .args .shape))
     (fieldOf (c .before .before .before .before .before .before .before .before .args .field .now))
 reach c =
     all-reach
@@ -51,7 +50,7 @@ reach-holds : (c : tie.Else2)
     → allInReach
     (classAt (c .before .before .before .before .before .before .before .before .before .args .shape))
     (cellsOf (c .before .before .before .before .before .before .before .before .before .args .shape))
-    (settingsOf (c .before .before .before .before .before .before .before .before .before .args .shape) .m)
+    (classesOf (c .before .before .before .before .before .before .before .before .before .args .shape))
     (fieldOf (c .before .before .before .before .before .before .before .before .before .args .field .now))
     ≡ true
 reach-holds c = passed _ _ (c .if2 .left) (reach (c .before))

@@ -13,14 +13,14 @@ use Rattle.codec.proofs.examine.field_syndromes.Statement.{statement}
 use Rattle.codec.proofs.examine.field_syndromes.Tie as tie
 
 abbrev Inv-loop : tie.InvT-loop
-Inv-loop shape field syndromes₀ settings counts₀ i₀ syndromes counts i =
+Inv-loop shape field syndromes₀ placement counts₀ i₀ syndromes counts i =
     (i ≤ length field) × HoldsSizes (classAt shape) counts i × HoldsSyndromes (classAt shape) (fieldOf field) syndromes i
 
 abbrev μ-loop : tie.MeasureT-loop
-μ-loop shape field syndromes₀ settings counts₀ i₀ syndromes counts i = length field - i
+μ-loop shape field syndromes₀ placement counts₀ i₀ syndromes counts i = length field - i
 
-settings-requires : tie.Need-settings-requires Inv-loop μ-loop
-settings-requires c κs = tt
+placement-requires : tie.Need-placement-requires Inv-loop μ-loop
+placement-requires c κs = tt
 
 loop-holds : tie.Need-loop-holds Inv-loop μ-loop
 loop-holds c = (zero-le, counts-none _ _ zeros, syndromes-none _ _ _ (c .before .before .pre .1))
@@ -35,7 +35,7 @@ place-of-requires : tie.Need-place-of-requires Inv-loop μ-loop
 place-of-requires c κs =
     record {
       accepted = c .before .before .before .before .before .pre .0 .accepted;
-      settings = c .before .before .before .settings .ensures;
+      placement = c .before .before .before .placement .ensures;
       below = cell-below (c .before .before .before .before .before .args .shape) _ (c .before .before .before .before .before .pre .0 .long) _ (c .before .loop-test .taken);
       counted = c .before .before .loop .inv .1;
     }
@@ -79,7 +79,7 @@ field-syndromes-spec =
     (tie.spec
     Inv-loop
     μ-loop
-    settings-requires
+    placement-requires
     loop-holds
     cast-place-of
     place-of-requires

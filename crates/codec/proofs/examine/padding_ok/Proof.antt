@@ -19,12 +19,12 @@ use Rattle.codec.proofs.examine.padding_ok.Statement.{statement}
 use Rattle.codec.proofs.examine.padding_ok.Tie as tie
 
 abbrev Inv-loop : tie.InvT-loop
-Inv-loop shape field sizes syndromes settings bits counts₀ rank₀ i₀ counts rank i =
+Inv-loop shape field sizes syndromes placement bits counts₀ rank₀ i₀ counts rank i =
     (i ≤ length field) × HoldsSizes (classAt shape) counts i × (rank ≡ rankAt shape i)
     × Passed (right shape (correctedField shape field)) i
 
 abbrev μ-loop : tie.MeasureT-loop
-μ-loop shape field sizes syndromes settings bits counts₀ rank₀ i₀ counts rank i = length field - i
+μ-loop shape field sizes syndromes placement bits counts₀ rank₀ i₀ counts rank i = length field - i
 
 limit : (c : tie.In-loop Inv-loop μ-loop) → c .before .loop .i < 65536
 limit c = cell-limit _ _ (c .before .before .before .before .before .pre .0 .long) _ (c .loop-test .taken) (c .before .before .before .before .before .pre .0 .accepted)
@@ -61,8 +61,8 @@ tested c =
     (c .before .corrected-value .ensures))
     (c .is-right .ensures)
 
-settings-requires : tie.Need-settings-requires Inv-loop μ-loop
-settings-requires c κs = tt
+placement-requires : tie.Need-placement-requires Inv-loop μ-loop
+placement-requires c κs = tt
 
 data-in-requires : tie.Need-data-in-requires Inv-loop μ-loop
 data-in-requires c κs = tt
@@ -80,7 +80,7 @@ place-of-requires : tie.Need-place-of-requires Inv-loop μ-loop
 place-of-requires c κs =
     record {
       accepted = c .before .before .before .before .before .before .pre .0 .accepted;
-      settings = c .before .before .before .before .settings .ensures;
+      placement = c .before .before .before .before .placement .ensures;
       below = cell-below (c .before .before .before .before .before .before .args .shape) _ (c .before .before .before .before .before .before .pre .0 .long) _ (c .before .loop-test .taken);
       counted = c .before .before .loop .inv .1;
     }
@@ -136,7 +136,7 @@ padding-ok-spec =
     (tie.spec
     Inv-loop
     μ-loop
-    settings-requires
+    placement-requires
     data-in-requires
     mul-bits
     loop-holds

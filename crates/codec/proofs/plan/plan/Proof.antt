@@ -1,18 +1,34 @@
--- `plan` meets its contract.
-use mathlib.Core.Path.{sym, _∙_}
+-- `plan` meets its contract: a refusal settles the answer, and else the figures are those of the shape's methods.
+use Prim.Native.Nat.{ℕ, _/_}
+use mathlib.Core.Path.{sym, ap, _∙_}
+use native.Mathlib.Nat.{zero-div}
 use borrow.Author.Needs.{needs}
-use Rattle.codec.proofs.OnPlan.{bad-size, bad-strength, planned}
+use Rattle.codec.specs.Plan.{planClasses, planCapacity, planBytes, planCells}
+use Rattle.lattice.proofs.Answers.{refused, told, told-none}
 use Rattle.codec.proofs.plan.plan.Statement.{statement}
 use Rattle.codec.proofs.plan.plan.Tie as tie
 
-refusal-requires : tie.Need-refusal-requires
-refusal-requires c κs = search needs
+tests-requires : tie.Need-tests-requires
+tests-requires c κs = search needs
+
+enum-known-tested : tie.Need-enum-known-tested
+enum-known-tested c = search needs
 
 returns : tie.Need-returns
-returns c = bad-size _ (sym (c .before .refusal .ensures) ∙ c .if1 .taken)
+unfolding planClasses planCapacity planBytes planCells
+returns c =
+    let why = c .before .tested .given .0 .0 in
+    let e = told (c .before .before .before .tests .ensures) (c .before .tested .given .1) in
+    record {
+      number = e;
+      classes = refused why _ _ _ e;
+      capacity = refused why _ _ _ e;
+      bytes = sym (zero-div 8) ∙ ap (λ (k : ℕ). k / 8) (refused why _ _ _ e);
+      cells = refused why _ _ _ e;
+    }
 
-returns-2 : tie.Need-returns-2
-returns-2 c = bad-strength _ (sym (c .before .before .refusal .ensures) ∙ c .if2 .taken)
+enum-told : tie.Need-enum-told
+enum-told c = search needs
 
 capacity-requires : tie.Need-capacity-requires
 capacity-requires c κs = search needs
@@ -23,24 +39,27 @@ classes-requires c κs = search needs
 cells-requires : tie.Need-cells-requires
 cells-requires c κs = search needs
 
-returns-3 : tie.Need-returns-3
-returns-3 c =
-    planned
-    _ _ _ _
-    (λ e. c .before .before .before .before .if1 .left (c .before .before .before .before .before .refusal .ensures ∙ e))
-    (λ e. c .before .before .before .if2 .left (c .before .before .before .before .before .refusal .ensures ∙ e))
-    (c .before .classes .ensures)
-    (c .before .before .capacity .ensures)
-    (c .cells .ensures)
+returns-2 : tie.Need-returns-2
+unfolding planClasses planCapacity planBytes planCells
+returns-2 c =
+    let e = c .before .before .before in
+    record {
+      number = sym (told-none (e .before .before .tests .ensures) (e .enum-told .given .1));
+      classes = c .before .classes .ensures;
+      capacity = c .before .before .capacity .ensures;
+      bytes = ap (λ (k : ℕ). k / 8) (c .before .before .capacity .ensures);
+      cells = c .cells .ensures;
+    }
 
 pub plan-spec : {M : Type 1} → statement M
 plan-spec =
     tie.close
     (tie.spec
-    refusal-requires
+    tests-requires
+    enum-known-tested
     returns
-    returns-2
+    enum-told
     capacity-requires
     classes-requires
     cells-requires
-    returns-3)
+    returns-2)

@@ -1,0 +1,32 @@
+-- The values of a cell: 0 and 1.
+use Prim.Native.Nat.{ℕ, _<_, _≤_}
+use mathlib.Core.Bool.{Bool, true, false, cond}
+use mathlib.Core.Path.{_≡_, refl}
+use borrow.Author.Tests.{le-leb, leb-true}
+use Rattle.codec.specs.Field.{Field, isCell, Cells, isReceived, Received}
+
+pub cell-most : (v : ℕ) → isCell v ≡ true → v ≤ 1
+unfolding isCell
+cell-most v p = leb-true v 1 p
+
+pub most-cell : (v : ℕ) → v ≤ 1 → isCell v ≡ true
+unfolding isCell
+most-cell v p = le-leb v 1 p
+
+pub zero-cell : isCell 0 ≡ true
+unfolding isCell
+zero-cell = refl
+
+-- either of two cells is a cell
+pub cond-cell : (b : Bool) (v w : ℕ) → isCell v ≡ true → isCell w ≡ true → isCell (cond b v w) ≡ true
+cond-cell true v w p q = p
+cond-cell false v w p q = q
+
+-- what is received are cells
+pub received-cells : (f : Field) (n : ℕ) → Received f n → Cells f n
+unfolding isReceived
+received-cells f n p = p
+
+pub cells-received : (f : Field) (n : ℕ) → Cells f n → Received f n
+unfolding isReceived
+cells-received f n p = p

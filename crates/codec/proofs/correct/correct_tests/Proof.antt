@@ -1,0 +1,74 @@
+-- `correct_tests` meets its contract: the shape's tests, then the field's length, then its own.
+use mathlib.Core.Path.{_≡_, sym, _∙_}
+use native.Mathlib.Omega.{arith}
+use borrow.Author.Needs.{needs}
+use lib.ListN.{length}
+use Rattle.lattice.specs.Shape.{Accepted}
+use Rattle.codec.specs.Plan.{planCells}
+use Rattle.codec.specs.Working.{FieldFits}
+use Rattle.lattice.proofs.Answers.{told, told-none, some-number}
+use Rattle.codec.proofs.Accepted.{plan-cells, correct-number}
+use Rattle.codec.proofs.StepNumber.{cells-given, correct-refused, correct-length}
+use Rattle.codec.proofs.StepPlace.{sizes-given}
+use Rattle.codec.proofs.correct.correct_tests.Statement.{statement}
+use Rattle.codec.proofs.correct.correct_tests.Tie as tie
+
+accepted : (c : tie.After-enum-told) → Accepted (c .before .before .before .before .args .shape)
+accepted c = told-none (c .before .before .tests .ensures) (c .enum-told .given .1)
+
+-- a field of an accepted shape's length
+fits : (c : tie.Else1) → FieldFits (c .before .before .before .before .before .before .args .shape) (c .before .before .before .before .before .before .args .field .now)
+fits c =
+    let a = accepted (c .before .before) in
+    record { accepted = a; long = c .if1 .left ∙ cells-given _ _ (c .before .cells .ensures) ∙ plan-cells _ a }
+
+tests-requires : tie.Need-tests-requires
+tests-requires c κs = search needs
+
+enum-known-tested : tie.Need-enum-known-tested
+enum-known-tested c = search needs
+
+returns : tie.Need-returns
+returns c =
+    let why = c .before .tested .given .0 .0 in
+    (correct-refused _ _ why (told (c .before .before .before .tests .ensures) (c .before .tested .given .1)), λ z. absurd (some-number why z))
+
+enum-told : tie.Need-enum-told
+enum-told c = search needs
+
+cells-requires : tie.Need-cells-requires
+cells-requires c κs = search needs
+
+returns-2 : tie.Need-returns-2
+returns-2 c = (
+  sym (correct-length _ _ (accepted (c .before .before)) (λ e. c .if1 .taken (e ∙ sym (cells-given _ _ (c .before .cells .ensures))))),
+  λ z. absurd (omega arith),
+)
+
+class-sizes-requires : tie.Need-class-sizes-requires
+class-sizes-requires c κs = search needs
+
+examine-requires : tie.Need-examine-requires
+examine-requires c κs =
+    let k = c .before .before in
+    let e = c .before .before .before .before in
+    (fits e, (sizes-given _ _ _ (fits e .accepted) (k .class-sizes .ensures), e .before .before .before .before .before .before .pre))
+
+returns-3 : tie.Need-returns-3
+returns-3 c =
+    let f = fits (c .before .before .before .before .before) in
+    (c .examine .ensures .0 ∙ sym (correct-number _ (f .accepted) _ (f .long)), λ z. c .examine .ensures .1 .held)
+
+pub correct-tests-spec : {M : Type 1} → statement M
+correct-tests-spec =
+    tie.close
+    (tie.spec
+    tests-requires
+    enum-known-tested
+    returns
+    enum-told
+    cells-requires
+    returns-2
+    class-sizes-requires
+    examine-requires
+    returns-3)

@@ -1,0 +1,47 @@
+-- `decode_tests` meets its contract: the tests of the lengths, then the field's own.
+use mathlib.Core.Path.{_≡_, sym, ap, _∙_}
+use borrow.Author.Needs.{needs}
+use Rattle.lattice.proofs.Answers.{told, told-none, some-number, earlier-told, none-earlier}
+use Rattle.lattice.specs.Refusal.{testedNumber}
+use Rattle.codec.specs.Working.{lengthNumber}
+use Rattle.codec.proofs.StepNumber.{decode-tests}
+use Rattle.codec.proofs.decode.decode_tests.Statement.{statement}
+use Rattle.codec.proofs.decode.decode_tests.Tie as tie
+
+-- where the lengths are the plan's
+module _ (c : tie.After-enum-told) where
+  none : lengthNumber (c .before .before .before .before .before .before .args .shape) (c .before .before .before .before .before .before .args .payload .now) (c .before .before .before .before .before .before .args .field .now) ≡ 0
+  none = told-none (c .before .before .length-tests .ensures .0) (c .enum-told .given .1)
+
+length-tests-requires : tie.Need-length-tests-requires
+length-tests-requires c κs = search needs
+
+enum-known-tested : tie.Need-enum-known-tested
+enum-known-tested c = search needs
+
+returns : tie.Need-returns
+returns c =
+    let why = c .before .tested .given .0 .0 in (
+      earlier-told why _ _ (told (c .before .before .before .length-tests .ensures .0) (c .before .tested .given .1)) ∙ decode-tests _ _ _,
+      λ z. absurd (some-number why z),
+    )
+
+enum-told : tie.Need-enum-told
+enum-told c = search needs
+
+examine-requires : tie.Need-examine-requires
+examine-requires c κs =
+    let e = c .before .before in
+    let fits = e .before .before .length-tests .ensures .1 (ap testedNumber (e .enum-told .given .1)) in
+    (fits .of-field, (fits .of-payload .sized, c .before .before .before .before .before .before .before .before .pre))
+
+returns-2 : tie.Need-returns-2
+returns-2 c = (
+  c .examine .ensures .0 ∙ sym (none-earlier _ _ (none (c .before .before .before))) ∙ decode-tests _ _ _,
+  λ z. c .examine .ensures .1,
+)
+
+pub decode-tests-spec : {M : Type 1} → statement M
+decode-tests-spec =
+    tie.close
+    (tie.spec length-tests-requires enum-known-tested returns enum-told examine-requires returns-2)

@@ -1,0 +1,95 @@
+-- `length_tests` meets its contract: the shape's tests, then the lengths.
+use Prim.Native.Nat.{_/_}
+use mathlib.Core.Path.{_≡_, sym, _∙_}
+use native.Mathlib.Omega.{arith}
+use borrow.Author.Needs.{needs}
+use lib.ListN.{length}
+use Rattle.lattice.specs.Shape.{Accepted, cellsOf}
+use Rattle.lattice.specs.Class.{classAt}
+use Rattle.lattice.proofs.Answers.{told, told-none, some-number}
+use Rattle.codec.specs.Plan.{planBytes, planCells}
+use Rattle.codec.specs.Working.{HoldsSizes, Fits}
+use Rattle.codec.proofs.Accepted.{plan-bytes, plan-cells}
+use Rattle.codec.proofs.StepNumber.{bytes-given, cells-given, length-refused, payload-number, field-number, fit-number}
+use Rattle.codec.proofs.StepPlace.{sizes-given}
+use Rattle.codec.proofs.lengths.length_tests.Statement.{statement}
+use Rattle.codec.proofs.lengths.length_tests.Tie as tie
+
+-- what the sizes of the classes are taken for: an accepted shape
+module _ (c : tie.After-class-sizes) where
+  accepted : Accepted (c .before .before .before .before .before .before .before .args .shape)
+  accepted = let e = c .before .before in told-none (e .before .before .tests .ensures) (e .enum-told .given .1)
+
+  sized : HoldsSizes (classAt (c .before .before .before .before .before .before .before .args .shape)) (c .class-sizes .last .1 .0) (cellsOf (c .before .before .before .before .before .before .before .args .shape))
+  sized = sizes-given _ _ _ accepted (c .class-sizes .ensures)
+
+planned : (c : tie.After-data-in) → c .data-in .result / 8 ≡ planBytes (c .before .before .before .before .before .before .before .before .before .args .shape)
+planned c = bytes-given _ _ _ (accepted (c .before .before)) (sized (c .before .before)) (c .data-in .ensures)
+
+bytes : (c : tie.Else1) → length (c .before .before .before .before .before .before .before .before .before .before .args .payload .now) ≡ planBytes (c .before .before .before .before .before .before .before .before .before .before .args .shape)
+bytes c = c .if1 .left ∙ planned (c .before)
+
+tests-requires : tie.Need-tests-requires
+tests-requires c κs = search needs
+
+enum-known-tested : tie.Need-enum-known-tested
+enum-known-tested c = search needs
+
+returns : tie.Need-returns
+returns c =
+    let why = c .before .tested .given .0 .0 in
+    (length-refused _ _ _ why (told (c .before .before .before .tests .ensures) (c .before .tested .given .1)), λ z. absurd (some-number why z))
+
+enum-told : tie.Need-enum-told
+enum-told c = search needs
+
+class-sizes-requires : tie.Need-class-sizes-requires
+class-sizes-requires c κs = search needs
+
+data-in-requires : tie.Need-data-in-requires
+data-in-requires c κs = search needs
+
+returns-2 : tie.Need-returns-2
+returns-2 c = (
+  sym (payload-number _ _ _ (accepted (c .before .before .before)) (λ e. c .if1 .taken (e ∙ sym (planned (c .before))))),
+  λ z. absurd (omega arith),
+)
+
+cells-requires : tie.Need-cells-requires
+cells-requires c κs = search needs
+
+returns-3 : tie.Need-returns-3
+returns-3 c =
+    let e = c .before .before in (
+      sym
+          (field-number _ _ _ (accepted (e .before .before .before)) (bytes e)
+          (λ z. c .if2 .taken (z ∙ sym (cells-given _ _ (c .before .cells .ensures))))),
+      λ z. absurd (omega arith),
+    )
+
+returns-4 : tie.Need-returns-4
+returns-4 c =
+    let e = c .before .before in
+    let k = e .before .before .before in
+    let cells = c .if2 .left ∙ cells-given _ _ (c .before .cells .ensures) in (
+      sym (fit-number _ _ _ (accepted k) (bytes e) cells),
+      λ z. record {
+        of-payload = record { accepted = accepted k; long = bytes e ∙ plan-bytes _ (accepted k); sized = sized k };
+        of-field = record { accepted = accepted k; long = cells ∙ plan-cells _ (accepted k) };
+      },
+    )
+
+pub length-tests-spec : {M : Type 1} → statement M
+length-tests-spec =
+    tie.close
+    (tie.spec
+    tests-requires
+    enum-known-tested
+    returns
+    enum-told
+    class-sizes-requires
+    data-in-requires
+    returns-2
+    cells-requires
+    returns-3
+    returns-4)
