@@ -13,11 +13,12 @@ use Rattle.codec.specs.Encode.{encodedField}
 use Rattle.codec.specs.Decode.{decodeCount, decodeLeaves}
 use Rattle.codec.proofs.DemandTwoWriting.{encodeMeaning}
 use Rattle.card.specs.declared.header.Header.{Header}
-use Rattle.card.specs.Text.{digitCount, numberLine, headerText, payloadText, fieldText, refusalText, classesKey, mendedKey, refusalKey}
+use Rattle.card.specs.Text.{digitCount, numberLine, headerLines, headerText, payloadText, fieldText, refusalText, classesKey, mendedKey, refusalKey}
 use Rattle.card.specs.Card.{maxAnswer, shapeOf, CardHeader}
 use Rattle.card.specs.Program.{blankPayload, writtenText, readText}
 use Rattle.card.proofs.DecimalText.{digit-count-range, digit-count-one, digit-count-two, digit-count-three}
 use Rattle.card.proofs.LineText.{length-line}
+use Rattle.card.proofs.LinesText.{linesLength}
 use Rattle.card.proofs.HeaderText.{length-header, header-most}
 use Rattle.card.proofs.PayloadText.{length-payload}
 use Rattle.card.proofs.RowText.{length-rows}
@@ -25,38 +26,38 @@ use Rattle.card.proofs.CardLimits.{limits, rows-most, bytes-most}
 use Rattle.card.proofs.ProgramParts.{blank-payload}
 use Rattle.card.proofs.CardPlan.{classes-most, classes-stack, leaves-long}
 
--- the bytes of a written answer: the four lines and `classes`, and the rows
+-- the bytes of a written answer: the first lines and `classes`, and the rows
 abbrev writtenLength : Header → ℕ
 writtenLength h =
-    42 + (digitCount (h .columns) + digitCount (h .rows) + digitCount (h .planes) + digitCount (h .strength)) + digitCount (planClasses (shapeOf h))
-    + h .planes * h .rows * (h .columns + 5)
+    linesLength (headerLines h) + (length classesKey + digitCount (planClasses (shapeOf h)) + 1)
+    + h .numbers .planes * h .numbers .rows * (h .numbers .columns + 5)
 
 -- the longest has 4,096 rows of 4 cells: where a row has more there are fewer rows, and a stack's strength and classes have few digits
 module _ (h : Header) (card : CardHeader h) where
-  strength-width : (h .planes ≢ 1 → digitCount (h .strength) ≤ 1) × (digitCount (h .strength) ≤ 2)
+  strength-width : (h .numbers .planes ≢ 1 → digitCount (h .numbers .strength) ≤ 1) × (digitCount (h .numbers .strength) ≤ 2)
   strength-width = (
     (λ stack.
-        digit-count-one (h .strength)
-        (omega (arith, strength-stack (h .columns) (h .rows) (h .planes) (h .strength) (card .accepted) stack))),
-    digit-count-two (h .strength) (omega (arith, strength-most (h .columns) (h .rows) (h .planes) (h .strength) (card .accepted))),
+        digit-count-one (h .numbers .strength)
+        (omega (arith, strength-stack _ _ _ _ (card .accepted) stack))),
+    digit-count-two (h .numbers .strength) (omega (arith, strength-most _ _ _ _ (card .accepted))),
   )
 
-  classes-width : (h .planes ≢ 1 → digitCount (planClasses (shapeOf h)) ≤ 2) × (digitCount (planClasses (shapeOf h)) ≤ 3)
+  classes-width : (h .numbers .planes ≢ 1 → digitCount (planClasses (shapeOf h)) ≤ 2) × (digitCount (planClasses (shapeOf h)) ≤ 3)
   classes-width = (
     (λ stack. digit-count-two (planClasses (shapeOf h)) (omega (arith, classes-stack (shapeOf h) (card .accepted) stack))),
     digit-count-three (planClasses (shapeOf h)) (omega (arith, classes-most (shapeOf h))),
   )
 
   written-bytes : writtenLength h ≤ maxAnswer
-  written-bytes = go (decLe 5 (h .columns)) (ℕ-discrete (h .planes) 1)
+  written-bytes = go (decLe 5 (h .numbers .columns)) (ℕ-discrete (h .numbers .planes) 1)
     where
-      rows : digitCount (h .rows) ≤ 3
-      rows = digit-count-three (h .rows) (omega (arith, limits h card .height-high))
+      rows : digitCount (h .numbers .rows) ≤ 3
+      rows = digit-count-three (h .numbers .rows) (omega (arith, limits h card .height-high))
 
-      planes : digitCount (h .planes) ≤ 2
-      planes = digit-count-two (h .planes) (omega (arith, limits h card .planes-high))
+      planes : digitCount (h .numbers .planes) ≤ 2
+      planes = digit-count-two (h .numbers .planes) (omega (arith, limits h card .planes-high))
 
-      go : Dec (5 ≤ h .columns) → Dec (h .planes ≡ 1) → writtenLength h ≤ maxAnswer
+      go : Dec (5 ≤ h .numbers .columns) → Dec (h .numbers .planes ≡ 1) → writtenLength h ≤ maxAnswer
       go (yes wide) e =
           omega (
             arith,
@@ -64,41 +65,43 @@ module _ (h : Header) (card : CardHeader h) where
             planes,
             strength-width .1,
             classes-width .1,
-            digit-count-three (h .columns) (omega (arith, limits h card .width-high)),
-            mul-le-mul-right (h .planes * h .rows) wide,
+            digit-count-three (h .numbers .columns) (omega (arith, limits h card .width-high)),
+            mul-le-mul-right (h .numbers .planes * h .numbers .rows) wide,
             card .cells,
           )
       go (no narrow) (yes flat) =
-          let few : h .columns ≤ 4 = omega arith in
-          let one : h .planes ≤ 1 = omega arith in
+          let few : h .numbers .columns ≤ 4 = omega arith in
+          let one : h .numbers .planes ≤ 1 = omega arith in
           omega (
             arith,
             rows,
             planes,
             strength-width .1,
             classes-width .1,
-            digit-count-one (h .columns) (omega arith),
-            mul-le-mul-right (h .planes * h .rows) few,
+            digit-count-one (h .numbers .columns) (omega arith),
+            mul-le-mul-right (h .numbers .planes * h .numbers .rows) few,
             mul-le-mul one (limits h card .height-high),
           )
       go (no narrow) (no stack) =
-          let few : h .columns ≤ 4 = omega arith in
+          let few : h .numbers .columns ≤ 4 = omega arith in
           omega (
             arith,
             rows,
             planes,
             strength-width .0 stack,
             classes-width .0 stack,
-            digit-count-one (h .columns) (omega arith),
-            mul-le-mul-right (h .planes * h .rows) few,
+            digit-count-one (h .numbers .columns) (omega arith),
+            mul-le-mul-right (h .numbers .planes * h .numbers .rows) few,
             rows-most h card,
           )
 
 -- the text of the field written
-length-written : (h : Header) (p : List ℕ) → length (fieldText h (encodedField (shapeOf h) p)) ≡ h .planes * h .rows * (h .columns + 5)
+length-written : (h : Header) (p : List ℕ)
+    → length (fieldText h (encodedField (shapeOf h) p)) ≡ h .numbers .planes * h .numbers .rows * (h .numbers .columns + 5)
 unfolding fieldText
 length-written h p =
-    length-rows (h .columns) (h .planes * h .rows) (encodedField (shapeOf h) p) (omega (arith, encodeMeaning .long (shapeOf h) p))
+    length-rows (h .numbers .columns) (h .numbers .planes * h .numbers .rows) (encodedField (shapeOf h) p)
+    (omega (arith, encodeMeaning .long (shapeOf h) p))
 
 -- a field written, in text
 pub written-most : (h : Header) → CardHeader h → (p : List ℕ) → length (writtenText h p) ≤ maxAnswer

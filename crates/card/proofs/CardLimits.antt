@@ -15,23 +15,19 @@ use Rattle.card.specs.Card.{shapeOf, Small, CardHeader}
 
 -- a card's header is within the limits
 module _ (h : Header) (x : CardHeader h) where
-  pub limits : Legal (h .columns) (h .rows) (h .planes) (h .strength)
-  limits = legal (h .columns) (h .rows) (h .planes) (h .strength) (x .accepted)
+  pub limits : Legal (h .numbers .columns) (h .numbers .rows) (h .numbers .planes) (h .numbers .strength)
+  limits = legal _ _ _ _ (x .accepted)
 
   pub card-small : Small h
   card-small =
-      record {
-        columns = omega (arith, limits .width-high);
-        rows = omega (arith, limits .height-high);
-        planes = omega (arith, limits .planes-high);
-        strength = omega (arith, strength-most (h .columns) (h .rows) (h .planes) (h .strength) (x .accepted));
-      }
+      let strength = strength-most _ _ _ _ (x .accepted) in
+      omega (arith, limits .width-high, limits .height-high, limits .planes-high, strength)
 
   -- it has a row, and at most 4,096
-  pub rows-some : 0 < h .planes * h .rows
+  pub rows-some : 0 < h .numbers .planes * h .numbers .rows
   rows-some = mul-le-mul {n₁ = 1} {m₁ = 1} (limits .planes-low) (limits .height-low)
 
-  pub rows-most : h .planes * h .rows ≤ 4096
+  pub rows-most : h .numbers .planes * h .numbers .rows ≤ 4096
   rows-most = mul-le-mul {n₂ = 16} {m₂ = 256} (limits .planes-high) (limits .height-high)
 
   -- a payload has at most one byte for 8 cells

@@ -22,15 +22,16 @@ use Rattle.card.proofs.RowsRead.{RowsStand, rows-ok, rows-read, at-rows
 
 -- the number of rows, and the cells that they have together
 abbrev rowsOf : Header → ℕ
-rowsOf h = h .planes * h .rows
+rowsOf h = h .numbers .planes * h .numbers .rows
 
-cells-of : (h : Header) → cellsOf (shapeOf h) ≡ rowsOf h * h .columns
+cells-of : (h : Header) → cellsOf (shapeOf h) ≡ rowsOf h * h .numbers .columns
 cells-of h = omega arith
 
 -- the length of the rows
-pub length-field : (h : Header) (cells : List ℕ) → FieldCells h cells → length (fieldText h cells) ≡ h .planes * h .rows * (h .columns + 5)
+pub length-field : (h : Header) (cells : List ℕ) → FieldCells h cells
+    → length (fieldText h cells) ≡ h .numbers .planes * h .numbers .rows * (h .numbers .columns + 5)
 unfolding fieldText
-length-field h cells x = length-rows (h .columns) (rowsOf h) cells (omega (arith, x .long))
+length-field h cells x = length-rows (h .numbers .columns) (rowsOf h) cells (omega (arith, x .long))
 
 -- the rows behind anything are read back
 pub field-back : (before : List ℕ) (h : Header) (cells : List ℕ) → FieldCells h cells
@@ -38,15 +39,16 @@ pub field-back : (before : List ℕ) (h : Header) (cells : List ℕ) → FieldCe
 unfolding fieldText
 field-back before h cells x =
     let s = before ++ fieldText h cells in
-    let y : RowsStand s (length before) (h .columns) (rowsOf h) cells =
+    let y : RowsStand s (length before) (h .numbers .columns) (rowsOf h) cells =
     record {
       long = x .long ∙ cells-of h;
       each = λ i l. x .each i (omega (arith, cells-of h));
       stands = stands-last before (fieldText h cells);
       ends = length-append before (fieldText h cells) ∙ omega (arith, length-field h cells x);
     } in (
-      rows-ok s (length before) (h .columns) (rowsOf h) cells y,
-      ap (cellsAt s (length before) (h .columns)) (cells-of h) ∙ rows-read s (length before) (h .columns) (rowsOf h) cells y,
+      rows-ok s (length before) (h .numbers .columns) (rowsOf h) cells y,
+      ap (cellsAt s (length before) (h .numbers .columns)) (cells-of h)
+          ∙ rows-read s (length before) (h .numbers .columns) (rowsOf h) cells y,
     )
 
 -- what a field is read from is its rows
@@ -54,7 +56,8 @@ pub field-text : (s : List ℕ) (h : Header) (at : ℕ) → rowsFit s h at ≡ t
     → FieldCells h (cellsIn s h at) × (drop at s ≡ fieldText h (cellsIn s h at))
 unfolding fieldText
 field-text s h at p =
-    let x : RowsStand s at (h .columns) (rowsOf h) (cellsIn s h at) = rw (cells-of h) (at-rows s at (h .columns) (rowsOf h) p) in
+    let x : RowsStand s at (h .numbers .columns) (rowsOf h) (cellsIn s h at) =
+    rw (cells-of h) (at-rows s at (h .numbers .columns) (rowsOf h) p) in
     let cells : FieldCells h (cellsIn s h at) = record { long = x .long ∙ sym (cells-of h); each = λ i l. x .each i (omega (arith, cells-of h)) } in
     (cells, stands-whole (fieldText h (cellsIn s h at)) s at (x .stands) (x .ends ∙ omega (arith, length-field h (cellsIn s h at) cells)))
 
@@ -69,15 +72,16 @@ unfolding rowText
 first-byte w zero cells l = absurd (not-suc-le-zero l)
 first-byte w (suc k) cells l = refl
 
-pub field-key : (before : List ℕ) (h : Header) (cells : List ℕ) → 0 < h .planes * h .rows
+pub field-key : (before : List ℕ) (h : Header) (cells : List ℕ) → 0 < h .numbers .planes * h .numbers .rows
     → isPayload (before ++ fieldText h cells) (length before) ≡ false
 unfolding fieldText keyAt
 field-key before h cells l =
     fails-below (λ j. eqb (getD (before ++ fieldText h cells) (length before + j) 0) (getD payloadKey j 0)) 0 8 (omega arith)
-    (rw (getD-append-add before (fieldText h cells) 0 0 ∙ first-byte (h .columns) (rowsOf h) cells l))
+    (rw (getD-append-add before (fieldText h cells) 0 0 ∙ first-byte (h .numbers .columns) (rowsOf h) cells l))
 
-pub field-not-payload : (h : Header) (cells p : List ℕ) → 0 < h .planes * h .rows → payloadText p ≢ fieldText h cells
+pub field-not-payload : (h : Header) (cells p : List ℕ) → 0 < h .numbers .planes * h .numbers .rows
+    → payloadText p ≢ fieldText h cells
 unfolding payloadText fieldText
 field-not-payload h cells p l e =
     let first : 112 ≡ getD (fieldText h cells) 0 0 = ap (λ (t : List ℕ). getD t 0 0) e in
-    omega (arith, first-byte (h .columns) (rowsOf h) cells l)
+    omega (arith, first-byte (h .numbers .columns) (rowsOf h) cells l)

@@ -12,7 +12,9 @@ pub mod FirstRefusal
 pub mod HeaderRest
 pub mod HeaderText
 pub mod HexText
+pub mod KeyParts
 pub mod LineText
+pub mod LinesText
 pub mod NumberText
 pub mod OneCard
 pub mod OutputForms

@@ -5,7 +5,7 @@ use mathlib.Core.List.{List, [], _∷_, _++_}
 use mathlib.Core.Path.{_≡_, refl, _∙_}
 use native.Mathlib.Omega.{arith}
 use lib.ListN.{length, length-append}
-use Rattle.card.specs.declared.header.Line.the-variants as line
+use Rattle.card.specs.declared.line.Line.the-variants as line
 use Rattle.card.specs.Text.{digitCount, decimal, numberLine, feed}
 use Rattle.card.specs.Parse.{keyAt, numberAt, lineAt}
 use Rattle.card.proofs.StandsAt.{StandsAt, stands-left, stands-right, stands-both, one-stands, byte-inside, key-at, at-key}

@@ -12,8 +12,8 @@ use lib.ListN.{length, getD}
 use Rattle.lattice.specs.Shape.{inRange}
 use Rattle.lattice.proofs.Bools.{and-true, and-left, and-right, or-true-left, or-true-right, or-cases}
 use Rattle.lattice.proofs.Limits.{in-range, range-low, range-high, range-below}
-use Rattle.card.specs.declared.header.Line.{Line}
-use Rattle.card.specs.declared.header.Line.the-variants as line
+use Rattle.card.specs.declared.line.Line.{Line}
+use Rattle.card.specs.declared.line.Line.the-variants as line
 use Rattle.card.specs.Text.{digits, digitCount, decimal, feed}
 use Rattle.card.specs.Parse.{isDigit, digitRun, digitsValue, numberEnds, numberAt}
 use Rattle.card.proofs.StandsAt.{StandsAt, stands-left, stands-right, stands-both, stands-one, one-stands}

@@ -21,11 +21,12 @@ use Rattle.card.proofs.HeaderRest.{first-found, header-found}
 use Rattle.card.proofs.TextParses.{textParses}
 
 -- the three tests of a header's numbers make it a card's
-pub card-header : (h : Header) → sizeOk (h .columns) (h .rows) (h .planes) ≡ true → strengthOk (h .planes) (h .strength) ≡ true
+pub card-header : (h : Header) → sizeOk (h .numbers .columns) (h .numbers .rows) (h .numbers .planes) ≡ true
+    → strengthOk (h .numbers .planes) (h .numbers .strength) ≡ true
     → leb (cellsOf (shapeOf h)) maxCardCells ≡ true → CardHeader h
 card-header h size strength few =
     record {
-      accepted = number-accepted (h .columns) (h .rows) (h .planes) (h .strength) size strength;
+      accepted = number-accepted _ _ _ _ size strength;
       cells = leb-true (cellsOf (shapeOf h)) maxCardCells few;
     }
 

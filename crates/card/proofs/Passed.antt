@@ -33,8 +33,8 @@ pub record Passed (s : List ℕ) : Type 0 where
 after-passed : (s : List ℕ) (a : HeaderAnswer) → headerOf s ≡ a → numberAfter s a ≡ 0 → Passed s
 unfolding numberAfter
 after-passed s (head.Found h next) found e =
-    let size = test-passed 0 (sizeOk (h .columns) (h .rows) (h .planes)) _ e in
-    let strength = test-passed 1 (strengthOk (h .planes) (h .strength)) _ (size .1) in
+    let size = test-passed 0 (sizeOk (h .numbers .columns) (h .numbers .rows) (h .numbers .planes)) _ e in
+    let strength = test-passed 1 (strengthOk (h .numbers .planes) (h .numbers .strength)) _ (size .1) in
     let few = test-passed 7 (leb (cellsOf (shapeOf h)) maxCardCells) _ (strength .1) in
     let body = test-passed 7 (bodyOk s h next) _ (few .1) in
     record {

@@ -71,8 +71,8 @@ number-operation s h next short found card right =
     rw (
       le-leb (length s) maxInput short,
       found,
-      size-held (h .columns) (h .rows) (h .planes) (h .strength) (card .accepted),
-      strength-held (h .columns) (h .rows) (h .planes) (h .strength) (card .accepted),
+      size-held _ _ _ _ (card .accepted),
+      strength-held _ _ _ _ (card .accepted),
       le-leb (cellsOf (shapeOf h)) maxCardCells (card .cells),
       right,
     )

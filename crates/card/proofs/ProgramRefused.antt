@@ -58,8 +58,8 @@ encode-length : (h : Header) → CardHeader h → (p : List ℕ)
 unfolding encodeNumber
 encode-length h card p =
     rw (
-      size-held (h .columns) (h .rows) (h .planes) (h .strength) (card .accepted),
-      strength-held (h .columns) (h .rows) (h .planes) (h .strength) (card .accepted),
+      size-held _ _ _ _ (card .accepted),
+      strength-held _ _ _ _ (card .accepted),
       eq-eqb (length (blankField h)) (planCells (shapeOf h)) (blank-field h ∙ sym (plan-cells (shapeOf h) (card .accepted))),
     )
 

@@ -43,13 +43,15 @@ module _ (s : List ℕ) (h : Header) (next : ℕ) (found : headerOf s ≡ head.F
         (r .1),
   )
 
-  pub size-condition : Decides (sizeOk (h .columns) (h .rows) (h .planes)) (SizeRefused s)
+  pub size-condition : Decides (sizeOk (h .numbers .columns) (h .numbers .rows) (h .numbers .planes)) (SizeRefused s)
   size-condition =
-      decides-same (start-condition (λ g r. BadSize (g .columns) (g .rows) (g .planes))) (size-decides (h .columns) (h .rows) (h .planes))
+      decides-same (start-condition (λ g r. let n = g .numbers in BadSize (n .columns) (n .rows) (n .planes)))
+      (size-decides (h .numbers .columns) (h .numbers .rows) (h .numbers .planes))
 
-  pub strength-condition : Decides (strengthOk (h .planes) (h .strength)) (StrengthRefused s)
+  pub strength-condition : Decides (strengthOk (h .numbers .planes) (h .numbers .strength)) (StrengthRefused s)
   strength-condition =
-      decides-same (start-condition (λ g r. BadStrength (g .planes) (g .strength))) (strength-decides (h .planes) (h .strength))
+      decides-same (start-condition (λ g r. BadStrength (g .numbers .planes) (g .numbers .strength)))
+      (strength-decides (h .numbers .planes) (h .numbers .strength))
 
   pub cells-condition : Decides (leb (cellsOf (shapeOf h)) maxCardCells) (TooManyCells s)
   cells-condition =

@@ -3,8 +3,6 @@ use Prim.Native.Nat.{ℕ, _*_, _/_, _<_, _≤_}
 use mathlib.Core.Bool.{Bool}
 use mathlib.Core.List.{List, _++_, append-assoc}
 use mathlib.Core.Path.{_≡_, sym, ap, ap₂, _∙_}
-use native.Mathlib.Nat.{le-trans}
-use lib.Dec.{lit≤}
 use lib.ListN.{length}
 use borrow.Author.Tests.{eq-eqb, ne-eqb}
 use Rattle.lattice.specs.declared.shape.Shape.{Shape}
@@ -12,15 +10,11 @@ use Rattle.lattice.specs.declared.shape.NewShape.{NewShape}
 use Rattle.lattice.specs.declared.shape.NewShape.the-variants as new
 use Rattle.lattice.specs.Refusal.{figure}
 use Rattle.lattice.specs.Answer.{newNumber, newShape, IsNewShape}
-use Rattle.lattice.specs.Shape.{shapeNumber, numberOf, cellsOf}
+use Rattle.lattice.specs.Shape.{numberOf, cellsOf}
 use Rattle.lattice.specs.Settings.{settingsOf}
 use Rattle.lattice.specs.Class.{classAt}
 use Rattle.lattice.specs.Position.{capacity}
-use Rattle.lattice.proofs.CapacityGiven.{classes-given}
 use Rattle.lattice.proofs.Figure.{figure-given}
-use Rattle.codec.specs.declared.decode.DecodeAnswer.{DecodeAnswer}
-use Rattle.codec.specs.declared.decode.DecodeAnswer.the-variants as dec
-use Rattle.codec.specs.Answer.{decodeAnswerNumber}
 use Rattle.codec.specs.Payload.{Bytes}
 use Rattle.codec.specs.Plan.{planClasses, planCapacity, planBytes}
 use Rattle.codec.specs.Encode.{encodedField, encodeLeaves}
@@ -34,7 +28,7 @@ use Rattle.card.specs.Parse.{rowsOk, cellsAt}
 use Rattle.card.specs.Program.{blankPayload, rowsFit, cellsIn, writtenText, readText}
 use Rattle.card.specs.Working.{CardShape, headText, decodedText}
 use Rattle.card.proofs.CardLimits.{limits, rows-most, bytes-most}
-use Rattle.card.proofs.CardPlan.{count-cells, leaves-long}
+use Rattle.card.proofs.CardPlan.{leaves-long}
 use Rattle.card.proofs.PrintedIsRead.{written-cells}
 use Rattle.card.proofs.ProgramParts.{blank-payload}
 use Rattle.card.proofs.StepRows.{cellByte}
@@ -45,24 +39,25 @@ shape-is : (s : Shape) (w h d t : ℕ) → s .columns ≡ w → s .rows ≡ h �
 shape-is s w h d t p q r u = rw (← p, ← q, ← r, ← u)
 
 -- the constructor's answer to a header
-module _ (h : Header) (r : NewShape) (x : IsNewShape (h .columns) (h .rows) (h .planes) (h .strength) r) where
-  pub new-size : r ≡ new.BadSize → shapeNumber (h .columns) (h .rows) (h .planes) (h .strength) ≡ 1
+module _ (h : Header) (r : NewShape)
+    (x : IsNewShape (h .numbers .columns) (h .numbers .rows) (h .numbers .planes) (h .numbers .strength) r) where
+  pub new-size : r ≡ new.BadSize → numberOf (shapeOf h) ≡ 1
   new-size e = sym (x .number) ∙ ap newNumber e
 
-  pub new-strength : r ≡ new.BadStrength → shapeNumber (h .columns) (h .rows) (h .planes) (h .strength) ≡ 2
+  pub new-strength : r ≡ new.BadStrength → numberOf (shapeOf h) ≡ 2
   new-strength e = sym (x .number) ∙ ap newNumber e
 
   module _ (s : Shape) (e : r ≡ new.Accepted s) where
-    pub new-accepted : shapeNumber (h .columns) (h .rows) (h .planes) (h .strength) ≡ 0
+    pub new-accepted : numberOf (shapeOf h) ≡ 0
     new-accepted = sym (x .number) ∙ ap newNumber e
 
     -- a field of the shape is the header's
-    part : (f : Shape → ℕ) (y : ℕ) → f (newShape r) ≡ figure (shapeNumber (h .columns) (h .rows) (h .planes) (h .strength)) y → f s ≡ y
+    part : (f : Shape → ℕ) (y : ℕ) → f (newShape r) ≡ figure (numberOf (shapeOf h)) y → f s ≡ y
     part f y p = ap (λ (t : NewShape). f (newShape t)) (sym e) ∙ p ∙ figure-given _ y new-accepted
 
     new-shape : s ≡ shapeOf h
     new-shape =
-        shape-is s (h .columns) (h .rows) (h .planes) (h .strength)
+        shape-is s (h .numbers .columns) (h .numbers .rows) (h .numbers .planes) (h .numbers .strength)
         (part (λ t. t .columns) _ (x .columns))
         (part (λ t. t .rows) _ (x .rows))
         (part (λ t. t .planes) _ (x .planes))
@@ -79,17 +74,6 @@ module _ (h : Header) (r : NewShape) (x : IsNewShape (h .columns) (h .rows) (h .
 
     pub new-card : (n : ℕ) → n ≡ figure (numberOf s) (cellsOf s) → n ≤ 16384 → CardShape h s
     new-card n p l = record { card = record { accepted = new-accepted; cells = rw (cells-given n p) at l }; shape = new-shape }
-
--- the number of decoding's answer is at most 7
-pub number-most : (a : DecodeAnswer) → decodeAnswerNumber a ≤ 7
-number-most (dec.Decoded k) = lit≤ tt
-number-most dec.BadSize = lit≤ tt
-number-most dec.BadStrength = lit≤ tt
-number-most dec.PayloadLength = lit≤ tt
-number-most dec.FieldLength = lit≤ tt
-number-most dec.BadCell = lit≤ tt
-number-most dec.OutOfReach = lit≤ tt
-number-most dec.BadPadding = lit≤ tt
 
 -- the figures of a card's shape
 module _ (h : Header) (s : Shape) (x : CardShape h s) where
@@ -108,9 +92,6 @@ module _ (h : Header) (s : Shape) (x : CardShape h s) where
 
   pub bytes-fit : planBytes s ≤ 2048
   bytes-fit = rw (x .shape) (bytes-most h (x .card))
-
-  pub classes-fit : (m : ℕ) → m ≡ figure (numberOf s) (settingsOf s .m) → m ≤ 512
-  classes-fit m e = rw e (classes-given s)
 
   pub columns-some : 0 < s .columns
   columns-some = rw (x .shape) (limits h (x .card) .width-low)
@@ -152,9 +133,6 @@ module _ (h : Header) (s : Shape) (x : CardShape h s) where
     pub decoded-refused : (n : ℕ) → n ≡ decodeNumber s payload cells → (n ≡ 0 → ⊥) → refusalText n ≡ decodedText h cells
     unfolding decodedText
     decoded-refused n e p = rw (← same-number, ← e, ne-eqb n 0 p)
-
-    pub count-fits : (k : ℕ) → k ≡ decodeCount s payload cells → k ≤ 16384
-    count-fits k e = rw e (le-trans (count-cells s payload cells) (rw (x .shape) (x .card .cells)))
 
     module _ (last : List ℕ) (leaves : last ≡ decodeLeaves s payload cells) where
       pub decoded-long : length last ≤ 2048

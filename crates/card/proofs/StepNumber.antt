@@ -13,8 +13,8 @@ use borrow.Author.Tests.{eq-eqb, ne-eqb, eqb-true}
 use Rattle.lattice.specs.Shape.{inRange}
 use Rattle.lattice.proofs.Bools.{and-left, and-right}
 use Rattle.lattice.proofs.Limits.{range-low, range-high}
-use Rattle.card.specs.declared.header.Line.{Line}
-use Rattle.card.specs.declared.header.Line.the-variants as line
+use Rattle.card.specs.declared.line.Line.{Line}
+use Rattle.card.specs.declared.line.Line.the-variants as line
 use Rattle.card.specs.Parse.{isDigit, digitRun, digitsValue, numberEnds, numberAt, keyAt, lineAt}
 use Rattle.card.proofs.StandsAt.{byte-inside}
 use Rattle.card.proofs.Digits.{DigitsAt, digits-run, run-digits, value-below}

@@ -7,7 +7,7 @@ use native.Mathlib.Omega.{arith}
 use lib.ListN.{length}
 use borrow.Author.Tests.{le-leb, lt-leb, ne-eqb}
 use Rattle.lattice.specs.Refusal.{unless}
-use Rattle.lattice.specs.Shape.{sizeOk, strengthOk, shapeNumber, cellsOf}
+use Rattle.lattice.specs.Shape.{sizeOk, strengthOk, shapeNumber, numberOf, cellsOf}
 use Rattle.lattice.proofs.Limits.{size-held, strength-held}
 use Rattle.codec.specs.Plan.{planBytes}
 use Rattle.codec.specs.Encode.{encodeNumber}
@@ -49,25 +49,27 @@ module _ (s : List ℕ) (h : Header) (next : ℕ) (x : HeaderRead s h next) wher
   unfolding programNumber
   number-after = rw (le-leb (length s) maxInput (x .short), x .found)
 
-  pub bad-size : shapeNumber (h .columns) (h .rows) (h .planes) (h .strength) ≡ 1 → answer s ≡ refusalText 1
+  pub bad-size : numberOf (shapeOf h) ≡ 1 → answer s ≡ refusalText 1
   unfolding numberAfter shapeNumber
   bad-size e =
-      let f = size-fails (sizeOk (h .columns) (h .rows) (h .planes)) (strengthOk (h .planes) (h .strength)) e in
+      let n = h .numbers in
+      let f = size-fails (sizeOk (n .columns) (n .rows) (n .planes)) (strengthOk (n .planes) (n .strength)) e in
       refused s 0 (number-after ∙ rw f)
 
-  pub bad-strength : shapeNumber (h .columns) (h .rows) (h .planes) (h .strength) ≡ 2 → answer s ≡ refusalText 2
+  pub bad-strength : numberOf (shapeOf h) ≡ 2 → answer s ≡ refusalText 2
   unfolding numberAfter shapeNumber
   bad-strength e =
-      let f = strength-fails (sizeOk (h .columns) (h .rows) (h .planes)) (strengthOk (h .planes) (h .strength)) e in
+      let n = h .numbers in
+      let f = strength-fails (sizeOk (n .columns) (n .rows) (n .planes)) (strengthOk (n .planes) (n .strength)) e in
       refused s 1 (number-after ∙ rw (f .0, f .1))
 
-  pub too-many : shapeNumber (h .columns) (h .rows) (h .planes) (h .strength) ≡ 0 → maxCardCells < cellsOf (shapeOf h) → answer s ≡ refusalText 8
+  pub too-many : numberOf (shapeOf h) ≡ 0 → maxCardCells < cellsOf (shapeOf h) → answer s ≡ refusalText 8
   unfolding numberAfter
   too-many e l =
       refused s 7
       (number-after
       ∙ rw
-      (size-held (h .columns) (h .rows) (h .planes) (h .strength) e, strength-held (h .columns) (h .rows) (h .planes) (h .strength) e, lt-leb (cellsOf (shapeOf h)) maxCardCells l))
+      (size-held _ _ _ _ e, strength-held _ _ _ _ e, lt-leb (cellsOf (shapeOf h)) maxCardCells l))
 
   module _ (card : CardHeader h) where
     bad-body : bodyOk s h next ≡ false → answer s ≡ refusalText 8
@@ -76,8 +78,8 @@ module _ (s : List ℕ) (h : Header) (next : ℕ) (x : HeaderRead s h next) wher
         refused s 7
         (number-after
         ∙ rw (
-          size-held (h .columns) (h .rows) (h .planes) (h .strength) (card .accepted),
-          strength-held (h .columns) (h .rows) (h .planes) (h .strength) (card .accepted),
+          size-held _ _ _ _ (card .accepted),
+          strength-held _ _ _ _ (card .accepted),
           le-leb (cellsOf (shapeOf h)) maxCardCells (card .cells),
           e,
         ))
@@ -98,8 +100,8 @@ module _ (s : List ℕ) (h : Header) (next : ℕ) (x : HeaderRead s h next) wher
             (number-operation s h next (x .short) (x .found) card right
             ∙ operation-payload s h next payload
             ∙ rw (
-              size-held (h .columns) (h .rows) (h .planes) (h .strength) (card .accepted),
-              strength-held (h .columns) (h .rows) (h .planes) (h .strength) (card .accepted),
+              size-held _ _ _ _ (card .accepted),
+              strength-held _ _ _ _ (card .accepted),
               ne-eqb (length (payloadOf s next)) (planBytes (shapeOf h)) p,
             ))
 

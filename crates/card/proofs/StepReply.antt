@@ -8,7 +8,7 @@ use lib.ListN.{length, length-append}
 use borrow.Author.Tests.{le-leb, lt-leb}
 use Rattle.codec.specs.Field.{fieldOf, Cells}
 use Rattle.card.specs.declared.header.Header.{Header}
-use Rattle.card.specs.Text.{numberLine, headerText, columnsKey, rowsKey, planesKey, strengthKey}
+use Rattle.card.specs.Text.{headerKeys, numberLine, headerText}
 use Rattle.card.specs.Card.{FieldCells, CardHeader}
 use Rattle.card.specs.Program.{outputLeaves}
 use Rattle.card.specs.Working.{Room, Printed, Answered, headText}
@@ -16,6 +16,7 @@ use Rattle.card.proofs.CardLimits.{limits, rows-most}
 use Rattle.card.proofs.DecimalText.{digit-count-range}
 use Rattle.card.proofs.HeaderText.{header-most}
 use Rattle.card.proofs.LineText.{length-line}
+use Rattle.card.proofs.LinesText.{linesMost}
 use Rattle.card.proofs.StepPrint.{printed-then, printed-front, room-first, room-next}
 
 -- an output that is too short is left as it was
@@ -34,47 +35,6 @@ answered-printed {text} {before} room p =
 
 pub room-front : (text before : List ℕ) (r : ℕ) → r ≡ length text → r ≤ length before → Room before 0 text
 room-front text before r e l = record { fits = omega arith }
-
--- the first lines
-module _ (h : Header) where
-  abbrev second : List ℕ
-  second = numberLine rowsKey (h .rows)
-
-  abbrev third : List ℕ
-  third = numberLine planesKey (h .planes)
-
-  abbrev fourth : List ℕ
-  fourth = numberLine strengthKey (h .strength)
-
-module _ {xs : List ℕ} {at : ℕ} (h : Header) (room : Room xs at (headerText h)) where
-  whole : Room xs at (numberLine columnsKey (h .columns) ++ (second h ++ (third h ++ fourth h)))
-  unfolding headerText
-  whole = room
-
-  pub first-room : Room xs at (numberLine columnsKey (h .columns))
-  first-room = room-first (second h ++ (third h ++ fourth h)) whole
-
-  module _ {ys : List ℕ} {m : ℕ} (p : Printed xs ys at (numberLine columnsKey (h .columns)) m) where
-    rows-rest : Room ys m (second h ++ (third h ++ fourth h))
-    rows-rest = room-next whole p
-
-    pub second-room : Room ys m (second h)
-    second-room = room-first (third h ++ fourth h) rows-rest
-
-    module _ {zs : List ℕ} {n : ℕ} (q : Printed ys zs m (second h) n) where
-      planes-rest : Room zs n (third h ++ fourth h)
-      planes-rest = room-next rows-rest q
-
-      pub third-room : Room zs n (third h)
-      third-room = room-first (fourth h) planes-rest
-
-      module _ {us : List ℕ} {k : ℕ} (r : Printed zs us n (third h) k) where
-        pub fourth-room : Room us k (fourth h)
-        fourth-room = room-next planes-rest r
-
-        pub header-printed : {vs : List ℕ} {next : ℕ} → Printed us vs k (fourth h) next → Printed xs vs at (headerText h) next
-        unfolding headerText
-        header-printed f = printed-then whole p (printed-then rows-rest q (printed-then planes-rest r f))
 
 -- the head of a success
 module _ {xs : List ℕ} {at : ℕ} (h : Header) (key : List ℕ) (n : ℕ) (room : Room xs at (headText h key n)) where
@@ -99,7 +59,7 @@ length-head h key n = length-append (headerText h) (numberLine key n)
 
 -- the head is short
 module _ (h : Header) where
-  pub head-most : (key : List ℕ) (n : ℕ) → length (headText h key n) ≤ 59 + length key
+  pub head-most : (key : List ℕ) (n : ℕ) → length (headText h key n) ≤ linesMost headerKeys + (length key + 6)
   head-most key n = omega (arith, length-head h key n, header-most h, length-line key n, digit-count-range n)
 
 -- a success: the head and the rest
@@ -116,14 +76,14 @@ module _ (h : Header) (key : List ℕ) (n : ℕ) (rest : List ℕ) where
 
 -- the rows of a field
 module _ (h : Header) (cells : List ℕ) (f : FieldCells h cells) where
-  pub field-long : length cells ≡ h .planes * h .rows * h .columns
+  pub field-long : length cells ≡ h .numbers .planes * h .numbers .rows * h .numbers .columns
   field-long = f .long ∙ omega arith
 
   pub field-each : Cells (fieldOf cells) (length cells)
   field-each = rw (f .long) (f .each)
 
 -- its length fits
-pub rows-far : (h : Header) → CardHeader h → h .planes * h .rows * (h .columns + 5) ≤ 1069056
+pub rows-far : (h : Header) → CardHeader h → h .numbers .planes * h .numbers .rows * (h .numbers .columns + 5) ≤ 1069056
 rows-far h card =
-    let wide : h .columns + 5 ≤ 261 = omega (arith, limits h card .width-high) in
+    let wide : h .numbers .columns + 5 ≤ 261 = omega (arith, limits h card .width-high) in
     mul-le-mul (rows-most h card) wide

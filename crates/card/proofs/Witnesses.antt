@@ -20,7 +20,7 @@ use Rattle.card.proofs.TextParses.{textParses}
 
 -- its header is one of a card
 abbrev pub header : Header
-header = record { columns = 5; rows = 5; planes = 1; strength = 3 }
+header = record { numbers = record { columns = 5; rows = 5; planes = 1; strength = 3 } }
 
 pub card : CardHeader header
 card = record { accepted = accepted; cells = lit≤ tt }

@@ -1,14 +1,14 @@
 -- A card: its limits, its header, its cells, and its text.
 use Prim.Native.Nat.{ℕ, _<_, _≤_}
-use mathlib.Core.List.{List, _++_}
+use mathlib.Core.List.{List, [], _∷_, _++_}
 use mathlib.Core.Path.{_≡_}
 use lib.ListN.{length}
 use Rattle.lattice.specs.declared.shape.Shape.{Shape}
-use Rattle.lattice.specs.Shape.{cellsOf}
+use Rattle.lattice.specs.Shape.{shapeFrom, cellsOf}
 use Rattle.codec.specs.Field.{fieldOf, Cells}
 use Rattle.codec.specs.Plan.{planNumber}
 use Rattle.card.specs.declared.header.Header.{Header}
-use Rattle.card.specs.Text.{headerText, payloadText, fieldText}
+use Rattle.card.specs.Text.{NumberLine, headerLines, headerText, payloadText, fieldText}
 
 -- the limits: 65,536 bytes of input and 16,384 cells
 abbrev pub maxInput : ℕ
@@ -23,14 +23,16 @@ maxAnswer = 36915
 
 -- the shape that a header names
 abbrev pub shapeOf : Header → Shape
-shapeOf h = record { columns = h .columns; rows = h .rows; planes = h .planes; strength = h .strength }
+shapeOf h = shapeFrom (h .numbers)
+
+-- the numbers of lines have at most five digits
+abbrev pub SmallLines : List NumberLine → Type 0
+SmallLines [] = Unit {0}
+SmallLines (l ∷ ls) = (l .number < 100000) × SmallLines ls
 
 -- the header's numbers have at most five digits
-pub record Small (h : Header) : Type 0 where
-  pub columns : h .columns < 100000
-  pub rows : h .rows < 100000
-  pub planes : h .planes < 100000
-  pub strength : h .strength < 100000
+abbrev pub Small : Header → Type 0
+Small h = SmallLines (headerLines h)
 
 -- a header whose shape the plan accepts, with at most 16,384 cells
 pub record CardHeader (h : Header) : Type 0 where

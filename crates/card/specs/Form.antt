@@ -34,16 +34,16 @@ pub data Body (h : Header) (rest : List ℕ) : Type 0 where
 abbrev pub TooLong : List ℕ → Type 0
 TooLong s = maxInput < length s
 
--- 8: the first four lines are the text of no header
+-- 8: the first lines are the text of no header
 abbrev pub NoHeader : List ℕ → Type 0
 NoHeader s = ¬ HeaderFirst s
 
 -- 1, 2: the header's shape is outside the limits
 abbrev pub SizeRefused : List ℕ → Type 0
-SizeRefused s = (x : HeaderFirst s) × BadSize (x .header .columns) (x .header .rows) (x .header .planes)
+SizeRefused s = (x : HeaderFirst s) × (let n = x .header .numbers in BadSize (n .columns) (n .rows) (n .planes))
 
 abbrev pub StrengthRefused : List ℕ → Type 0
-StrengthRefused s = (x : HeaderFirst s) × BadStrength (x .header .planes) (x .header .strength)
+StrengthRefused s = (x : HeaderFirst s) × (let n = x .header .numbers in BadStrength (n .planes) (n .strength))
 
 -- 8: more than 16,384 cells
 abbrev pub TooManyCells : List ℕ → Type 0

@@ -1,17 +1,17 @@
 -- How a card text is read: what stands at a position of the input. `getD s i 0` is byte i, and 0, which no card text has, past the end.
 use Prim.Native.Nat.{ℕ, zero, suc, _+_, _-_, _*_, _/_, _%_}
 use mathlib.Core.Bool.{Bool, cond, not, _&&_, _||_}
-use mathlib.Core.List.{List}
+use mathlib.Core.List.{List, [], _∷_, _++_}
 use lib.Dec.{ltb, eqb}
 use lib.ListN.{length, getD}
 use Rattle.lattice.specs.Shape.{inRange}
 use Rattle.lattice.specs.Position.{allBelow}
 use Rattle.codec.specs.Field.{listOf}
-use Rattle.card.specs.declared.header.Line.{Line}
-use Rattle.card.specs.declared.header.Line.the-variants as line
+use Rattle.card.specs.declared.line.Line.{Line}
+use Rattle.card.specs.declared.line.Line.the-variants as line
 use Rattle.card.specs.declared.header.HeaderAnswer.{HeaderAnswer}
 use Rattle.card.specs.declared.header.HeaderAnswer.the-variants as head
-use Rattle.card.specs.Text.{columnsKey, rowsKey, planesKey, strengthKey, payloadKey, rowKey, feed}
+use Rattle.card.specs.Text.{headerKeys, headerFrom, payloadKey, rowKey, feed}
 
 -- the bytes of a key stand at position `at`
 unfoldable pub keyAt : List ℕ → List ℕ → ℕ → Bool
@@ -45,25 +45,33 @@ numberAt s at =
 unfoldable pub lineAt : List ℕ → List ℕ → ℕ → Line
 lineAt key s at = cond (keyAt key s at) (numberAt s (at + length key)) line.Fault
 
--- the first four lines: the header, and where the rest starts
-abbrev pub withStrength : ℕ → ℕ → ℕ → Line → HeaderAnswer
-withStrength w h d (line.Number t next) = head.Found (record { columns = w; rows = h; planes = d; strength = t }) next
-withStrength w h d line.Fault = head.Fault
+-- what is read of lines: their numbers and where the rest starts, or a fault
+pub data LinesRead : Type 0 where
+  read : List ℕ → ℕ → LinesRead
+  fault : LinesRead
 
-abbrev pub withPlanes : List ℕ → ℕ → ℕ → Line → HeaderAnswer
-withPlanes s w h (line.Number d next) = withStrength w h d (lineAt strengthKey s next)
-withPlanes s w h line.Fault = head.Fault
+-- numbers put before those that are read
+abbrev pub before : List ℕ → LinesRead → LinesRead
+before ns (read ms next) = read (ns ++ ms) next
+before ns fault = fault
 
-abbrev pub withRows : List ℕ → ℕ → Line → HeaderAnswer
-withRows s w (line.Number h next) = withPlanes s w h (lineAt planesKey s next)
-withRows s w line.Fault = head.Fault
+-- one line, then the others from where it ends
+abbrev pub afterLine : (ℕ → LinesRead) → Line → LinesRead
+afterLine others (line.Number n next) = before (n ∷ []) (others next)
+afterLine others line.Fault = fault
 
-abbrev pub withColumns : List ℕ → Line → HeaderAnswer
-withColumns s (line.Number w next) = withRows s w (lineAt rowsKey s next)
-withColumns s line.Fault = head.Fault
+-- the lines of these keys from `at` on, in this order
+abbrev pub linesAt : List (List ℕ) → List ℕ → ℕ → LinesRead
+linesAt [] s at = read [] at
+linesAt (key ∷ keys) s at = afterLine (linesAt keys s) (lineAt key s at)
+
+-- the first lines: the header, and where the rest starts
+abbrev pub headerRead : LinesRead → HeaderAnswer
+headerRead (read ns next) = head.Found (headerFrom ns) next
+headerRead fault = head.Fault
 
 unfoldable pub headerOf : List ℕ → HeaderAnswer
-headerOf s = withColumns s (lineAt columnsKey s 0)
+headerOf s = headerRead (linesAt headerKeys s 0)
 
 -- a lower-case hexadecimal digit, and its value
 unfoldable pub isHex : ℕ → Bool

@@ -28,10 +28,10 @@ abbrev pub isPayload : List ℕ → ℕ → Bool
 isPayload s next = keyAt payloadKey s next
 
 abbrev pub rowsFit : List ℕ → Header → ℕ → Bool
-rowsFit s h next = rowsOk s next (h .columns) (h .planes * h .rows)
+rowsFit s h next = rowsOk s next (h .numbers .columns) (h .numbers .planes * h .numbers .rows)
 
 abbrev pub cellsIn : List ℕ → Header → ℕ → List ℕ
-cellsIn s h next = cellsAt s next (h .columns) (cellsOf (shapeOf h))
+cellsIn s h next = cellsAt s next (h .numbers .columns) (cellsOf (shapeOf h))
 
 -- the form of the lines after the header is right
 unfoldable pub bodyOk : List ℕ → Header → ℕ → Bool
@@ -48,29 +48,30 @@ operationNumber s h next =
 unfoldable pub numberAfter : List ℕ → HeaderAnswer → ℕ
 numberAfter s head.Fault = 8
 numberAfter s (head.Found h next) =
-    unless (sizeOk (h .columns) (h .rows) (h .planes)) 1
-    (unless (strengthOk (h .planes) (h .strength)) 2
+    let n = h .numbers in
+    unless (sizeOk (n .columns) (n .rows) (n .planes)) 1
+    (unless (strengthOk (n .planes) (n .strength)) 2
     (unless (leb (cellsOf (shapeOf h)) maxCardCells) 8
     (unless (bodyOk s h next) 8
     (operationNumber s h next))))
 
--- the number: 8 for more than 65,536 bytes, 8 for a fault in the first four lines, then the rest
+-- the number: 8 for more than 65,536 bytes, 8 for a fault in the first lines, then the rest
 unfoldable pub programNumber : List ℕ → ℕ
 programNumber s = unless (leb (length s) maxInput) 8 (numberAfter s (headerOf s))
 
--- what is printed of a payload: the four lines, `classes` and the rows
+-- what is printed of a payload: the first lines, `classes` and the rows
 unfoldable pub writtenText : Header → List ℕ → List ℕ
 writtenText h p =
     headerText h ++ (numberLine classesKey (planClasses (shapeOf h)) ++ fieldText h (encodedField (shapeOf h) p))
 
--- what is printed of rows: the four lines, `mended` and `payload`
+-- what is printed of rows: the first lines, `mended` and `payload`
 unfoldable pub readText : Header → List ℕ → List ℕ
 readText h cells =
     headerText h
     ++ (numberLine mendedKey (decodeCount (shapeOf h) (blankPayload h) cells)
     ++ payloadText (decodeLeaves (shapeOf h) (blankPayload h) cells))
 
--- a success; a fault in the first four lines is none, and is refused with 8 before this is asked
+-- a success; a fault in the first lines is none, and is refused with 8 before this is asked
 unfoldable pub successText : List ℕ → HeaderAnswer → List ℕ
 successText s head.Fault = refusalText 8
 successText s (head.Found h next) = cond (isPayload s next) (writtenText h (payloadOf s next)) (readText h (cellsIn s h next))

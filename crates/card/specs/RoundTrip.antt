@@ -49,7 +49,7 @@ pub record ReadBack (h : Header) (p : List ℕ) : Type 0 where
 pub record PrintedIsRead : Type 1 where
   pub whole : (h : Header) → CardHeader h → (p : List ℕ) → length p ≡ planBytes (shapeOf h) → Bytes p → ReadBack h p
   pub damaged : (h : Header) → CardHeader h → (p : List ℕ) → length p ≡ planBytes (shapeOf h) → Bytes p
-      → (S : Cell → Type 0) → Cluster (shapeOf h) S → AtMost (h .strength) S
+      → (S : Cell → Type 0) → Cluster (shapeOf h) S → AtMost (h .numbers .strength) S
       → (selected : Cell → Bool) → ((x : Cell) → selected x ≡ true → S x)
       → answer (fieldCard h (damagedField (shapeOf h) p selected))
       ≡ headerText h

@@ -5,7 +5,7 @@ use Prim.Native.String.{String, [] as []ˢ, _∷_ as _∷ˢ_}
 use mathlib.Core.Bool.{cond}
 use mathlib.Core.List.{List, [], _∷_, _++_, map}
 use lib.Dec.{ltb}
-use lib.ListN.{take, drop}
+use lib.ListN.{getD, take, drop}
 use Rattle.card.specs.declared.header.Header.{Header}
 
 -- the codes of a text's characters
@@ -13,19 +13,11 @@ abbrev pub ascii : String → List ℕ
 ascii []ˢ = []
 ascii (c ∷ˢ s) = code c ∷ ascii s
 
--- the keys of the lines
-abbrev pub columnsKey : List ℕ
-columnsKey = ascii "columns="
+-- the keys of the first lines, in their order
+abbrev pub headerKeys : List (List ℕ)
+headerKeys = ascii "columns=" ∷ ascii "rows=" ∷ ascii "planes=" ∷ ascii "strength=" ∷ []
 
-abbrev pub rowsKey : List ℕ
-rowsKey = ascii "rows="
-
-abbrev pub planesKey : List ℕ
-planesKey = ascii "planes="
-
-abbrev pub strengthKey : List ℕ
-strengthKey = ascii "strength="
-
+-- the keys of the other lines
 abbrev pub payloadKey : List ℕ
 payloadKey = ascii "payload="
 
@@ -60,13 +52,36 @@ decimal n = digits (digitCount n) n
 unfoldable pub numberLine : List ℕ → ℕ → List ℕ
 numberLine key n = key ++ (decimal n ++ (feed ∷ []))
 
--- the first four lines
+-- such a line: its key and its number
+pub record NumberLine : Type 0 where
+  pub key : List ℕ
+  pub number : ℕ
+
+-- the texts of lines end to end
+abbrev pub linesText : List NumberLine → List ℕ
+linesText [] = []
+linesText (l ∷ ls) = numberLine (l .key) (l .number) ++ linesText ls
+
+-- the lines of these keys with these numbers
+abbrev pub linesOf : List (List ℕ) → List ℕ → List NumberLine
+linesOf [] ns = []
+linesOf (key ∷ keys) [] = []
+linesOf (key ∷ keys) (n ∷ ns) = record { key = key; number = n } ∷ linesOf keys ns
+
+-- the numbers of a header in the order of their keys, and the header of such numbers
+abbrev pub headerNumbers : Header → List ℕ
+headerNumbers h = let n = h .numbers in n .columns ∷ n .rows ∷ n .planes ∷ n .strength ∷ []
+
+abbrev pub headerFrom : List ℕ → Header
+headerFrom ns =
+    record { numbers = record { columns = getD ns 0 0; rows = getD ns 1 0; planes = getD ns 2 0; strength = getD ns 3 0 } }
+
+-- the first lines, and their text
+abbrev pub headerLines : Header → List NumberLine
+headerLines h = linesOf headerKeys (headerNumbers h)
+
 unfoldable pub headerText : Header → List ℕ
-headerText h =
-    numberLine columnsKey (h .columns)
-    ++ (numberLine rowsKey (h .rows)
-    ++ (numberLine planesKey (h .planes)
-    ++ numberLine strengthKey (h .strength)))
+headerText h = linesText (headerLines h)
 
 -- lower-case hexadecimal, two digits a byte
 unfoldable pub hexDigit : ℕ → ℕ
@@ -94,7 +109,7 @@ rowsText w (suc k) cells = rowText (take w cells) ++ rowsText w k (drop w cells)
 
 -- the rows of a field
 unfoldable pub fieldText : Header → List ℕ → List ℕ
-fieldText h cells = rowsText (h .columns) (h .planes * h .rows) cells
+fieldText h cells = rowsText (h .numbers .columns) (h .numbers .planes * h .numbers .rows) cells
 
 -- a refusal, alone
 unfoldable pub refusalText : ℕ → List ℕ

@@ -1,7 +1,7 @@
 -- What the work buffers of the program hold. Only contracts of functions that are private to the crate cite this file; no promise to a caller rests on it.
 use Prim.Native.Nat.{ℕ, _+_, _<_, _≤_}
 use mathlib.Core.Bool.{cond}
-use mathlib.Core.List.{List, _++_}
+use mathlib.Core.List.{List, [], _∷_, _++_}
 use mathlib.Core.Path.{_≡_}
 use lib.Dec.{eqb}
 use lib.ListN.{length, take, drop}
@@ -13,6 +13,11 @@ use Rattle.card.specs.Text.{numberLine, headerText, refusalText}
 use Rattle.card.specs.Card.{maxInput, shapeOf, CardHeader}
 use Rattle.card.specs.Parse.{headerOf}
 use Rattle.card.specs.Program.{blankPayload, readText, outputLeaves}
+
+-- keys end to end
+abbrev pub joined : List (List ℕ) → List ℕ
+joined [] = []
+joined (key ∷ keys) = key ++ joined keys
 
 -- rows of w digits from `at` are to be stored in a field
 pub record CellsFit (s : List ℕ) (at w : ℕ) (field : List ℕ) : Type 0 where

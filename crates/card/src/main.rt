@@ -1,6 +1,8 @@
 // The card program: reads a card text from standard input and writes the answer to standard output.
 mod body;
 mod header;
+mod keys;
+mod line;
 mod print;
 mod reply;
 mod run;

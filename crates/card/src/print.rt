@@ -30,7 +30,7 @@ fn put_bytes(out: &mut [u8], at: usize, text: &[u8]) -> usize
 }
 
 // The number of decimal digits of a number below 100,000; 5 for any above.
-fn digit_count(n: u32) -> usize
+fn digit_count(n: usize) -> usize
     ensures { λ r. ⌜ r ≡ digitCount n ⌝ }
 {
     if n < 10 {
@@ -46,7 +46,7 @@ fn digit_count(n: u32) -> usize
 }
 
 // Writes the last k decimal digits of a number.
-fn put_digits(out: &mut [u8], at: usize, k: usize, n: u32) -> usize
+fn put_digits(out: &mut [u8], at: usize, k: usize, n: usize) -> usize
     requires { ⌜ Room (now out) at (digits k n) ⌝ }
     ensures { λ r. ⌜ Printed (now (out .entry)) (now (out .exit)) at (digits k n) r ⌝ }
 {
@@ -58,7 +58,7 @@ fn put_digits(out: &mut [u8], at: usize, k: usize, n: u32) -> usize
 }
 
 // Writes a line key=number.
-pub(crate) fn put_number_line(out: &mut [u8], at: usize, key: &[u8], n: u32) -> usize
+pub(crate) fn put_number_line(out: &mut [u8], at: usize, key: &[u8], n: usize) -> usize
     requires { ⌜ Room (now out) at (numberLine (now key) n) ⌝ }
     ensures { λ r. ⌜ Printed (now (out .entry)) (now (out .exit)) at (numberLine (now (key .entry)) n) r ⌝ }
 {
@@ -68,7 +68,7 @@ pub(crate) fn put_number_line(out: &mut [u8], at: usize, key: &[u8], n: u32) -> 
 }
 
 // The length of a line key=number.
-pub fn number_line_length(key: &[u8], n: u32) -> usize
+pub fn number_line_length(key: &[u8], n: usize) -> usize
     ensures { λ r. ⌜ r ≡ length (numberLine (now (key .entry)) n) ⌝ }
 {
     key.len() + digit_count(n) + 1

@@ -15,18 +15,18 @@ use crate::print::put_payload;
 use crate::print::put_rows;
 
 // A refusal.
-pub fn refuse(number: u8, output: &mut [u8]) -> usize
+pub fn refuse(number: usize, output: &mut [u8]) -> usize
     ensures { λ r. ⌜ Answered (refusalText number) (now (output .entry)) (now (output .exit)) r ⌝ }
 {
-    let length = number_line_length(b"refusal=", number as u32);
+    let length = number_line_length(b"refusal=", number);
     if output.len() < length {
         return length;
     }
-    put_number_line(output, 0, b"refusal=", number as u32)
+    put_number_line(output, 0, b"refusal=", number)
 }
 
 // The length of the first lines and of a line key=number behind them.
-fn head_length(header: Header, key: &[u8], n: u32) -> usize
+fn head_length(header: Header, key: &[u8], n: usize) -> usize
     ensures { λ r. ⌜ r ≡ length (headText header (now (key .entry)) n) ⌝ }
 {
     let lines = header_length(header);
@@ -34,7 +34,7 @@ fn head_length(header: Header, key: &[u8], n: u32) -> usize
 }
 
 // Writes the first lines and a line key=number behind them.
-fn put_head(out: &mut [u8], header: Header, key: &[u8], n: u32) -> usize
+fn put_head(out: &mut [u8], header: Header, key: &[u8], n: usize) -> usize
     requires { ⌜ Room (now out) 0 (headText header (now key) n) ⌝ }
     ensures { λ r. ⌜ Printed (now (out .entry)) (now (out .exit)) 0 (headText header (now (key .entry)) n) r ⌝ }
 {
@@ -43,13 +43,13 @@ fn put_head(out: &mut [u8], header: Header, key: &[u8], n: u32) -> usize
 }
 
 // The answer to a payload: its field.
-pub(crate) fn reply_field(header: Header, classes: u32, cells: &[u8], output: &mut [u8]) -> usize
+pub(crate) fn reply_field(header: Header, classes: usize, cells: &[u8], output: &mut [u8]) -> usize
     requires { ⌜ CardHeader header ⌝ }
     requires { ⌜ FieldCells header (now cells) ⌝ }
     ensures { λ r. ⌜ Answered (headText header classesKey classes ++ fieldText header (now (cells .entry))) (now (output .entry)) (now (output .exit)) r ⌝ }
 {
-    let width = header.columns as usize;
-    let lines = header.planes as usize * header.rows as usize;
+    let width = header.numbers.columns;
+    let lines = header.numbers.planes * header.numbers.rows;
     let length = head_length(header, b"classes=", classes) + lines * (width + 5);
     if output.len() < length {
         return length;
@@ -59,7 +59,12 @@ pub(crate) fn reply_field(header: Header, classes: u32, cells: &[u8], output: &m
 }
 
 // The answer to rows: the number of cells mended, and the payload.
-pub(crate) fn reply_payload(header: Header, mended: u32, payload: &[u8], output: &mut [u8]) -> usize
+pub(crate) fn reply_payload(
+    header: Header,
+    mended: usize,
+    payload: &[u8],
+    output: &mut [u8],
+) -> usize
     requires { ⌜ length (now payload) ≤ 2048 ⌝ }
     ensures { λ r. ⌜ Answered (headText header mendedKey mended ++ payloadText (now (payload .entry))) (now (output .entry)) (now (output .exit)) r ⌝ }
 {

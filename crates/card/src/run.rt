@@ -55,7 +55,7 @@ fn write_card(
     ensures { λ r. ⌜ Answered (writtenText header (now (payload .entry))) (now (output .entry)) (now (output .exit)) r ⌝ }
 {
     encode(shape, payload, field);
-    reply_field(header, shape.classes() as u32, field, output)
+    reply_field(header, shape.classes(), field, output)
 }
 
 // Reads a field into a payload of the plan's length.
@@ -73,9 +73,9 @@ fn read_card(
     let decoded = decode(shape, payload, field);
     let number = decoded.number();
     if number != 0 {
-        return refuse(number as u8, output);
+        return refuse(number, output);
     }
-    reply_payload(header, decoded.count() as u32, payload, output)
+    reply_payload(header, decoded.count(), payload, output)
 }
 
 // The answer where a payload follows the header.
@@ -143,12 +143,8 @@ fn answer_header(input: &[u8], header: Header, next: usize, output: &mut [u8]) -
     requires { ⌜ HeaderRead (now input) header next ⌝ }
     ensures { λ r. ⌜ Answered (answer (now (input .entry))) (now (output .entry)) (now (output .exit)) r ⌝ }
 {
-    let made = Shape::new(
-        header.columns as usize,
-        header.rows as usize,
-        header.planes as usize,
-        header.strength as usize,
-    );
+    let n = header.numbers;
+    let made = Shape::new(n.columns, n.rows, n.planes, n.strength);
     match made {
         NewShape::BadSize => refuse(1, output),
         NewShape::BadStrength => refuse(2, output),

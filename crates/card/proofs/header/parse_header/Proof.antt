@@ -1,109 +1,85 @@
 use borrow.Author.Needs.{needs}
-use mathlib.Core.Path.{_≡_}
-use Rattle.card.specs.Text.{columnsKey, rowsKey, planesKey, strengthKey}
-use Rattle.card.specs.Parse.{lineAt}
-use Rattle.card.specs.declared.header.Line.the-variants as line
-use Rattle.card.proofs.StepHeader.{line-is, line-next, no-columns, no-rows, no-planes, no-strength, four-lines}
+use Prim.Native.Nat.{_-_}
+use mathlib.Core.Path.{refl, sym, ap, _∙_}
+use native.Mathlib.Omega.{arith}
+use lib.ListN.{length}
+use Rattle.card.specs.declared.header.Header.{Header}
+use Rattle.card.specs.declared.header.HeaderAnswer.the-variants as head
+use Rattle.card.specs.Text.{headerKeys}
+use Rattle.card.specs.Parse.{headerRead, headerOf}
+use Rattle.card.proofs.StepHeader.{Reading, reading-none, reading-more, reading-fault, reading-all}
 use Rattle.card.proofs.header.parse_header.Statement.{statement}
 use Rattle.card.proofs.header.parse_header.Tie as tie
 
-columns : (c : tie.After-columns) → lineAt columnsKey (c .before .before .before .before .before .args .text .now) 0 ≡ line.Number (c .columns .given .0 .0) (c .columns .given .0 .1 .0)
-columns c = line-is columnsKey (c .before .before .before .before .before .args .text .now) 0 _ _ (c .before .before .line-at .ensures) (c .columns .given .1)
+abbrev Inv-loop : tie.InvT-loop
+Inv-loop text numbers₀ next₀ k₀ numbers next k = Reading headerKeys text numbers next k
 
-rows : (c : tie.After-rows) → lineAt rowsKey (c .before .before .before .before .before .before .before .before .before .before .args .text .now) (c .before .before .before .before .before .columns .given .0 .1 .0) ≡ line.Number (c .rows .given .0 .0) (c .rows .given .0 .1 .0)
-rows c = line-is rowsKey (c .before .before .before .before .before .before .before .before .before .before .args .text .now) (c .before .before .before .before .before .columns .given .0 .1 .0) _ _ (c .before .before .line-at2 .ensures) (c .rows .given .1)
+abbrev μ-loop : tie.MeasureT-loop
+μ-loop text numbers₀ next₀ k₀ numbers next k = length headerKeys - k
 
-planes : (c : tie.After-planes) → lineAt planesKey (c .before .before .before .before .before .before .before .before .before .before .before .before .before .before .before .args .text .now) (c .before .before .before .before .before .rows .given .0 .1 .0) ≡ line.Number (c .planes .given .0 .0) (c .planes .given .0 .1 .0)
-planes c = line-is planesKey (c .before .before .before .before .before .before .before .before .before .before .before .before .before .before .before .args .text .now) (c .before .before .before .before .before .rows .given .0 .1 .0) _ _ (c .before .before .line-at3 .ensures) (c .planes .given .1)
+loop-holds : tie.Need-loop-holds Inv-loop μ-loop
+loop-holds c = reading-none headerKeys _ _ refl
 
-strength : (c : tie.After-strength) → lineAt strengthKey (c .before .before .before .before .before .before .before .before .before .before .before .before .before .before .before .before .before .before .before .before .args .text .now) (c .before .before .before .before .before .planes .given .0 .1 .0) ≡ line.Number (c .strength .given .0 .0) (c .strength .given .0 .1 .0)
-strength c = line-is strengthKey (c .before .before .before .before .before .before .before .before .before .before .before .before .before .before .before .before .before .before .before .before .args .text .now) (c .before .before .before .before .before .planes .given .0 .1 .0) _ _ (c .before .before .line-at4 .ensures) (c .strength .given .1)
+line-of-requires : tie.Need-line-of-requires Inv-loop μ-loop
+line-of-requires c κs = (c .loop-test .taken, c .before .loop .inv .inside)
 
-slice-aggregate-line-at : tie.Need-slice-aggregate-line-at
-slice-aggregate-line-at c = search needs
+enum-known-n : tie.Need-enum-known-n Inv-loop μ-loop
+enum-known-n c = search needs
 
-line-at-requires : tie.Need-line-at-requires
-line-at-requires c κs = search needs
-
-enum-known-columns : tie.Need-enum-known-columns
-enum-known-columns c = search needs
-
-enum-told : tie.Need-enum-told
+enum-told : tie.Need-enum-told Inv-loop μ-loop
 enum-told c = search needs
 
-returns : tie.Need-returns
-returns c = no-columns _ (line-is columnsKey (c .before .before .before .before .before .args .text .now) 0 _ _ (c .before .before .line-at .ensures) (c .enum-told .given .1))
+returns : tie.Need-returns Inv-loop μ-loop
+unfolding headerOf
+returns c =
+    let b = c .before .before .before .before in
+    ap headerRead
+    (reading-fault headerKeys _ _ _ _ (b .loop .inv) (c .before .before .before .loop-test .taken)
+    (sym (c .before .before .line-of .ensures) ∙ c .enum-told .given .1))
 
-slice-aggregate-line-at-2 : tie.Need-slice-aggregate-line-at-2
-slice-aggregate-line-at-2 c = search needs
+mul-numbers : tie.Need-mul-numbers Inv-loop μ-loop
+mul-numbers c = omega arith
 
-line-at-requires-2 : tie.Need-line-at-requires-2
-line-at-requires-2 c κs = line-next _ _ _ _ _ (columns (c .before .before))
+array-write-numbers : tie.Need-array-write-numbers Inv-loop μ-loop
+array-write-numbers c = omega arith
 
-enum-known-rows : tie.Need-enum-known-rows
-enum-known-rows c = search needs
+add-k : tie.Need-add-k Inv-loop μ-loop
+add-k c = omega arith
 
-enum-told-2 : tie.Need-enum-told-2
-enum-told-2 c = search needs
+loop-less : tie.Need-loop-less Inv-loop μ-loop
+loop-less c = omega arith
 
-returns-2 : tie.Need-returns-2
-returns-2 c = no-rows _ _ _ (columns (c .before .before .before .before .before)) (line-is rowsKey (c .before .before .before .before .before .before .before .before .before .before .args .text .now) (c .before .before .before .before .before .columns .given .0 .1 .0) _ _ (c .before .before .line-at2 .ensures) (c .enum-told2 .given .1))
+loop-again : tie.Need-loop-again Inv-loop μ-loop
+loop-again c =
+    let b = c .before .before .before .before .before in
+    reading-more headerKeys _ _ _ _ (b .loop .inv) (c .before .before .before .before .loop-test .taken) _ _
+    (sym (c .before .before .before .line-of .ensures) ∙ c .before .n .given .1)
 
-slice-aggregate-line-at-3 : tie.Need-slice-aggregate-line-at-3
-slice-aggregate-line-at-3 c = search needs
+header-from-requires : tie.Need-header-from-requires Inv-loop μ-loop
+header-from-requires c κs = search needs
 
-line-at-requires-3 : tie.Need-line-at-requires-3
-line-at-requires-3 c κs = line-next _ _ _ _ _ (rows (c .before .before))
-
-enum-known-planes : tie.Need-enum-known-planes
-enum-known-planes c = search needs
-
-enum-told-3 : tie.Need-enum-told-3
-enum-told-3 c = search needs
-
-returns-3 : tie.Need-returns-3
-returns-3 c = no-planes _ _ _ (columns (c .before .before .before .before .before .before .before .before .before .before)) _ _ (rows (c .before .before .before .before .before)) (line-is planesKey (c .before .before .before .before .before .before .before .before .before .before .before .before .before .before .before .args .text .now) (c .before .before .before .before .before .rows .given .0 .1 .0) _ _ (c .before .before .line-at3 .ensures) (c .enum-told3 .given .1))
-
-slice-aggregate-line-at-4 : tie.Need-slice-aggregate-line-at-4
-slice-aggregate-line-at-4 c = search needs
-
-line-at-requires-4 : tie.Need-line-at-requires-4
-line-at-requires-4 c κs = line-next _ _ _ _ _ (planes (c .before .before))
-
-enum-known-strength : tie.Need-enum-known-strength
-enum-known-strength c = search needs
-
-enum-told-4 : tie.Need-enum-told-4
-enum-told-4 c = search needs
-
-returns-4 : tie.Need-returns-4
-returns-4 c = no-strength _ _ _ (columns (c .before .before .before .before .before .before .before .before .before .before .before .before .before .before .before)) _ _ (rows (c .before .before .before .before .before .before .before .before .before .before)) _ _ (planes (c .before .before .before .before .before)) (line-is strengthKey (c .before .before .before .before .before .before .before .before .before .before .before .before .before .before .before .before .before .before .before .before .args .text .now) (c .before .before .before .before .before .planes .given .0 .1 .0) _ _ (c .before .before .line-at4 .ensures) (c .enum-told4 .given .1))
-
-returns-5 : tie.Need-returns-5
-returns-5 c = four-lines _ _ _ (columns (c .before .before .before .before .before .before .before .before .before .before .before .before .before .before .before .before)) _ _ (rows (c .before .before .before .before .before .before .before .before .before .before .before)) _ _ (planes (c .before .before .before .before .before .before)) _ _ (strength (c .before))
+returns-2 : tie.Need-returns-2 Inv-loop μ-loop
+unfolding headerOf
+returns-2 c =
+    let b = c .before .before in
+    ap (λ (h : Header). head.Found h (b .loop .next)) (c .header-from .ensures)
+    ∙ ap headerRead (reading-all headerKeys _ _ _ _ (b .loop .inv) (c .before .loop-test .left))
 
 pub parse-header-spec : {M : Type 1} → statement M
 parse-header-spec =
     tie.close
     (tie.spec
-    slice-aggregate-line-at
-    line-at-requires
-    enum-known-columns
+    Inv-loop
+    μ-loop
+    loop-holds
+    line-of-requires
+    enum-known-n
     enum-told
     returns
-    slice-aggregate-line-at-2
-    line-at-requires-2
-    enum-known-rows
-    enum-told-2
-    returns-2
-    slice-aggregate-line-at-3
-    line-at-requires-3
-    enum-known-planes
-    enum-told-3
-    returns-3
-    slice-aggregate-line-at-4
-    line-at-requires-4
-    enum-known-strength
-    enum-told-4
-    returns-4
-    returns-5)
+    mul-numbers
+    array-write-numbers
+    add-k
+    loop-less
+    loop-again
+    header-from-requires
+    returns-2)

@@ -1,49 +1,85 @@
 use borrow.Author.Needs.{needs}
-use Rattle.card.proofs.StepReply.{first-room, second-room, third-room, fourth-room, header-printed}
+use Prim.Native.Nat.{_-_}
+use mathlib.Core.Path.{_≡_, ap}
+use native.Mathlib.Omega.{arith}
+use lib.ListN.{length}
+use Rattle.card.specs.Text.{headerKeys, linesText, linesOf, headerText}
+use Rattle.card.specs.Working.{Room}
+use Rattle.card.proofs.StepHeader.{Writing, writing-none, writing-long, line-room, writing-more, writing-all}
 use Rattle.card.proofs.header.put_header.Statement.{statement}
 use Rattle.card.proofs.header.put_header.Tie as tie
 
-slice-aggregate-put-number-line : tie.Need-slice-aggregate-put-number-line
-slice-aggregate-put-number-line c = search needs
+abbrev Inv-loop : tie.InvT-loop
+Inv-loop out₀ at numbers next₀ k₀ out next k = Writing (linesOf headerKeys numbers) out₀ at out next k
 
-put-number-line-requires : tie.Need-put-number-line-requires
-put-number-line-requires c κs = first-room (c .before .before .before .args .header) (c .before .before .before .pre)
+abbrev μ-loop : tie.MeasureT-loop
+μ-loop out₀ at numbers next₀ k₀ out next k = length headerKeys - k
 
-slice-aggregate-put-number-line-2 : tie.Need-slice-aggregate-put-number-line-2
-slice-aggregate-put-number-line-2 c = search needs
+-- the numbers: as many as there are keys, and their lines have room
+count : (c : tie.After-header-numbers Inv-loop μ-loop) → length (c .header-numbers .result) ≡ length headerKeys
+count c = ap length (c .header-numbers .ensures)
 
-put-number-line-requires-2 : tie.Need-put-number-line-requires-2
-put-number-line-requires-2 c κs = second-room (c .before .before .before .before .before .before .before .before .args .header) (c .before .before .before .before .before .before .before .before .pre) (c .before .before .before .before .put-number-line .ensures)
+room : (c : tie.After-header-numbers Inv-loop μ-loop)
+    → let a = c .before .before .args in Room (a .out .now) (a .at) (linesText (linesOf headerKeys (c .header-numbers .result)))
+unfolding headerText
+room c = rw (c .header-numbers .ensures) (c .before .before .pre)
 
-slice-aggregate-put-number-line-3 : tie.Need-slice-aggregate-put-number-line-3
-slice-aggregate-put-number-line-3 c = search needs
+header-numbers-requires : tie.Need-header-numbers-requires Inv-loop μ-loop
+header-numbers-requires c κs = search needs
 
-put-number-line-requires-3 : tie.Need-put-number-line-requires-3
-put-number-line-requires-3 c κs = third-room (c .before .before .before .before .before .before .before .before .before .before .before .before .before .args .header) (c .before .before .before .before .before .before .before .before .before .before .before .before .before .pre) (c .before .before .before .before .before .before .before .before .before .put-number-line .ensures) (c .before .before .before .before .put-number-line2 .ensures)
+loop-holds : tie.Need-loop-holds Inv-loop μ-loop
+loop-holds c = writing-none headerKeys (c .header-numbers .result) (count c) (room c)
 
-slice-aggregate-put-number-line-4 : tie.Need-slice-aggregate-put-number-line-4
-slice-aggregate-put-number-line-4 c = search needs
+mul-put-line-of : tie.Need-mul-put-line-of Inv-loop μ-loop
+mul-put-line-of c = omega arith
 
-put-number-line-requires-4 : tie.Need-put-number-line-requires-4
-put-number-line-requires-4 c κs = fourth-room (c .before .before .before .before .before .before .before .before .before .before .before .before .before .before .before .before .before .before .args .header) (c .before .before .before .before .before .before .before .before .before .before .before .before .before .before .before .before .before .before .pre) (c .before .before .before .before .before .before .before .before .before .before .before .before .before .before .put-number-line .ensures) (c .before .before .before .before .before .before .before .before .before .put-number-line2 .ensures) (c .before .before .before .before .put-number-line3 .ensures)
+array-read-put-line-of : tie.Need-array-read-put-line-of Inv-loop μ-loop
+array-read-put-line-of c = omega arith
 
-same-length : tie.Need-same-length
-same-length c = search needs
+put-line-of-requires : tie.Need-put-line-of-requires Inv-loop μ-loop
+put-line-of-requires c κs =
+    let a = c .before .before .before in
+    let k = c .before .loop-test .taken in
+    (k, line-room headerKeys (a .header-numbers .result) (count a) (room a) (c .before .before .loop .inv) k)
 
-returns : tie.Need-returns
-returns c = header-printed (c .before .before .before .before .before .before .before .before .before .before .before .before .before .before .before .before .before .before .before .before .before .args .header) (c .before .before .before .before .before .before .before .before .before .before .before .before .before .before .before .before .before .before .before .before .before .pre) (c .before .before .before .before .before .before .before .before .before .before .before .before .before .before .before .before .before .put-number-line .ensures) (c .before .before .before .before .before .before .before .before .before .before .before .before .put-number-line2 .ensures) (c .before .before .before .before .before .before .before .put-number-line3 .ensures) (c .before .before .put-number-line4 .ensures)
+add-k : tie.Need-add-k Inv-loop μ-loop
+add-k c = omega arith
+
+loop-less : tie.Need-loop-less Inv-loop μ-loop
+loop-less c = omega arith
+
+loop-again : tie.Need-loop-again Inv-loop μ-loop
+loop-again c =
+    let a = c .before .before .before .before .before .before in
+    writing-more headerKeys (a .header-numbers .result) (count a) (room a) (c .before .before .before .before .before .loop .inv)
+    (c .before .before .before .before .loop-test .taken)
+    (c .before .before .put-line-of .ensures)
+
+same-length : tie.Need-same-length Inv-loop μ-loop
+same-length c =
+    let a = c .before .before in
+    writing-long headerKeys (a .header-numbers .result) (count a) (room a) (c .before .loop .inv)
+
+returns : tie.Need-returns Inv-loop μ-loop
+unfolding headerText
+returns c =
+    let a = c .before .before in
+    rw (a .header-numbers .ensures) at
+    (writing-all headerKeys (a .header-numbers .result) (count a) (room a) (c .before .loop .inv) (c .loop-test .left))
 
 pub put-header-spec : {M : Type 1} → statement M
 put-header-spec =
     tie.close
     (tie.spec
-    slice-aggregate-put-number-line
-    put-number-line-requires
-    slice-aggregate-put-number-line-2
-    put-number-line-requires-2
-    slice-aggregate-put-number-line-3
-    put-number-line-requires-3
-    slice-aggregate-put-number-line-4
-    put-number-line-requires-4
+    Inv-loop
+    μ-loop
+    header-numbers-requires
+    loop-holds
+    mul-put-line-of
+    array-read-put-line-of
+    put-line-of-requires
+    add-k
+    loop-less
+    loop-again
     same-length
     returns)

@@ -7,24 +7,12 @@ use Rattle.card.proofs.StepRun.{answered-same}
 use Rattle.card.proofs.run.answer_header.Statement.{statement}
 use Rattle.card.proofs.run.answer_header.Tie as tie
 
-read : (c : tie.Else1) → BodyRead (c .before .before .before .before .before .before .before .before .before .before .before .before .args .input .now) (c .before .before .before .before .before .before .before .before .before .before .before .before .args .header) (c .before .before .before .before .before .before .before .before .before .before .before .before .args .next) (c .before .before .before .made .given .0 .0)
+read : (c : tie.Else1) → BodyRead (c .before .before .before .before .before .before .before .before .before .args .input .now) (c .before .before .before .before .before .before .before .before .before .args .header) (c .before .before .before .before .before .before .before .before .before .args .next) (c .before .before .before .made .given .0 .0)
 read c =
     record {
-      header = c .before .before .before .before .before .before .before .before .before .before .before .before .pre;
-      shaped = new-card (c .before .before .before .before .before .before .before .before .before .before .before .before .args .header) _ (c .before .before .before .before .before .new .ensures .0) _ (c .before .before .before .made .given .1) _ (c .before .cells .ensures) (c .if1 .left);
+      header = c .before .before .before .before .before .before .before .before .before .pre;
+      shaped = new-card (c .before .before .before .before .before .before .before .before .before .args .header) _ (c .before .before .before .before .before .new .ensures .0) _ (c .before .before .before .made .given .1) _ (c .before .cells .ensures) (c .if1 .left);
     }
-
-cast-new : tie.Need-cast-new
-cast-new c = search needs
-
-cast-new-2 : tie.Need-cast-new-2
-cast-new-2 c = search needs
-
-cast-new-3 : tie.Need-cast-new-3
-cast-new-3 c = search needs
-
-cast-new-4 : tie.Need-cast-new-4
-cast-new-4 c = search needs
 
 new-requires : tie.Need-new-requires
 new-requires c κs = search needs
@@ -57,9 +45,9 @@ returns : tie.Need-returns
 returns c =
     answered-same
     (sym
-    (too-many _ _ _ (c .before .before .before .before .before .before .before .before .before .before .before .before .before .before .before .before .pre)
-    (new-accepted (c .before .before .before .before .before .before .before .before .before .before .before .before .before .before .before .before .args .header) _ (c .before .before .before .before .before .before .before .before .before .new .ensures .0) _ (c .before .before .before .before .before .before .before .made .given .1))
-    (new-many (c .before .before .before .before .before .before .before .before .before .before .before .before .before .before .before .before .args .header) _ (c .before .before .before .before .before .before .before .before .before .new .ensures .0) _ (c .before .before .before .before .before .before .before .made .given .1) _ (c .before .before .before .before .before .cells .ensures) (c .before .before .before .before .if1 .taken))))
+    (too-many _ _ _ (c .before .before .before .before .before .before .before .before .before .before .before .before .before .pre)
+    (new-accepted (c .before .before .before .before .before .before .before .before .before .before .before .before .before .args .header) _ (c .before .before .before .before .before .before .before .before .before .new .ensures .0) _ (c .before .before .before .before .before .before .before .made .given .1))
+    (new-many (c .before .before .before .before .before .before .before .before .before .before .before .before .before .args .header) _ (c .before .before .before .before .before .before .before .before .before .new .ensures .0) _ (c .before .before .before .before .before .before .before .made .given .1) _ (c .before .before .before .before .before .cells .ensures) (c .before .before .before .before .if1 .taken))))
     (c .before .before .refuse3 .ensures)
 
 is-payload-requires : tie.Need-is-payload-requires
@@ -81,13 +69,13 @@ same-length-3 : tie.Need-same-length-3
 same-length-3 c = search needs
 
 returns-3 : tie.Need-returns-3
-returns-3 c = answered-same (sym (bad-size _ _ _ (c .before .before .before .before .before .before .before .before .before .before .before .before .before .pre) (new-size (c .before .before .before .before .before .before .before .before .before .before .before .before .before .args .header) _ (c .before .before .before .before .before .before .new .ensures .0) (c .before .before .before .before .enum-told .given .1)))) (c .before .before .refuse .ensures)
+returns-3 c = answered-same (sym (bad-size _ _ _ (c .before .before .before .before .before .before .before .before .before .before .pre) (new-size (c .before .before .before .before .before .before .before .before .before .before .args .header) _ (c .before .before .before .before .before .before .new .ensures .0) (c .before .before .before .before .enum-told .given .1)))) (c .before .before .refuse .ensures)
 
 same-length-4 : tie.Need-same-length-4
 same-length-4 c = search needs
 
 returns-4 : tie.Need-returns-4
-returns-4 c = answered-same (sym (bad-strength _ _ _ (c .before .before .before .before .before .before .before .before .before .before .before .before .before .pre) (new-strength (c .before .before .before .before .before .before .before .before .before .before .before .before .before .args .header) _ (c .before .before .before .before .before .before .new .ensures .0) (c .before .before .before .before .enum-told2 .given .1)))) (c .before .before .refuse2 .ensures)
+returns-4 c = answered-same (sym (bad-strength _ _ _ (c .before .before .before .before .before .before .before .before .before .before .pre) (new-strength (c .before .before .before .before .before .before .before .before .before .before .args .header) _ (c .before .before .before .before .before .before .new .ensures .0) (c .before .before .before .before .enum-told2 .given .1)))) (c .before .before .refuse2 .ensures)
 
 same-length-5 : tie.Need-same-length-5
 same-length-5 c = search needs
@@ -99,10 +87,6 @@ pub answer-header-spec : {M : Type 1} → statement M
 answer-header-spec =
     tie.close
     (tie.spec
-    cast-new
-    cast-new-2
-    cast-new-3
-    cast-new-4
     new-requires
     enum-told
     refuse-requires

@@ -10,7 +10,7 @@ use Rattle.card.specs.Program.{cellsIn}
 use Rattle.card.specs.Working.{decodedText}
 use Rattle.card.proofs.StepCard.{cells-are, cells-fit, bytes-are, bytes-fit, columns-some, columns-narrow, lines-most, rows-fit, cells-read, cells-long}
 use Rattle.card.proofs.StepProgram.{bad-rows, rows-read}
-use Rattle.card.proofs.HeaderText.{header-inside}
+use Rattle.card.proofs.HeaderRest.{header-found}
 use Rattle.card.proofs.StepRun.{answered-same, zeros-count, zeros-take, part-again, part-within, part-count}
 use Rattle.card.proofs.run.answer_rows.Statement.{statement}
 use Rattle.card.proofs.run.answer_rows.Tie as tie
@@ -78,7 +78,7 @@ slice-aggregate-fill-cells c = zeros-count _ 16384 (cells-room (c .before .befor
 fill-cells-requires : tie.Need-fill-cells-requires
 fill-cells-requires c κs =
     record {
-      inside = header-inside _ _ _ (c .before .before .before .before .before .before .before .before .before .before .pre .0 .header .found);
+      inside = header-found _ _ _ (c .before .before .before .before .before .before .before .before .before .before .pre .0 .header .found) .inside;
       some = columns-some _ _ (c .before .before .before .before .before .before .before .before .before .before .pre .0 .shaped);
       narrow = columns-narrow _ _ (c .before .before .before .before .before .before .before .before .before .before .pre .0 .shaped);
       cells = omega (arith, cells-room (c .before .before .before), zeros-count (c .before .before .before .cells .result) 16384 (cells-room (c .before .before .before)));

@@ -1,8 +1,7 @@
 use borrow.Author.Needs.{needs}
 use mathlib.Core.Path.{_≡_, _∙_}
-use native.Mathlib.Omega.{arith}
 use Rattle.codec.specs.Decode.{decodeNumber, decodeCount}
-use Rattle.card.proofs.StepCard.{number-most, decoded-refused, count-fits, decoded-long, card-decoded}
+use Rattle.card.proofs.StepCard.{decoded-refused, decoded-long, card-decoded}
 use Rattle.card.proofs.StepRun.{answered-same}
 use Rattle.card.proofs.run.read_card.Statement.{statement}
 use Rattle.card.proofs.run.read_card.Tie as tie
@@ -19,9 +18,6 @@ decode-requires c κs = search needs
 number-requires : tie.Need-number-requires
 number-requires c κs = search needs
 
-cast-refuse : tie.Need-cast-refuse
-cast-refuse c = omega (arith, number-most (c .before .before .before .before .decode .result))
-
 refuse-requires : tie.Need-refuse-requires
 refuse-requires c κs = search needs
 
@@ -36,9 +32,6 @@ returns c = answered-same (decoded-refused _ _ (c .before .before .before .befor
 
 count-requires : tie.Need-count-requires
 count-requires c κs = search needs
-
-cast-reply-payload : tie.Need-cast-reply-payload
-cast-reply-payload c = omega (arith, count-fits _ _ (c .before .before .before .before .before .before .before .before .before .before .pre .0) _ _ (c .before .before .before .before .before .before .before .before .before .before .pre .1) _ (count c))
 
 reply-payload-requires : tie.Need-reply-payload-requires
 reply-payload-requires c κs = decoded-long _ _ (c .before .before .before .before .before .before .before .before .before .before .before .before .pre .0) _ _ (c .before .before .before .before .before .before .before .before .before .before .before .before .pre .1) _ (c .before .before .before .before .before .before .before .decode .ensures .leaves)
@@ -61,13 +54,11 @@ read-card-spec =
     (tie.spec
     decode-requires
     number-requires
-    cast-refuse
     refuse-requires
     same-length
     same-length-2
     returns
     count-requires
-    cast-reply-payload
     reply-payload-requires
     same-length-3
     same-length-4

@@ -1,6 +1,5 @@
 use borrow.Author.Needs.{needs}
-use native.Mathlib.Omega.{arith}
-use Rattle.card.proofs.StepCard.{classes-fit, encoded-cells, card-written}
+use Rattle.card.proofs.StepCard.{encoded-cells, card-written}
 use Rattle.card.proofs.StepRun.{answered-same}
 use Rattle.card.proofs.run.write_card.Statement.{statement}
 use Rattle.card.proofs.run.write_card.Tie as tie
@@ -10,9 +9,6 @@ encode-requires c κs = search needs
 
 classes-requires : tie.Need-classes-requires
 classes-requires c κs = search needs
-
-cast-reply-field : tie.Need-cast-reply-field
-cast-reply-field c = omega (arith, classes-fit _ _ (c .before .before .before .before .before .before .before .before .pre .0) _ (c .classes .ensures))
 
 reply-field-requires : tie.Need-reply-field-requires
 reply-field-requires c κs = (
@@ -38,7 +34,6 @@ write-card-spec =
     (tie.spec
     encode-requires
     classes-requires
-    cast-reply-field
     reply-field-requires
     same-length
     same-length-2

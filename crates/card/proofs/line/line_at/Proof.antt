@@ -2,8 +2,8 @@ use borrow.Author.Needs.{needs}
 use native.Mathlib.Omega.{arith}
 use Rattle.lattice.proofs.Bools.{failed, passed}
 use Rattle.card.proofs.StepNumber.{line-faults, line-found}
-use Rattle.card.proofs.header.line_at.Statement.{statement}
-use Rattle.card.proofs.header.line_at.Tie as tie
+use Rattle.card.proofs.line.line_at.Statement.{statement}
+use Rattle.card.proofs.line.line_at.Tie as tie
 
 key-at-requires : tie.Need-key-at-requires
 key-at-requires c κs = search needs

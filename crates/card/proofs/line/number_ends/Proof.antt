@@ -1,8 +1,8 @@
 use borrow.Author.Needs.{needs}
 use Rattle.lattice.proofs.Bools.{failed, passed}
 use Rattle.card.proofs.StepNumber.{ends-range, ends-other, ends-one, ends-more}
-use Rattle.card.proofs.header.number_ends.Statement.{statement}
-use Rattle.card.proofs.header.number_ends.Tie as tie
+use Rattle.card.proofs.line.number_ends.Statement.{statement}
+use Rattle.card.proofs.line.number_ends.Tie as tie
 
 within-requires : tie.Need-within-requires
 within-requires c κs = search needs

@@ -2,8 +2,8 @@ use Prim.Native.Nat.{_-_, _≤_, zero-le}
 use native.Mathlib.Omega.{arith}
 use Rattle.lattice.proofs.Bools.{failed, passed}
 use Rattle.card.proofs.StepNumber.{Run, run-none, run-more, run-ends, run-full}
-use Rattle.card.proofs.header.digit_run.Statement.{statement}
-use Rattle.card.proofs.header.digit_run.Tie as tie
+use Rattle.card.proofs.line.digit_run.Statement.{statement}
+use Rattle.card.proofs.line.digit_run.Tie as tie
 
 abbrev Inv-loop : tie.InvT-loop
 Inv-loop text at k₀ k = (k ≤ 6) × Run text at k

@@ -3,8 +3,8 @@ use mathlib.Core.Path.{_≡_, refl}
 use native.Mathlib.Omega.{arith}
 use Rattle.card.specs.Parse.{digitsValue}
 use Rattle.card.proofs.StepNumber.{digit-low, digit-high, value-room, value-more, value-all}
-use Rattle.card.proofs.header.digits_value.Statement.{statement}
-use Rattle.card.proofs.header.digits_value.Tie as tie
+use Rattle.card.proofs.line.digits_value.Statement.{statement}
+use Rattle.card.proofs.line.digits_value.Tie as tie
 
 abbrev Inv-loop : tie.InvT-loop
 Inv-loop text at k value₀ i₀ value i = (i ≤ k) × (value ≡ digitsValue text at i)

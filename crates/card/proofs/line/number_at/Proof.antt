@@ -4,8 +4,8 @@ use native.Mathlib.Omega.{arith}
 use lib.ListN.{length}
 use Rattle.lattice.proofs.Bools.{failed, passed}
 use Rattle.card.proofs.StepNumber.{number-faults, number-most, number-inside, number-found}
-use Rattle.card.proofs.header.number_at.Statement.{statement}
-use Rattle.card.proofs.header.number_at.Tie as tie
+use Rattle.card.proofs.line.number_at.Statement.{statement}
+use Rattle.card.proofs.line.number_at.Tie as tie
 
 inside : (c : tie.Else1) → c .before .before .before .before .args .at + c .before .before .digit-run .result < length (c .before .before .before .before .args .text .now)
 inside c = number-inside _ _ _ (c .before .before .digit-run .ensures) (passed _ _ (c .if1 .left) (c .before .number-ends .ensures))
