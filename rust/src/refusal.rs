@@ -3,6 +3,7 @@
 use std::fmt;
 
 /// The first reason, in the listed order, for which an operation declines. It has then changed no byte of any buffer.
+#[non_exhaustive]
 #[derive(Clone, Copy, Debug, PartialEq, Eq, Hash)]
 pub enum Refusal {
     /// 1: columns, rows, planes or their product outside the limits.

@@ -12,7 +12,7 @@ fn the_smoke_test() {
         .args(["-std=c99", "-Wall", "-Wextra", "-pedantic", "-Werror", "-O1", "-I"])
         .arg(root.join("include"))
         .arg(root.join("rust/c/smoke.c"))
-        .arg(root.join("target/staticlib/libffi.a"))
+        .arg(env!("VARMINTFOIL_ARCHIVE"))
         .arg("-o")
         .arg(&program)
         .output()
