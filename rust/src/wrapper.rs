@@ -25,7 +25,7 @@ pub struct Shape {
 }
 
 impl Shape {
-    /// The shape, or `Size`, or `Strength`.
+    /// The shape, or `BadSize`, or `BadStrength`.
     pub fn new(columns: usize, rows: usize, planes: usize, strength: usize) -> Result<Shape, Refusal> {
         let numbers = ShapeNumbers { columns, rows, planes, strength };
         let ffi::PlanAnswer { number, classes, capacity, bytes, cells } = ffi::plan(numbers);
@@ -133,7 +133,7 @@ pub fn encode_into(shape: &Shape, payload: &[u8], field: &mut [u8]) -> Result<()
     check(ffi::encode(shape.numbers, payload, field))
 }
 
-/// The payload of a field, or `FieldLength`, then `Cell`, `Uncorrectable`, `Padding`.
+/// The payload of a field, or `FieldLength`, then `BadCell`, `OutOfReach`, `BadPadding`.
 pub fn decode(shape: &Shape, field: &[u8]) -> Result<Decoded, Refusal> {
     let mut payload = vec![0; shape.payload_bytes()];
     let mended = decode_into(shape, field, &mut payload)?;
@@ -152,8 +152,8 @@ pub fn correct(shape: &Shape, field: &mut [u8]) -> Result<usize, Refusal> {
     check(answer.number).map(|()| answer.count)
 }
 
-/// Are all different cells of one class, (column − b × row − c × plane) mod m, at least t apart in an endless stack? `Strength` for t
-/// outside 1 to 18, then `Settings`.
+/// Are all different cells of one class, (column − b × row − c × plane) mod m, at least t apart in an endless stack? `BadStrength` for t
+/// outside 1 to 18, then `BadSettings`.
 pub fn distance_test(m: usize, b: usize, c: usize, t: usize) -> Result<Distance, Refusal> {
     let ffi::DistanceAnswer { number, holds, row, plane, column, tried } = ffi::distance_test(m, b, c, t);
     check(number)?;
