@@ -1,7 +1,7 @@
 /* Varmintfoil: a payload in a field of black and white cells that outlives any one hole of at most t connected cells.
  *
- * For x86-64 with the System V calling convention. Link target/staticlib/libvarmintfoil.a, which `rt staticlib varmintfoil` writes at the
- * repository's root; it needs the C library's memset and nothing else. Header and archive must be of one version.
+ * For x86-64 with the System V calling convention. Link target/staticlib/libvarmintfoil.a, which `rt staticlib varmintfoil` writes
+ * at the repository's root; it needs the C library's memset and nothing else. Header and archive must be of one version.
  *
  * A shape is four numbers: columns W and rows H from 1 to 256, planes D from 1 to 16, W * H * D at most 65,536, and the strength t, 1 to
  * 32 where D is 1 and 1 to 8 where D is above. A field is W * H * D bytes, one for each cell, 0 for white and 1 for black; the cell
@@ -74,9 +74,10 @@ typedef struct varmintfoil_shape {
     size_t strength VARMINTFOIL_LEFT_OUT; /* t */
 } varmintfoil_shape_t;
 
-/* A shape by the names of its members, as VARMINTFOIL_SHAPE(.columns = 5, .rows = 5, .planes = 1, .strength = 3). A member left out is 0;
- * a later version may have more members, and at 0 they change nothing. In C++ it takes C++20 and the members in the order above; before
- * C++20 make a shape whose members are all 0, varmintfoil_shape_t shape = varmintfoil_shape_t(), and set them by their names. */
+/* A shape by the names of its members, as VARMINTFOIL_SHAPE(.columns = 5, .rows = 5, .planes = 1, .strength = 3). A member left out
+ * is 0; a later version may have more members, and at 0 they change nothing. In C++ it takes C++20 and the members in the order
+ * above; before C++20 make a shape whose members are all 0, varmintfoil_shape_t shape = varmintfoil_shape_t(), and set them by
+ * their names. */
 #ifndef __cplusplus
 #define VARMINTFOIL_SHAPE(...) ((varmintfoil_shape_t){__VA_ARGS__})
 #elif __cplusplus > 201703L

@@ -18,7 +18,7 @@ fn main() {
     println!("cargo:rerun-if-changed={}", archive.display());
     if !archive.is_file() {
         eprintln!("\nThe proved library {} is not there.", archive.display());
-        eprintln!("Run `rt staticlib varmintfoil` at the repository's root, or name its folder in VARMINTFOIL_LIB_DIR; then cargo again.");
+        eprintln!("Run `rt staticlib varmintfoil` at the repository's root, or name its folder in VARMINTFOIL_LIB_DIR.");
         eprintln!("Without it, `cargo test --release --no-default-features` still checks the reference implementation.\n");
         std::process::exit(1);
     }

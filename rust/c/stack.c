@@ -74,7 +74,8 @@ static const struct {
     const char *name;
     void (*call)(void);
 } calls[] = {
-    {"plan", plan}, {"class", class_of}, {"encode", encode}, {"decode", decode}, {"correct", correct}, {"distance_test", distance_test},
+    {"plan", plan},     {"class", class_of},   {"encode", encode},
+    {"decode", decode}, {"correct", correct}, {"distance_test", distance_test},
 };
 
 static const varmintfoil_shape_t shapes[] = {

@@ -152,8 +152,8 @@ pub fn correct(shape: &Shape, field: &mut [u8]) -> Result<usize, Refusal> {
     check(answer.number).map(|()| answer.count)
 }
 
-/// Are all different cells of one class, (column − b × row − c × plane) mod m, at least t apart in an endless stack? `BadStrength` for t
-/// outside 1 to 18, then `BadSettings`.
+/// Are all different cells of one class, (column − b × row − c × plane) mod m, at least t apart in an endless stack?
+/// `BadStrength` for t outside 1 to 18, then `BadSettings`.
 pub fn distance_test(m: usize, b: usize, c: usize, t: usize) -> Result<Distance, Refusal> {
     let ffi::DistanceAnswer { number, holds, row, plane, column, tried } = ffi::distance_test(m, b, c, t);
     check(number)?;

@@ -69,7 +69,8 @@ fn for_each_shape(mut look: impl FnMut(ShapeNumbers)) {
 }
 
 /// No accepted shape has more cells, payload bytes or classes, and some shape has as many. A payload bit takes a cell, so a shape is
-/// planned only where it has cells enough for the limit's bytes; classes depend on planes and strength alone, so one cell a plane does.
+/// planned only where it has cells enough for the limit's bytes; classes depend on planes and strength alone, so that one cell a
+/// plane does.
 #[test]
 fn the_limits() {
     let limits = [number("MAX_CELLS"), number("MAX_PAYLOAD_BYTES"), number("MAX_CLASSES")];
