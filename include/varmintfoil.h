@@ -1,22 +1,15 @@
 /* Varmintfoil: a payload in a field of black and white cells that outlives any one hole of at most t connected cells.
  *
- * Link target/staticlib/libffi.a, which `rt staticlib ffi` writes at the repository's root.
+ * For x86-64 with the System V calling convention. Link target/staticlib/libvarmintfoil.a, which `rt staticlib varmintfoil` writes
+ * at the repository's root; it needs the C library's memset and nothing else. Header and archive must be of one version.
  *
  * A shape is four numbers: columns W and rows H from 1 to 256, planes D from 1 to 16, W * H * D at most 65,536, and the strength t, 1 to
  * 32 where D is 1 and 1 to 8 where D is above. A field is W * H * D bytes, one for each cell, 0 for white and 1 for black; the cell
  * (row, plane, column) is byte (plane * H + row) * W + column. A payload has the number of bytes that varmintfoil_plan gives.
  *
- * Every function takes any numbers at all. It answers the number 0 for success, or the number of the first refusal that applies, in the
- * order in which they are listed with it. On a refusal every other figure of the answer is 0 and no byte of any lent buffer has changed.
- *
- *   1  W, H, D or their product outside the limits
- *   2  a strength outside the limits
- *   3  a payload length that is not the plan's
- *   4  a field length that is not the plan's, or a row, plane or column outside the shape
- *   5  a cell above 1
- *   6  some class that no change of at most one of its cells makes a codeword
- *   7  padding, the cells after the payload's last bit, that is not 0 after correction
- *   9  settings of the distance test outside its limits
+ * Every function takes any numbers at all. It answers the number VARMINTFOIL_OK for success, or the number of the first refusal that
+ * applies, in the order in which they are listed with it. On a refusal every other figure of the answer is 0 and no byte of any lent
+ * buffer has changed.
  *
  * What the library cannot see, and the caller answers for:
  *   - a pointer is valid for its length: readable, and writable where it is not const, for that many bytes;
@@ -24,15 +17,71 @@
  *   - a pointer is null only where its length is 0;
  *   - no other thread writes a lent buffer, or reads one that is written, during the call.
  *
- * The functions keep nothing between calls and may run in several threads at once. */
+ * The functions keep nothing between calls and may run in several threads at once. They allocate nothing. */
 #ifndef VARMINTFOIL_H
 #define VARMINTFOIL_H
 
 #include <stddef.h>
 #include <stdint.h>
 
+#define VARMINTFOIL_VERSION_MAJOR 0
+#define VARMINTFOIL_VERSION_MINOR 2
+#define VARMINTFOIL_VERSION_PATCH 0
+#define VARMINTFOIL_VERSION "0.2.0"
+
+/* The numbers that the functions give. The card program gives 8 besides, for a fault of form. */
+#define VARMINTFOIL_OK 0             /* success */
+#define VARMINTFOIL_BAD_SIZE 1       /* W, H, D or their product outside the limits */
+#define VARMINTFOIL_BAD_STRENGTH 2   /* a strength outside the limits */
+#define VARMINTFOIL_PAYLOAD_LENGTH 3 /* a payload length that is not the plan's */
+#define VARMINTFOIL_FIELD_LENGTH 4   /* a field length that is not the plan's */
+#define VARMINTFOIL_OUTSIDE_SHAPE 4  /* a row, plane or column outside the shape, in varmintfoil_class */
+#define VARMINTFOIL_BAD_CELL 5       /* a cell above 1 */
+#define VARMINTFOIL_OUT_OF_REACH 6   /* some class that no change of at most one of its cells makes a codeword */
+#define VARMINTFOIL_BAD_PADDING 7    /* padding, the cells after the payload's last bit, that is not 0 after correction */
+#define VARMINTFOIL_BAD_SETTINGS 9   /* settings of the distance test outside its limits */
+
+/* The most that any accepted shape has, for buffers of a fixed size. */
+#define VARMINTFOIL_MAX_CELLS 65536        /* cells, the bytes of a field */
+#define VARMINTFOIL_MAX_PAYLOAD_BYTES 8189 /* bytes of a payload */
+#define VARMINTFOIL_MAX_CLASSES 512        /* interleaving classes */
+
+/* An answer that is dropped is a refusal that goes unseen: the compiler warns of it where it can. */
+#if (defined(__cplusplus) && __cplusplus >= 201703L) || (defined(__STDC_VERSION__) && __STDC_VERSION__ >= 202311L)
+#define VARMINTFOIL_NODISCARD [[nodiscard]]
+#elif defined(__GNUC__)
+#define VARMINTFOIL_NODISCARD __attribute__((warn_unused_result))
+#else
+#define VARMINTFOIL_NODISCARD
+#endif
+
+/* C makes a member that is left out 0; in C++ its declaration says so, else compilers warn of it. */
+#if defined(__cplusplus) && __cplusplus >= 201402L
+#define VARMINTFOIL_LEFT_OUT = 0
+#else
+#define VARMINTFOIL_LEFT_OUT
+#endif
+
 #ifdef __cplusplus
 extern "C" {
+#endif
+
+/* The numbers of a shape, of any size. */
+typedef struct varmintfoil_shape {
+    size_t columns VARMINTFOIL_LEFT_OUT;  /* W */
+    size_t rows VARMINTFOIL_LEFT_OUT;     /* H */
+    size_t planes VARMINTFOIL_LEFT_OUT;   /* D */
+    size_t strength VARMINTFOIL_LEFT_OUT; /* t */
+} varmintfoil_shape_t;
+
+/* A shape by the names of its members, as VARMINTFOIL_SHAPE(.columns = 5, .rows = 5, .planes = 1, .strength = 3). A member left out
+ * is 0; a later version may have more members, and at 0 they change nothing. In C++ it takes C++20 and the members in the order
+ * above; before C++20 make a shape whose members are all 0, varmintfoil_shape_t shape = varmintfoil_shape_t(), and set them by
+ * their names. */
+#ifndef __cplusplus
+#define VARMINTFOIL_SHAPE(...) ((varmintfoil_shape_t){__VA_ARGS__})
+#elif __cplusplus > 201703L
+#define VARMINTFOIL_SHAPE(...) (varmintfoil_shape_t{__VA_ARGS__})
 #endif
 
 typedef struct {
@@ -63,33 +112,31 @@ typedef struct {
 } varmintfoil_distance_t;
 
 /* What follows from a shape alone. Refusals: 1, 2. */
-varmintfoil_plan_t varmintfoil_plan(size_t columns, size_t rows, size_t planes, size_t strength);
+VARMINTFOIL_NODISCARD varmintfoil_plan_t varmintfoil_plan(varmintfoil_shape_t shape);
 
 /* The interleaving class of a cell: (column - b * row - c * plane) mod m, by the settings of the shape. Refusals: 1, 2, 4 (a row, plane
  * or column outside the shape). */
-varmintfoil_class_t varmintfoil_class(size_t columns, size_t rows, size_t planes, size_t strength, size_t row, size_t plane,
-                                      size_t column);
+VARMINTFOIL_NODISCARD varmintfoil_class_t varmintfoil_class(varmintfoil_shape_t shape, size_t row, size_t plane, size_t column);
 
 /* Writes the field of a payload. What the field held before does not matter. Gives the number itself. Refusals: 1, 2, 3, 4. */
-size_t varmintfoil_encode(size_t columns, size_t rows, size_t planes, size_t strength, const uint8_t *payload, size_t payload_len,
-                          uint8_t *field, size_t field_len);
+VARMINTFOIL_NODISCARD size_t varmintfoil_encode(varmintfoil_shape_t shape, const uint8_t *payload, size_t payload_len, uint8_t *field,
+                                                size_t field_len);
 
 /* Reads a field: fills the payload from the one field of codewords that differs in at most one cell of each class, and counts the cells
  * where it differs. Where the damage took two or more cells of one class, that field need not be the one that was written. What the
  * payload held before does not matter. Refusals: 1, 2, 3, 4, 5, 6, 7. */
-varmintfoil_count_t varmintfoil_decode(size_t columns, size_t rows, size_t planes, size_t strength, uint8_t *payload,
-                                       size_t payload_len, const uint8_t *field, size_t field_len);
+VARMINTFOIL_NODISCARD varmintfoil_count_t varmintfoil_decode(varmintfoil_shape_t shape, uint8_t *payload, size_t payload_len,
+                                                             const uint8_t *field, size_t field_len);
 
 /* Corrects a field where it lies: leaves the one field of codewords that differs in at most one cell of each class, and counts the cells
  * that it changed; of damage to two or more cells of one class the same holds. Refusals: 1, 2, 4, 5, 6, 7. */
-varmintfoil_count_t varmintfoil_correct(size_t columns, size_t rows, size_t planes, size_t strength, uint8_t *field,
-                                        size_t field_len);
+VARMINTFOIL_NODISCARD varmintfoil_count_t varmintfoil_correct(varmintfoil_shape_t shape, uint8_t *field, size_t field_len);
 
 /* Are all different cells of one class, (column - b * row - c * plane) mod m, at least t apart in an endless stack? Tries the difference
  * triples of absolute sum 1 to t - 1 whose first number that is not 0 is positive, in rising order of row, then plane, then column, and
  * stops at the first that joins two cells of one class. t is from 1 to 18, m from 1 to 4,096, b and c below m. Refusals: 2 (t), 9 (m, b
  * or c). */
-varmintfoil_distance_t varmintfoil_distance_test(size_t m, size_t b, size_t c, size_t t);
+VARMINTFOIL_NODISCARD varmintfoil_distance_t varmintfoil_distance_test(size_t m, size_t b, size_t c, size_t t);
 
 #ifdef __cplusplus
 }

@@ -1,4 +1,4 @@
-/* The worked card, called from C: 5 by 5 cells, strength 3, payload a5. */
+/* The worked card, called from C and C++: 5 by 5 cells, strength 3, payload a5. */
 #include "varmintfoil.h"
 
 #include <stdio.h>
@@ -13,6 +13,8 @@ static void expect(int holds, const char *what) {
     }
 }
 
+static const varmintfoil_shape_t card = {.columns = 5, .rows = 5, .planes = 1, .strength = 3};
+
 static const uint8_t written[25] = {
     1, 1, 0, 1, 1,
     0, 0, 1, 0, 1,
@@ -22,23 +24,37 @@ static const uint8_t written[25] = {
 };
 
 static void the_plan(void) {
-    varmintfoil_plan_t plan = varmintfoil_plan(5, 5, 1, 3);
-    expect(plan.number == 0, "plan succeeds");
+    varmintfoil_plan_t plan = varmintfoil_plan(card);
+    expect(plan.number == VARMINTFOIL_OK, "plan succeeds");
     expect(plan.classes == 5 && plan.capacity == 10 && plan.bytes == 1 && plan.cells == 25, "plan of the worked card");
-    plan = varmintfoil_plan(257, 1, 1, 1);
-    expect(plan.number == 1, "257 columns give 1");
+    plan = varmintfoil_plan(VARMINTFOIL_SHAPE(.columns = 17, .rows = 241, .planes = 15, .strength = 6));
+    expect(plan.number == VARMINTFOIL_OK && plan.classes == 38, "a stack of four different numbers has 38 classes");
+    expect(plan.cells == 61455 && plan.capacity == 61037 && plan.bytes == 7629, "and its figures");
+}
+
+static void the_limits(void) {
+    varmintfoil_plan_t plan = varmintfoil_plan(VARMINTFOIL_SHAPE(.columns = 257, .rows = 1, .planes = 1, .strength = 1));
+    expect(plan.number == VARMINTFOIL_BAD_SIZE, "257 columns are a bad size");
     expect(plan.classes == 0 && plan.capacity == 0 && plan.bytes == 0 && plan.cells == 0, "figures of a refusal are 0");
-    expect(varmintfoil_plan(5, 5, 1, 33).number == 2, "strength 33 gives 2");
-    expect(varmintfoil_plan((size_t)-1, (size_t)-1, 1, 1).number == 1, "huge sides give 1");
+    plan = varmintfoil_plan(VARMINTFOIL_SHAPE(.columns = 65537, .rows = 1, .planes = 1, .strength = 1));
+    expect(plan.number == VARMINTFOIL_BAD_SIZE, "65,537 columns are not taken for 1");
+    plan = varmintfoil_plan(VARMINTFOIL_SHAPE(.columns = SIZE_MAX, .rows = SIZE_MAX, .planes = 1, .strength = 1));
+    expect(plan.number == VARMINTFOIL_BAD_SIZE, "huge sides are a bad size");
+    plan = varmintfoil_plan(VARMINTFOIL_SHAPE(.columns = 5, .rows = 5, .planes = 1, .strength = 33));
+    expect(plan.number == VARMINTFOIL_BAD_STRENGTH, "33 is a bad strength");
+    plan = varmintfoil_plan(VARMINTFOIL_SHAPE(.columns = 5, .rows = 5, .planes = 1));
+    expect(plan.number == VARMINTFOIL_BAD_STRENGTH, "a strength left out is 0, a bad one");
 }
 
 static void the_classes(void) {
-    varmintfoil_class_t answer = varmintfoil_class(256, 256, 1, 4, 1, 0, 0);
-    expect(answer.number == 0 && answer.class_index == 3, "strength 4, row 1 is of class 3");
-    answer = varmintfoil_class(256, 256, 1, 5, 12, 0, 0);
-    expect(answer.number == 0 && answer.class_index == 5, "strength 5, row 12 is of class 5");
-    answer = varmintfoil_class(5, 5, 1, 3, 5, 0, 0);
-    expect(answer.number == 4 && answer.class_index == 0, "a row outside gives 4");
+    varmintfoil_shape_t shape = VARMINTFOIL_SHAPE(.columns = 256, .rows = 256, .planes = 1, .strength = 4);
+    varmintfoil_class_t answer = varmintfoil_class(shape, 1, 0, 0);
+    expect(answer.number == VARMINTFOIL_OK && answer.class_index == 3, "strength 4, row 1 is of class 3");
+    shape.strength = 5;
+    answer = varmintfoil_class(shape, 12, 0, 0);
+    expect(answer.number == VARMINTFOIL_OK && answer.class_index == 5, "strength 5, row 12 is of class 5");
+    answer = varmintfoil_class(card, 5, 0, 0);
+    expect(answer.number == VARMINTFOIL_OUTSIDE_SHAPE && answer.class_index == 0, "row 5 lies outside the shape");
 }
 
 static void the_card(void) {
@@ -47,10 +63,10 @@ static void the_card(void) {
     varmintfoil_count_t count;
 
     memset(field, 9, sizeof field);
-    expect(varmintfoil_encode(5, 5, 1, 3, payload, 0, field, 24) == 3, "3 before 4");
-    expect(varmintfoil_encode(5, 5, 1, 3, payload, 1, field, 24) == 4, "a short field gives 4");
+    expect(varmintfoil_encode(card, payload, 0, field, 24) == VARMINTFOIL_PAYLOAD_LENGTH, "the payload's length comes first");
+    expect(varmintfoil_encode(card, payload, 1, field, 24) == VARMINTFOIL_FIELD_LENGTH, "a field of 24 cells is too short");
     expect(field[0] == 9 && field[24] == 9, "a refusal changes nothing");
-    expect(varmintfoil_encode(5, 5, 1, 3, payload, 1, field, 25) == 0, "encode succeeds");
+    expect(varmintfoil_encode(card, payload, 1, field, 25) == VARMINTFOIL_OK, "encode succeeds");
     expect(memcmp(field, written, 25) == 0, "the field of a5");
 
     /* The third row 10010 and the fourth 00001. */
@@ -58,43 +74,53 @@ static void the_card(void) {
     field[13] = 1;
     field[17] = 0;
     payload[0] = 0x3c;
-    count = varmintfoil_decode(5, 5, 1, 3, payload, 1, field, 25);
-    expect(count.number == 0 && count.count == 3 && payload[0] == 0xa5, "the damaged card reads a5 with 3 mended");
-    count = varmintfoil_correct(5, 5, 1, 3, field, 25);
-    expect(count.number == 0 && count.count == 3, "the damaged card is corrected in 3 cells");
+    count = varmintfoil_decode(card, payload, 1, field, 25);
+    expect(count.number == VARMINTFOIL_OK && count.count == 3 && payload[0] == 0xa5, "the damaged card reads a5 with 3 mended");
+    count = varmintfoil_correct(card, field, 25);
+    expect(count.number == VARMINTFOIL_OK && count.count == 3, "the damaged card is corrected in 3 cells");
     expect(memcmp(field, written, 25) == 0, "the corrected card is the written one");
 
     field[7] = 2;
     payload[0] = 0x3c;
-    count = varmintfoil_decode(5, 5, 1, 3, payload, 1, field, 25);
-    expect(count.number == 5 && count.count == 0 && payload[0] == 0x3c, "a cell of 2 gives 5");
+    count = varmintfoil_decode(card, payload, 1, field, 25);
+    expect(count.number == VARMINTFOIL_BAD_CELL && count.count == 0 && payload[0] == 0x3c, "2 is no cell");
+}
+
+static void the_padding(void) {
+    varmintfoil_shape_t three = VARMINTFOIL_SHAPE(.columns = 3, .rows = 1, .planes = 1, .strength = 1);
+    uint8_t cells[3] = {1, 1, 1};
+    varmintfoil_count_t count = varmintfoil_correct(three, cells, 3);
+    expect(count.number == VARMINTFOIL_BAD_PADDING && count.count == 0, "the codeword 1 1 1 holds a 1 as padding");
 }
 
 static void no_bytes(void) {
+    varmintfoil_shape_t two = VARMINTFOIL_SHAPE(.columns = 2, .rows = 1, .planes = 1, .strength = 1);
     uint8_t cells[2] = {0, 1};
-    varmintfoil_count_t count = varmintfoil_decode(2, 1, 1, 1, NULL, 0, cells, 2);
-    expect(count.number == 0 && count.count == 1, "cells 0 1 read with count 1 and an empty payload");
+    varmintfoil_count_t count = varmintfoil_decode(two, NULL, 0, cells, 2);
+    expect(count.number == VARMINTFOIL_OK && count.count == 1, "cells 0 1 read with count 1 and an empty payload");
     cells[0] = 1;
-    count = varmintfoil_decode(2, 1, 1, 1, NULL, 0, cells, 2);
-    expect(count.number == 6 && count.count == 0, "cells 1 1 give 6");
-    expect(varmintfoil_encode(2, 1, 1, 1, NULL, 0, NULL, 0) == 4, "null buffers of length 0");
+    count = varmintfoil_decode(two, NULL, 0, cells, 2);
+    expect(count.number == VARMINTFOIL_OUT_OF_REACH && count.count == 0, "cells 1 1 are out of reach");
+    expect(varmintfoil_encode(two, NULL, 0, NULL, 0) == VARMINTFOIL_FIELD_LENGTH, "null buffers of length 0");
 }
 
 static void the_distance_test(void) {
     varmintfoil_distance_t answer = varmintfoil_distance_test(7, 2, 3, 3);
-    expect(answer.number == 0 && answer.holds == 1 && answer.tried == 12, "7, 2, 3 holds at strength 3");
+    expect(answer.number == VARMINTFOIL_OK && answer.holds == 1 && answer.tried == 12, "7, 2, 3 holds at strength 3");
     expect(answer.row == 0 && answer.plane == 0 && answer.column == 0, "and gives no triple");
     answer = varmintfoil_distance_test(7, 2, 3, 4);
-    expect(answer.number == 0 && answer.holds == 0 && answer.tried == 9, "7, 2, 3 fails at strength 4");
+    expect(answer.number == VARMINTFOIL_OK && answer.holds == 0 && answer.tried == 9, "7, 2, 3 fails at strength 4");
     expect(answer.row == 0 && answer.plane == 2 && answer.column == -1, "at (0, 2, -1)");
-    expect(varmintfoil_distance_test(0, 0, 0, 19).number == 2, "2 before 9");
-    expect(varmintfoil_distance_test(0, 0, 0, 1).number == 9, "no classes give 9");
+    expect(varmintfoil_distance_test(0, 0, 0, 19).number == VARMINTFOIL_BAD_STRENGTH, "the strength comes before the settings");
+    expect(varmintfoil_distance_test(0, 0, 0, 1).number == VARMINTFOIL_BAD_SETTINGS, "no classes are bad settings");
 }
 
 int main(void) {
     the_plan();
+    the_limits();
     the_classes();
     the_card();
+    the_padding();
     no_bytes();
     the_distance_test();
     if (failures == 0) {

@@ -4,8 +4,19 @@
 //! listed with it; then all figures are 0 and the slices keep their bytes. A slice is valid for its length and a mutable one overlaps no
 //! other, which is what the library cannot see for itself. `include/varmintfoil.h` is the same interface for C.
 
+/// The numbers of a shape, of any size. A number left out is 0: `ShapeNumbers { columns: 5, ..ShapeNumbers::default() }`.
+#[repr(C)]
+#[derive(Clone, Copy, Debug, Default, PartialEq, Eq, Hash)]
+pub struct ShapeNumbers {
+    pub columns: usize,
+    pub rows: usize,
+    pub planes: usize,
+    pub strength: usize,
+}
+
 /// The answer of `plan`.
 #[repr(C)]
+#[non_exhaustive]
 #[derive(Clone, Copy, Debug, PartialEq, Eq)]
 pub struct PlanAnswer {
     pub number: usize,
@@ -17,6 +28,7 @@ pub struct PlanAnswer {
 
 /// The answer of `class_of`.
 #[repr(C)]
+#[non_exhaustive]
 #[derive(Clone, Copy, Debug, PartialEq, Eq)]
 pub struct ClassAnswer {
     pub number: usize,
@@ -25,6 +37,7 @@ pub struct ClassAnswer {
 
 /// The answer of `decode` and `correct`.
 #[repr(C)]
+#[non_exhaustive]
 #[derive(Clone, Copy, Debug, PartialEq, Eq)]
 pub struct CountAnswer {
     pub number: usize,
@@ -33,6 +46,7 @@ pub struct CountAnswer {
 
 /// The answer of `distance_test`; `holds` is 1 or 0.
 #[repr(C)]
+#[non_exhaustive]
 #[derive(Clone, Copy, Debug, PartialEq, Eq)]
 pub struct DistanceAnswer {
     pub number: usize,
@@ -44,88 +58,60 @@ pub struct DistanceAnswer {
 }
 
 extern "C" {
-    fn varmintfoil_plan(columns: usize, rows: usize, planes: usize, strength: usize) -> PlanAnswer;
-    fn varmintfoil_class(
-        columns: usize,
-        rows: usize,
-        planes: usize,
-        strength: usize,
-        row: usize,
-        plane: usize,
-        column: usize,
-    ) -> ClassAnswer;
-    fn varmintfoil_encode(
-        columns: usize,
-        rows: usize,
-        planes: usize,
-        strength: usize,
-        payload: *const u8,
-        payload_len: usize,
-        field: *mut u8,
-        field_len: usize,
-    ) -> usize;
+    fn varmintfoil_plan(shape: ShapeNumbers) -> PlanAnswer;
+    fn varmintfoil_class(shape: ShapeNumbers, row: usize, plane: usize, column: usize) -> ClassAnswer;
+    fn varmintfoil_encode(shape: ShapeNumbers, payload: *const u8, payload_len: usize, field: *mut u8, field_len: usize)
+        -> usize;
     fn varmintfoil_decode(
-        columns: usize,
-        rows: usize,
-        planes: usize,
-        strength: usize,
+        shape: ShapeNumbers,
         payload: *mut u8,
         payload_len: usize,
         field: *const u8,
         field_len: usize,
     ) -> CountAnswer;
-    fn varmintfoil_correct(
-        columns: usize,
-        rows: usize,
-        planes: usize,
-        strength: usize,
-        field: *mut u8,
-        field_len: usize,
-    ) -> CountAnswer;
+    fn varmintfoil_correct(shape: ShapeNumbers, field: *mut u8, field_len: usize) -> CountAnswer;
     fn varmintfoil_distance_test(m: usize, b: usize, c: usize, t: usize) -> DistanceAnswer;
 }
 
 /// Classes, capacity, payload bytes and cells of a shape: 1, 2.
-pub fn plan(columns: usize, rows: usize, planes: usize, strength: usize) -> PlanAnswer {
+#[must_use]
+pub fn plan(shape: ShapeNumbers) -> PlanAnswer {
     // SAFETY: only numbers pass.
-    unsafe { varmintfoil_plan(columns, rows, planes, strength) }
+    unsafe { varmintfoil_plan(shape) }
 }
 
 /// The class of a cell: 1, 2, 4.
-pub fn class_of(
-    columns: usize,
-    rows: usize,
-    planes: usize,
-    strength: usize,
-    row: usize,
-    plane: usize,
-    column: usize,
-) -> ClassAnswer {
+#[must_use]
+pub fn class_of(shape: ShapeNumbers, row: usize, plane: usize, column: usize) -> ClassAnswer {
     // SAFETY: only numbers pass.
-    unsafe { varmintfoil_class(columns, rows, planes, strength, row, plane, column) }
+    unsafe { varmintfoil_class(shape, row, plane, column) }
 }
 
 /// Writes the field of a payload: 1, 2, 3, 4.
-pub fn encode(columns: usize, rows: usize, planes: usize, strength: usize, payload: &[u8], field: &mut [u8]) -> usize {
+#[must_use]
+pub fn encode(shape: ShapeNumbers, payload: &[u8], field: &mut [u8]) -> usize {
     let (bytes, cells) = (payload.len(), field.len());
     // SAFETY: the slices are valid for their lengths, and a mutable slice overlaps no other.
-    unsafe { varmintfoil_encode(columns, rows, planes, strength, payload.as_ptr(), bytes, field.as_mut_ptr(), cells) }
+    unsafe { varmintfoil_encode(shape, payload.as_ptr(), bytes, field.as_mut_ptr(), cells) }
 }
 
 /// Reads a field into a payload: 1, 2, 3, 4, 5, 6, 7.
-pub fn decode(columns: usize, rows: usize, planes: usize, strength: usize, payload: &mut [u8], field: &[u8]) -> CountAnswer {
+#[must_use]
+pub fn decode(shape: ShapeNumbers, payload: &mut [u8], field: &[u8]) -> CountAnswer {
     let (bytes, cells) = (payload.len(), field.len());
     // SAFETY: the slices are valid for their lengths, and a mutable slice overlaps no other.
-    unsafe { varmintfoil_decode(columns, rows, planes, strength, payload.as_mut_ptr(), bytes, field.as_ptr(), cells) }
+    unsafe { varmintfoil_decode(shape, payload.as_mut_ptr(), bytes, field.as_ptr(), cells) }
 }
 
 /// Corrects a field where it lies: 1, 2, 4, 5, 6, 7.
-pub fn correct(columns: usize, rows: usize, planes: usize, strength: usize, field: &mut [u8]) -> CountAnswer {
+#[must_use]
+pub fn correct(shape: ShapeNumbers, field: &mut [u8]) -> CountAnswer {
     // SAFETY: the slice is valid for its length.
-    unsafe { varmintfoil_correct(columns, rows, planes, strength, field.as_mut_ptr(), field.len()) }
+    unsafe { varmintfoil_correct(shape, field.as_mut_ptr(), field.len()) }
 }
 
 /// Are all different cells of one class at least t apart in an endless stack? 2, 9.
+#[must_use]
 pub fn distance_test(m: usize, b: usize, c: usize, t: usize) -> DistanceAnswer {
     // SAFETY: only numbers pass.
     unsafe { varmintfoil_distance_test(m, b, c, t) }

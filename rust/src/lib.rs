@@ -1,7 +1,7 @@
 //! Varmintfoil: a payload in a field of black and white cells that outlives any one hole of at most t connected cells.
 //!
-//! The codec itself is proved and lies in the static library that `rt staticlib ffi` writes at the repository's root; this is a safe
-//! wrapper over it. Nothing handed to it can upset it: each operation succeeds or gives its first listed [`Refusal`].
+//! The codec itself is proved and lies in the static library that `rt staticlib varmintfoil` writes at the repository's root; this is
+//! a safe wrapper over it. Nothing handed to it can upset it: each operation succeeds or gives its first listed [`Refusal`].
 //!
 #![cfg_attr(feature = "archive", doc = "```")]
 #![cfg_attr(not(feature = "archive"), doc = "```ignore")]

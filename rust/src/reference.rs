@@ -365,7 +365,7 @@ fn hexadecimal(digit: u8) -> Option<u8> {
 
 /// Lower-case hexadecimal, two digits a byte, possibly empty.
 fn payload_bytes(value: &[u8]) -> Option<Vec<u8>> {
-    if !value.len().is_multiple_of(2) {
+    if value.len() % 2 != 0 {
         return None;
     }
     value.chunks(2).map(|pair| Some(hexadecimal(pair[0])? * 16 + hexadecimal(pair[1])?)).collect()

@@ -3,12 +3,13 @@
 use std::fmt;
 
 /// The first reason, in the listed order, for which an operation declines. It has then changed no byte of any buffer.
+#[non_exhaustive]
 #[derive(Clone, Copy, Debug, PartialEq, Eq, Hash)]
 pub enum Refusal {
     /// 1: columns, rows, planes or their product outside the limits.
-    Size,
+    BadSize,
     /// 2: a strength outside the limits.
-    Strength,
+    BadStrength,
     /// 3: a payload whose length is not the plan's.
     PayloadLength,
     /// 4: a field whose length is not the plan's.
@@ -16,45 +17,45 @@ pub enum Refusal {
     /// 4: a row, plane or column outside the shape.
     OutsideShape,
     /// 5: a cell above 1.
-    Cell,
+    BadCell,
     /// 6: some class with no codeword in reach.
-    Uncorrectable,
+    OutOfReach,
     /// 7: padding that is not 0 after correction.
-    Padding,
+    BadPadding,
     /// 8: a fault of form in a card text, or a card too large for it.
-    CardText,
+    BadForm,
     /// 9: settings of the distance test outside its limits.
-    Settings,
+    BadSettings,
 }
 
 impl Refusal {
     /// The number that the C interface and the card program give.
     pub fn number(self) -> usize {
         match self {
-            Refusal::Size => 1,
-            Refusal::Strength => 2,
+            Refusal::BadSize => 1,
+            Refusal::BadStrength => 2,
             Refusal::PayloadLength => 3,
             Refusal::FieldLength | Refusal::OutsideShape => 4,
-            Refusal::Cell => 5,
-            Refusal::Uncorrectable => 6,
-            Refusal::Padding => 7,
-            Refusal::CardText => 8,
-            Refusal::Settings => 9,
+            Refusal::BadCell => 5,
+            Refusal::OutOfReach => 6,
+            Refusal::BadPadding => 7,
+            Refusal::BadForm => 8,
+            Refusal::BadSettings => 9,
         }
     }
 
     /// The refusal that a number stands for; 4 is read as a field's length.
     pub fn from_number(number: usize) -> Option<Refusal> {
         Some(match number {
-            1 => Refusal::Size,
-            2 => Refusal::Strength,
+            1 => Refusal::BadSize,
+            2 => Refusal::BadStrength,
             3 => Refusal::PayloadLength,
             4 => Refusal::FieldLength,
-            5 => Refusal::Cell,
-            6 => Refusal::Uncorrectable,
-            7 => Refusal::Padding,
-            8 => Refusal::CardText,
-            9 => Refusal::Settings,
+            5 => Refusal::BadCell,
+            6 => Refusal::OutOfReach,
+            7 => Refusal::BadPadding,
+            8 => Refusal::BadForm,
+            9 => Refusal::BadSettings,
             _ => return None,
         })
     }
@@ -63,20 +64,20 @@ impl Refusal {
 impl fmt::Display for Refusal {
     fn fmt(&self, f: &mut fmt::Formatter<'_>) -> fmt::Result {
         f.write_str(match self {
-            Refusal::Size => {
+            Refusal::BadSize => {
                 "the shape is outside the limits: 1 to 256 columns, 1 to 256 rows, 1 to 16 planes, at most 65,536 cells"
             }
-            Refusal::Strength => {
+            Refusal::BadStrength => {
                 "the strength is outside the limits: 1 to 32 for one plane, 1 to 8 for more, 1 to 18 for the distance test"
             }
             Refusal::PayloadLength => "the payload's length is not the one that the plan gives",
             Refusal::FieldLength => "the field's length is not the shape's number of cells",
             Refusal::OutsideShape => "the row, plane or column lies outside the shape",
-            Refusal::Cell => "a cell is neither 0 nor 1",
-            Refusal::Uncorrectable => "the field is damaged beyond correction: some class has no codeword in reach",
-            Refusal::Padding => "the cells after the payload are not 0 after correction",
-            Refusal::CardText => "the card text is malformed or too large",
-            Refusal::Settings => "the settings are outside the limits: m from 1 to 4,096, b and c below m",
+            Refusal::BadCell => "a cell is neither 0 nor 1",
+            Refusal::OutOfReach => "the field is damaged beyond correction: some class has no codeword in reach",
+            Refusal::BadPadding => "the cells after the payload are not 0 after correction",
+            Refusal::BadForm => "the card text is malformed or too large",
+            Refusal::BadSettings => "the settings are outside the limits: m from 1 to 4,096, b and c below m",
         })
     }
 }

@@ -1,8 +1,10 @@
 //! The safe wrapper over the C interface.
 
-use crate::{ffi, Refusal};
+use crate::ffi::{self, ShapeNumbers};
+use crate::Refusal;
 
 /// What follows from a shape alone.
+#[non_exhaustive]
 #[derive(Clone, Copy, Debug, PartialEq, Eq, Hash)]
 pub struct Plan {
     /// The number of interleaving classes, m.
@@ -18,35 +20,33 @@ pub struct Plan {
 /// A shape within the limits, with its strength.
 #[derive(Clone, Copy, Debug, PartialEq, Eq, Hash)]
 pub struct Shape {
-    columns: usize,
-    rows: usize,
-    planes: usize,
-    strength: usize,
+    numbers: ShapeNumbers,
     plan: Plan,
 }
 
 impl Shape {
-    /// The shape, or `Size`, or `Strength`.
+    /// The shape, or `BadSize`, or `BadStrength`.
     pub fn new(columns: usize, rows: usize, planes: usize, strength: usize) -> Result<Shape, Refusal> {
-        let ffi::PlanAnswer { number, classes, capacity, bytes, cells } = ffi::plan(columns, rows, planes, strength);
+        let numbers = ShapeNumbers { columns, rows, planes, strength };
+        let ffi::PlanAnswer { number, classes, capacity, bytes, cells } = ffi::plan(numbers);
         check(number)?;
-        Ok(Shape { columns, rows, planes, strength, plan: Plan { classes, capacity, bytes, cells } })
+        Ok(Shape { numbers, plan: Plan { classes, capacity, bytes, cells } })
     }
 
     pub fn columns(&self) -> usize {
-        self.columns
+        self.numbers.columns
     }
 
     pub fn rows(&self) -> usize {
-        self.rows
+        self.numbers.rows
     }
 
     pub fn planes(&self) -> usize {
-        self.planes
+        self.numbers.planes
     }
 
     pub fn strength(&self) -> usize {
-        self.strength
+        self.numbers.strength
     }
 
     pub fn plan(&self) -> Plan {
@@ -75,8 +75,9 @@ impl Shape {
 
     /// The byte of a cell in the field, or `OutsideShape`.
     pub fn cell(&self, row: usize, plane: usize, column: usize) -> Result<usize, Refusal> {
-        if row < self.rows && plane < self.planes && column < self.columns {
-            Ok((plane * self.rows + row) * self.columns + column)
+        let ShapeNumbers { columns, rows, planes, .. } = self.numbers;
+        if row < rows && plane < planes && column < columns {
+            Ok((plane * rows + row) * columns + column)
         } else {
             Err(Refusal::OutsideShape)
         }
@@ -84,6 +85,7 @@ impl Shape {
 }
 
 /// A payload read from a field, and the number of cells that were corrected on the way.
+#[non_exhaustive]
 #[derive(Clone, Debug, PartialEq, Eq, Hash)]
 pub struct Decoded {
     pub payload: Vec<u8>,
@@ -91,11 +93,14 @@ pub struct Decoded {
 }
 
 /// The verdict of the distance test, with the number of difference triples tried.
+#[non_exhaustive]
 #[derive(Clone, Copy, Debug, PartialEq, Eq, Hash)]
 pub enum Distance {
     /// All different cells of one class are at least t apart.
+    #[non_exhaustive]
     Holds { tried: usize },
     /// Two cells that differ by this triple are of one class and closer than t.
+    #[non_exhaustive]
     Fails { row: i32, plane: i32, column: i32, tried: usize },
 }
 
@@ -109,7 +114,7 @@ fn check(number: usize) -> Result<(), Refusal> {
 
 /// The interleaving class of a cell, or `OutsideShape`.
 pub fn class_of(shape: &Shape, row: usize, plane: usize, column: usize) -> Result<usize, Refusal> {
-    let answer = ffi::class_of(shape.columns, shape.rows, shape.planes, shape.strength, row, plane, column);
+    let answer = ffi::class_of(shape.numbers, row, plane, column);
     match answer.number {
         4 => Err(Refusal::OutsideShape),
         number => check(number).map(|()| answer.class_index),
@@ -125,10 +130,10 @@ pub fn encode(shape: &Shape, payload: &[u8]) -> Result<Vec<u8>, Refusal> {
 
 /// Writes the field of a payload into a buffer, or gives `PayloadLength`, then `FieldLength`.
 pub fn encode_into(shape: &Shape, payload: &[u8], field: &mut [u8]) -> Result<(), Refusal> {
-    check(ffi::encode(shape.columns, shape.rows, shape.planes, shape.strength, payload, field))
+    check(ffi::encode(shape.numbers, payload, field))
 }
 
-/// The payload of a field, or `FieldLength`, then `Cell`, `Uncorrectable`, `Padding`.
+/// The payload of a field, or `FieldLength`, then `BadCell`, `OutOfReach`, `BadPadding`.
 pub fn decode(shape: &Shape, field: &[u8]) -> Result<Decoded, Refusal> {
     let mut payload = vec![0; shape.payload_bytes()];
     let mended = decode_into(shape, field, &mut payload)?;
@@ -137,18 +142,18 @@ pub fn decode(shape: &Shape, field: &[u8]) -> Result<Decoded, Refusal> {
 
 /// Reads the payload of a field into a buffer and gives the number of cells corrected on the way, or `PayloadLength`, then as `decode`.
 pub fn decode_into(shape: &Shape, field: &[u8], payload: &mut [u8]) -> Result<usize, Refusal> {
-    let answer = ffi::decode(shape.columns, shape.rows, shape.planes, shape.strength, payload, field);
+    let answer = ffi::decode(shape.numbers, payload, field);
     check(answer.number).map(|()| answer.count)
 }
 
 /// Corrects a field where it lies and gives the number of cells changed, or refuses as `decode` does.
 pub fn correct(shape: &Shape, field: &mut [u8]) -> Result<usize, Refusal> {
-    let answer = ffi::correct(shape.columns, shape.rows, shape.planes, shape.strength, field);
+    let answer = ffi::correct(shape.numbers, field);
     check(answer.number).map(|()| answer.count)
 }
 
-/// Are all different cells of one class, (column − b × row − c × plane) mod m, at least t apart in an endless stack? `Strength` for t
-/// outside 1 to 18, then `Settings`.
+/// Are all different cells of one class, (column − b × row − c × plane) mod m, at least t apart in an endless stack?
+/// `BadStrength` for t outside 1 to 18, then `BadSettings`.
 pub fn distance_test(m: usize, b: usize, c: usize, t: usize) -> Result<Distance, Refusal> {
     let ffi::DistanceAnswer { number, holds, row, plane, column, tried } = ffi::distance_test(m, b, c, t);
     check(number)?;

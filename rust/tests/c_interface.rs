@@ -1,24 +1,211 @@
-//! The header and the archive from C: the smoke test is compiled strictly, linked and run.
+//! The header and the archive from C and C++: programs are compiled strictly, linked and run, and the archive is looked into.
 
-use std::path::Path;
-use std::process::Command;
+use std::ffi::OsString;
+use std::io::Write;
+use std::path::{Path, PathBuf};
+use std::process::{Command, Output, Stdio};
+
+const ARCHIVE: &str = env!("VARMINTFOIL_ARCHIVE");
+
+fn root() -> &'static Path {
+    Path::new(env!("CARGO_MANIFEST_DIR")).parent().unwrap()
+}
+
+/// A file of the tests' own folder.
+fn scratch(name: &str) -> PathBuf {
+    Path::new(env!("CARGO_TARGET_TMPDIR")).join(name)
+}
+
+fn text(bytes: &[u8]) -> String {
+    String::from_utf8_lossy(bytes).into_owned()
+}
+
+/// A language that the header is for.
+#[derive(Clone, Copy)]
+enum Language {
+    C,
+    Cpp,
+}
+
+impl Language {
+    /// Its compiler, which a variable may name, and what the compiler calls it.
+    fn compiler(self) -> (OsString, &'static str) {
+        let (variable, usual, name) = match self {
+            Language::C => ("CC", "cc", "c"),
+            Language::Cpp => ("CXX", "c++", "c++"),
+        };
+        (std::env::var_os(variable).unwrap_or_else(|| usual.into()), name)
+    }
+
+    /// Compiles a program that is handed over as text.
+    fn compile(self, standard: &str, source: &str, program: &Path, arguments: &[&str]) -> Output {
+        let (compiler, name) = self.compiler();
+        let mut run = Command::new(&compiler)
+            .args([&format!("-std={standard}"), "-Wall", "-Wextra", "-pedantic", "-I"])
+            .arg(root().join("include"))
+            .args(["-x", name, "-", "-x", "none", "-o"])
+            .arg(program)
+            .args(arguments)
+            .stdin(Stdio::piped())
+            .stdout(Stdio::piped())
+            .stderr(Stdio::piped())
+            .spawn()
+            .unwrap_or_else(|error| panic!("the compiler {compiler:?}: {error}"));
+        writeln!(run.stdin.take().unwrap(), "{source}").unwrap();
+        run.wait_with_output().unwrap()
+    }
+
+    /// What a program prints that compiles with no warning, links and ends well.
+    fn run(self, standard: &str, source: &str, name: &str, arguments: &[&str]) -> String {
+        let program = scratch(&format!("{name}-{standard}"));
+        let compiled = self.compile(standard, source, &program, &[&["-Werror"], arguments].concat());
+        assert!(compiled.status.success(), "{standard}: {}", text(&compiled.stderr));
+        let run = Command::new(&program).output().unwrap();
+        assert!(run.status.success(), "{standard}: {}", text(&run.stdout));
+        text(&run.stdout)
+    }
+}
+
+/// The standards to try a program in; those of C++ only where there is a C++ compiler.
+fn standards(c: &'static [&str], cpp: &'static [&str]) -> Vec<(Language, &'static str)> {
+    let compiler = Language::Cpp.compiler().0;
+    let there = Command::new(&compiler).arg("--version").output().is_ok();
+    if !there && !cpp.is_empty() {
+        eprintln!("skipped {cpp:?}: there is no C++ compiler {compiler:?}");
+    }
+    let cpp = cpp.iter().filter(|_| there).map(|&standard| (Language::Cpp, standard));
+    c.iter().map(|&standard| (Language::C, standard)).chain(cpp).collect()
+}
+
+fn source(name: &str) -> String {
+    std::fs::read_to_string(root().join("rust/c").join(name)).unwrap()
+}
 
 #[test]
 fn the_smoke_test() {
-    let root = Path::new(env!("CARGO_MANIFEST_DIR")).parent().unwrap();
-    let program = Path::new(env!("CARGO_TARGET_TMPDIR")).join("smoke");
-    let compiler = std::env::var_os("CC").unwrap_or_else(|| "cc".into());
-    let compiled = Command::new(compiler)
-        .args(["-std=c99", "-Wall", "-Wextra", "-pedantic", "-Werror", "-O1", "-I"])
-        .arg(root.join("include"))
-        .arg(root.join("rust/c/smoke.c"))
-        .arg(root.join("target/staticlib/libffi.a"))
-        .arg("-o")
-        .arg(&program)
-        .output()
-        .expect("a C compiler, cc or $CC");
-    assert!(compiled.status.success(), "{}", String::from_utf8_lossy(&compiled.stderr));
-    let run = Command::new(&program).output().unwrap();
-    assert!(run.status.success(), "{}", String::from_utf8_lossy(&run.stdout));
-    assert_eq!(run.stdout, b"the worked card holds\n");
+    for (language, standard) in standards(&["c99", "c11"], &["c++20"]) {
+        assert_eq!(language.run(standard, &source("smoke.c"), "smoke", &["-O1", ARCHIVE]), "the worked card holds\n");
+    }
+}
+
+/// Before C++20 a shape is made with all members 0, and its members are set by their names.
+#[test]
+fn a_shape_before_cpp20() {
+    let source = r#"
+        #include "varmintfoil.h"
+        int main() {
+            varmintfoil_shape_t shape = varmintfoil_shape_t();
+            shape.columns = 5;
+            shape.rows = 5;
+            if (varmintfoil_plan(shape).number != VARMINTFOIL_BAD_SIZE) return 1;
+            shape.planes = 1;
+            shape.strength = 3;
+            return varmintfoil_plan(shape).bytes == 1 ? 0 : 1;
+        }
+    "#;
+    for (language, standard) in standards(&[], &["c++98", "c++11", "c++14", "c++17"]) {
+        language.run(standard, source, "by-names", &[ARCHIVE]);
+    }
+}
+
+/// Members that are left out bring no warning, so that old calls compile as they are when a member is added.
+#[test]
+fn a_member_left_out() {
+    let source = r#"
+        #include "varmintfoil.h"
+        int main(void) {
+            varmintfoil_shape_t shape = VARMINTFOIL_SHAPE(.columns = 5, .rows = 5);
+            return shape.columns == 5 && shape.rows == 5 && shape.planes == 0 && shape.strength == 0 ? 0 : 1;
+        }
+    "#;
+    for (language, standard) in standards(&["c99"], &["c++20"]) {
+        language.run(standard, source, "left-out", &[]);
+    }
+}
+
+/// Each of the six functions, called and dropped.
+#[test]
+fn a_dropped_answer() {
+    let source = r#"
+        #include "varmintfoil.h"
+        void drop(varmintfoil_shape_t shape, uint8_t *payload, uint8_t *field);
+        void drop(varmintfoil_shape_t shape, uint8_t *payload, uint8_t *field) {
+            varmintfoil_plan(shape);
+            varmintfoil_class(shape, 0, 0, 0);
+            varmintfoil_encode(shape, payload, 1, field, 25);
+            varmintfoil_decode(shape, payload, 1, field, 25);
+            varmintfoil_correct(shape, field, 25);
+            varmintfoil_distance_test(7, 2, 3, 3);
+        }
+    "#;
+    for (language, standard) in standards(&["c99"], &["c++14", "c++17"]) {
+        let compiled = language.compile(standard, source, &scratch(&format!("dropped-{standard}.o")), &["-c"]);
+        let warnings = text(&compiled.stderr).matches("warning: ignoring return value").count();
+        assert_eq!(warnings, 6, "{standard}: {}", text(&compiled.stderr));
+    }
+}
+
+/// A program that needs libffi, where there is one, can link this archive too, by its name.
+#[test]
+fn beside_libffi() {
+    let source = r#"
+        #include <ffi.h>
+        #include "varmintfoil.h"
+        int main(void) {
+            ffi_cif cif;
+            varmintfoil_shape_t shape = VARMINTFOIL_SHAPE(.columns = 5, .rows = 5, .planes = 1, .strength = 3);
+            if (ffi_prep_cif(&cif, FFI_DEFAULT_ABI, 0, &ffi_type_void, NULL) != FFI_OK) return 1;
+            return CALL == 5 ? 0 : 1;
+        }
+    "#;
+    let alone = source.replace("CALL", "shape.rows");
+    if !Language::C.compile("c99", &alone, &scratch("libffi-alone"), &["-lffi"]).status.success() {
+        eprintln!("skipped: there is no libffi");
+        return;
+    }
+    let folder = format!("-L{}", Path::new(ARCHIVE).parent().unwrap().display());
+    let both = source.replace("CALL", "varmintfoil_plan(shape).classes");
+    Language::C.run("c99", &both, "beside-libffi", &[&folder, "-lffi", "-lvarmintfoil"]);
+    Language::C.run("c99", &both, "before-libffi", &[&folder, "-lvarmintfoil", "-lffi"]);
+}
+
+/// The archive has the six functions, needs memset and nothing else, and has no data but constants.
+#[test]
+fn the_symbols() {
+    let listing = text(&Command::new("nm").args(["-P", ARCHIVE]).output().expect("nm").stdout);
+    let symbols = listing.lines().filter_map(|line| line.split_once(' ')).map(|(name, rest)| (name, &rest[..1]));
+    let of = |kind: &str| -> Vec<&str> { symbols.clone().filter(|symbol| symbol.1 == kind).map(|symbol| symbol.0).collect() };
+    let functions = ["class", "correct", "decode", "distance_test", "encode", "plan"].map(|name| format!("varmintfoil_{name}"));
+    assert_eq!(of("T"), functions);
+    assert_eq!(of("U"), ["memset"]);
+    assert!(symbols.clone().all(|(_, kind)| "TtrU".contains(kind)), "{listing}");
+    let sizes = text(&Command::new("size").arg(ARCHIVE).output().expect("size").stdout);
+    let figures: Vec<&str> = sizes.lines().nth(1).unwrap().split_whitespace().collect();
+    assert_eq!(figures[1..3], ["0", "0"], "no initialised data and none that starts as 0: {sizes}");
+}
+
+/// The number of bytes in a row of docs/C-INTERFACE.md.
+fn written(row: &str) -> usize {
+    let document = std::fs::read_to_string(root().join("docs/C-INTERFACE.md")).unwrap();
+    let cell = document.lines().find_map(|line| line.strip_prefix(&format!("| {row} | "))?.split_once(" bytes"));
+    cell.unwrap_or_else(|| panic!("the document has a row of bytes for {row}")).0.replace(',', "").parse().unwrap()
+}
+
+/// The archive's size is about what is written.
+#[test]
+fn the_size() {
+    let (size, written) = (std::fs::metadata(ARCHIVE).unwrap().len() as usize, written("size"));
+    assert!(size.abs_diff(written) <= 512, "the archive has {size} bytes, and {written} are written");
+}
+
+/// The stack of each function is what is written or a little less.
+#[test]
+fn the_stack() {
+    let printed = Language::C.run("gnu99", &source("stack.c"), "stack", &["-O0", ARCHIVE]);
+    assert_eq!(printed.lines().count(), 6);
+    for line in printed.lines() {
+        let (function, taken) = line.split_once(' ').unwrap();
+        let (taken, written): (usize, usize) = (taken.parse().unwrap(), written(&format!("`{function}`")));
+        assert!(taken <= written && written <= taken + 64, "{function} takes {taken} bytes, and {written} are written");
+    }
 }

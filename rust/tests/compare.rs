@@ -4,13 +4,17 @@
 mod common;
 
 use common::*;
-use varmintfoil::{ffi, reference, Refusal, Shape};
+use varmintfoil::{ffi, reference, Distance, Refusal, Shape};
 
 /// How often each operation is compared.
 const TIMES: usize = 200_000;
 
 /// The C interface, with its figures of a refusal tested.
 struct Proved;
+
+fn numbers(s: &Numbers) -> ffi::ShapeNumbers {
+    ffi::ShapeNumbers { columns: s.w, rows: s.h, planes: s.d, strength: s.t }
+}
 
 /// The number as a result; the count of a refusal is 0.
 fn counted(answer: ffi::CountAnswer) -> Result<usize, usize> {
@@ -23,18 +27,18 @@ fn counted(answer: ffi::CountAnswer) -> Result<usize, usize> {
 
 impl Codec for Proved {
     fn encode(s: &Numbers, payload: &[u8], field: &mut [u8]) -> Result<(), usize> {
-        match ffi::encode(s.w, s.h, s.d, s.t, payload, field) {
+        match ffi::encode(numbers(s), payload, field) {
             0 => Ok(()),
             number => Err(number),
         }
     }
 
     fn decode(s: &Numbers, payload: &mut [u8], field: &[u8]) -> Result<usize, usize> {
-        counted(ffi::decode(s.w, s.h, s.d, s.t, payload, field))
+        counted(ffi::decode(numbers(s), payload, field))
     }
 
     fn correct(s: &Numbers, field: &mut [u8]) -> Result<usize, usize> {
-        counted(ffi::correct(s.w, s.h, s.d, s.t, field))
+        counted(ffi::correct(numbers(s), field))
     }
 }
 
@@ -86,7 +90,7 @@ fn plans() {
     for round in 0..TIMES {
         let shape = if round < large.len() { large[round] } else { any_shape(&mut random) };
         let answer = shape.plan();
-        let figures = ffi::plan(shape.w, shape.h, shape.d, shape.t);
+        let figures = ffi::plan(numbers(&shape));
         let expected = match answer {
             Ok(plan) => [0, plan.classes, plan.capacity, plan.bytes, plan.cells],
             Err(number) => [number, 0, 0, 0, 0],
@@ -111,9 +115,9 @@ fn classes_of_cells() {
         };
         let (row, plane, column) = (side(random, shape.h), side(random, shape.d), side(random, shape.w));
         let answer = reference::class_of(shape.w, shape.h, shape.d, shape.t, row, plane, column);
-        let actual = ffi::class_of(shape.w, shape.h, shape.d, shape.t, row, plane, column);
-        let expected = ffi::ClassAnswer { number: number_of(&answer), class_index: answer.unwrap_or(0) };
-        assert_eq!(actual, expected, "{shape:?} {row} {plane} {column}");
+        let actual = ffi::class_of(numbers(shape), row, plane, column);
+        let expected = (number_of(&answer), answer.unwrap_or(0));
+        assert_eq!((actual.number, actual.class_index), expected, "{shape:?} {row} {plane} {column}");
         if let Ok(s) = shape_of(shape) {
             let wrapped = varmintfoil::class_of(&s, row, plane, column);
             assert_eq!(wrapped, answer.map_err(|_| Refusal::OutsideShape), "{shape:?} {row} {plane} {column}");
@@ -198,25 +202,25 @@ fn distance_tests() {
     assert_eq!(numbers[0] + numbers[2] + numbers[9], TIMES + 9 * 20);
 }
 
+/// The number, the verdict, the triple and the number of triples tried.
+type DistanceFigures = (usize, usize, [i32; 3], usize);
+
 fn compare_distance(m: usize, b: usize, c: usize, t: usize, numbers: &mut [usize; 10], holds: &mut usize) {
-    let answer = reference::distance_test(m, b, c, t);
-    let expected = match answer {
-        Ok(reference::Distance { holds, row, plane, column, tried }) => {
-            ffi::DistanceAnswer { number: 0, holds: usize::from(holds), row, plane, column, tried }
-        }
-        Err(number) => ffi::DistanceAnswer { number, holds: 0, row: 0, plane: 0, column: 0, tried: 0 },
+    let refused = |number: usize| -> DistanceFigures { (number, 0, [0, 0, 0], 0) };
+    let expected = match reference::distance_test(m, b, c, t) {
+        Ok(d) => (0, usize::from(d.holds), [d.row, d.plane, d.column], d.tried),
+        Err(number) => refused(number),
     };
-    assert_eq!(ffi::distance_test(m, b, c, t), expected, "m {m}, b {b}, c {c}, t {t}");
+    let d = ffi::distance_test(m, b, c, t);
+    let actual = (d.number, d.holds, [d.row, d.plane, d.column], d.tried);
+    assert_eq!(actual, expected, "m {m}, b {b}, c {c}, t {t}");
     let wrapped = match varmintfoil::distance_test(m, b, c, t) {
-        Ok(varmintfoil::Distance::Holds { tried }) => {
-            ffi::DistanceAnswer { number: 0, holds: 1, row: 0, plane: 0, column: 0, tried }
-        }
-        Ok(varmintfoil::Distance::Fails { row, plane, column, tried }) => {
-            ffi::DistanceAnswer { number: 0, holds: 0, row, plane, column, tried }
-        }
-        Err(refusal) => ffi::DistanceAnswer { number: refusal.number(), holds: 0, row: 0, plane: 0, column: 0, tried: 0 },
+        Ok(Distance::Holds { tried, .. }) => (0, 1, [0, 0, 0], tried),
+        Ok(Distance::Fails { row, plane, column, tried, .. }) => (0, 0, [row, plane, column], tried),
+        Ok(other) => panic!("an unlisted verdict: {other:?}"),
+        Err(refusal) => refused(refusal.number()),
     };
     assert_eq!(wrapped, expected, "m {m}, b {b}, c {c}, t {t}");
-    numbers[expected.number] += 1;
-    *holds += expected.holds;
+    numbers[expected.0] += 1;
+    *holds += expected.1;
 }

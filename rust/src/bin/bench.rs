@@ -3,7 +3,8 @@
 
 use std::hint::black_box;
 use std::time::{Duration, Instant};
-use varmintfoil::{ffi, plain, Shape};
+use varmintfoil::ffi::{self, ShapeNumbers};
+use varmintfoil::{plain, Shape};
 
 /// For how long each row of a table is measured.
 const BUDGET: Duration = Duration::from_millis(400);
@@ -38,7 +39,7 @@ fn best_of(mut proved: impl FnMut() -> f64, mut plain: impl FnMut() -> f64, mut 
 
 /// A shape with a payload, its field and the field with a hole.
 struct Card {
-    numbers: [usize; 4],
+    numbers: ShapeNumbers,
     shape: Shape,
     payload: Vec<u8>,
     field: Vec<u8>,
@@ -63,14 +64,15 @@ impl Card {
         for cell in &mut damaged[middle..middle + strength] {
             *cell ^= 1;
         }
-        Card { numbers: [columns, rows, planes, strength], shape, payload, field, damaged }
+        let numbers = ShapeNumbers { columns, rows, planes, strength };
+        Card { numbers, shape, payload, field, damaged }
     }
 
     fn encode(&self) -> Best {
-        let [w, h, d, t] = self.numbers;
+        let ShapeNumbers { columns: w, rows: h, planes: d, strength: t } = self.numbers;
         let (mut one, mut other, mut third) = (self.field.clone(), self.field.clone(), self.field.clone());
         let best = best_of(
-            || time(|| ffi::encode(black_box(w), h, d, t, black_box(&self.payload), &mut one)),
+            || time(|| ffi::encode(black_box(self.numbers), black_box(&self.payload), &mut one)),
             || time(|| plain::encode(black_box(w), h, d, t, black_box(&self.payload), &mut other)),
             || time(|| third.copy_from_slice(black_box(&self.field))),
         );
@@ -79,12 +81,12 @@ impl Card {
     }
 
     fn decode(&self) -> Best {
-        let [w, h, d, t] = self.numbers;
+        let ShapeNumbers { columns: w, rows: h, planes: d, strength: t } = self.numbers;
         let (mut one, mut other, mut third) = (self.payload.clone(), self.payload.clone(), self.field.clone());
         one.fill(0);
         other.fill(0);
         let best = best_of(
-            || time(|| ffi::decode(black_box(w), h, d, t, &mut one, black_box(&self.damaged))),
+            || time(|| ffi::decode(black_box(self.numbers), &mut one, black_box(&self.damaged))),
             || time(|| plain::decode(black_box(w), h, d, t, &mut other, black_box(&self.damaged))),
             || time(|| third.copy_from_slice(black_box(&self.damaged))),
         );
@@ -93,12 +95,12 @@ impl Card {
     }
 
     fn correct(&self) -> Best {
-        let [w, h, d, t] = self.numbers;
+        let ShapeNumbers { columns: w, rows: h, planes: d, strength: t } = self.numbers;
         let (mut one, mut other, mut third) = (self.damaged.clone(), self.damaged.clone(), self.field.clone());
         let best = best_of(
             || {
                 one.copy_from_slice(&self.damaged);
-                time(|| ffi::correct(black_box(w), h, d, t, black_box(&mut one)))
+                time(|| ffi::correct(black_box(self.numbers), black_box(&mut one)))
             },
             || {
                 other.copy_from_slice(&self.damaged);

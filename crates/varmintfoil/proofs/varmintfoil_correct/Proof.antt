@@ -1,0 +1,28 @@
+-- `varmintfoil_correct` meets its contract: its figures are those of the answer.
+use mathlib.Core.Path.{_∙_}
+use borrow.Author.Needs.{needs}
+use Rattle.varmintfoil.proofs.varmintfoil_correct.Statement.{statement}
+use Rattle.varmintfoil.proofs.varmintfoil_correct.Tie as tie
+
+correct-in-requires : tie.Need-correct-in-requires
+correct-in-requires c κs = search needs
+
+number-requires : tie.Need-number-requires
+number-requires c κs = search needs
+
+count-requires : tie.Need-count-requires
+count-requires c κs = search needs
+
+same-length : tie.Need-same-length
+same-length c = search needs
+
+returns : tie.Need-returns
+returns c =
+    record {
+      number = c .before .number .ensures ∙ c .before .before .before .before .correct-in .ensures .number;
+      count = c .count .ensures ∙ c .before .before .before .before .correct-in .ensures .count;
+      leaves = c .before .before .before .before .correct-in .ensures .leaves;
+    }
+
+pub varmintfoil-correct-spec : {M : Type 1} → statement M
+varmintfoil-correct-spec = tie.close (tie.spec correct-in-requires number-requires count-requires same-length returns)

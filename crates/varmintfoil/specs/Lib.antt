@@ -1,0 +1,2 @@
+-- What the crate `varmintfoil` promises: the structs that C is given.
+pub mod Boundary

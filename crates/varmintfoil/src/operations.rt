@@ -1,0 +1,67 @@
+// Each operation on the shape of any numbers: the constructor's refusal is the operation's.
+ghost use Rattle.lattice.specs.Answer.{IsCellClass};
+ghost use Rattle.lattice.specs.Cell.{cell};
+ghost use Rattle.lattice.specs.Shape.{shapeFrom};
+ghost use Rattle.codec.specs.Answer.{IsPlan, IsEncoded, IsDecoded, IsCorrected};
+use codec::correct::CorrectAnswer;
+use codec::correct::correct;
+use codec::decode::DecodeAnswer;
+use codec::decode::decode;
+use codec::encode::EncodeAnswer;
+use codec::encode::encode;
+use codec::plan::PlanAnswer;
+use codec::plan::plan;
+use lattice::class::CellClass;
+use lattice::shape::NewShape;
+use lattice::shape::Shape;
+use lattice::shape::ShapeNumbers;
+
+pub fn plan_of(shape: ShapeNumbers) -> PlanAnswer
+    ensures { λ r. ⌜ IsPlan (shapeFrom shape) r ⌝ }
+{
+    match Shape::new(shape.columns, shape.rows, shape.planes, shape.strength) {
+        NewShape::Accepted(accepted) => plan(accepted),
+        NewShape::BadSize => PlanAnswer::BadSize,
+        NewShape::BadStrength => PlanAnswer::BadStrength,
+    }
+}
+
+pub fn class_of(shape: ShapeNumbers, row: usize, plane: usize, column: usize) -> CellClass
+    ensures { λ r. ⌜ IsCellClass (shapeFrom shape) (cell row plane column) r ⌝ }
+{
+    match Shape::new(shape.columns, shape.rows, shape.planes, shape.strength) {
+        NewShape::Accepted(accepted) => accepted.class_of(row, plane, column),
+        NewShape::BadSize => CellClass::BadSize,
+        NewShape::BadStrength => CellClass::BadStrength,
+    }
+}
+
+pub fn encode_in(shape: ShapeNumbers, payload: &[u8], field: &mut [u8]) -> EncodeAnswer
+    ensures { λ r. ⌜ IsEncoded (shapeFrom shape) (now (payload .entry)) (now (field .entry)) (now (field .exit)) r ⌝ }
+{
+    match Shape::new(shape.columns, shape.rows, shape.planes, shape.strength) {
+        NewShape::Accepted(accepted) => encode(accepted, payload, field),
+        NewShape::BadSize => EncodeAnswer::BadSize,
+        NewShape::BadStrength => EncodeAnswer::BadStrength,
+    }
+}
+
+pub fn decode_in(shape: ShapeNumbers, payload: &mut [u8], field: &[u8]) -> DecodeAnswer
+    ensures { λ r. ⌜ IsDecoded (shapeFrom shape) (now (payload .entry)) (now (field .entry)) (now (payload .exit)) r ⌝ }
+{
+    match Shape::new(shape.columns, shape.rows, shape.planes, shape.strength) {
+        NewShape::Accepted(accepted) => decode(accepted, payload, field),
+        NewShape::BadSize => DecodeAnswer::BadSize,
+        NewShape::BadStrength => DecodeAnswer::BadStrength,
+    }
+}
+
+pub fn correct_in(shape: ShapeNumbers, field: &mut [u8]) -> CorrectAnswer
+    ensures { λ r. ⌜ IsCorrected (shapeFrom shape) (now (field .entry)) (now (field .exit)) r ⌝ }
+{
+    match Shape::new(shape.columns, shape.rows, shape.planes, shape.strength) {
+        NewShape::Accepted(accepted) => correct(accepted, field),
+        NewShape::BadSize => CorrectAnswer::BadSize,
+        NewShape::BadStrength => CorrectAnswer::BadStrength,
+    }
+}

@@ -1,0 +1,90 @@
+//! The numbers that the C header names are those of the library: its version, the refusals and the limits.
+
+use std::path::Path;
+use varmintfoil::ffi::{self, ShapeNumbers};
+use varmintfoil::Refusal;
+
+/// What the header defines a name as.
+fn defined(name: &str) -> String {
+    let header = Path::new(env!("CARGO_MANIFEST_DIR")).parent().unwrap().join("include/varmintfoil.h");
+    let text = std::fs::read_to_string(header).unwrap();
+    let start = format!("#define VARMINTFOIL_{name} ");
+    let line = text.lines().find_map(|line| line.strip_prefix(&start)).unwrap_or_else(|| panic!("the header has {start}"));
+    line.split("/*").next().unwrap().trim().to_string()
+}
+
+fn number(name: &str) -> usize {
+    defined(name).parse().unwrap()
+}
+
+#[test]
+fn the_version() {
+    let version = env!("CARGO_PKG_VERSION");
+    assert_eq!(defined("VERSION"), format!("\"{version}\""));
+    let parts = ["VERSION_MAJOR", "VERSION_MINOR", "VERSION_PATCH"].map(defined);
+    assert_eq!(parts.join("."), version);
+}
+
+/// A refusal's name as the header writes it: `OutOfReach` is `OUT_OF_REACH`.
+fn in_header(refusal: Refusal) -> String {
+    let mut name = String::new();
+    for letter in format!("{refusal:?}").chars() {
+        if letter.is_uppercase() && !name.is_empty() {
+            name.push('_');
+        }
+        name.extend(letter.to_uppercase());
+    }
+    name
+}
+
+#[test]
+fn the_refusals() {
+    assert_eq!(number("OK"), 0);
+    for refusal in [
+        Refusal::BadSize,
+        Refusal::BadStrength,
+        Refusal::PayloadLength,
+        Refusal::FieldLength,
+        Refusal::OutsideShape,
+        Refusal::BadCell,
+        Refusal::OutOfReach,
+        Refusal::BadPadding,
+        Refusal::BadSettings,
+    ] {
+        assert_eq!(number(&in_header(refusal)), refusal.number(), "{refusal:?}");
+    }
+}
+
+/// Every shape within the limits.
+fn for_each_shape(mut look: impl FnMut(ShapeNumbers)) {
+    for planes in 1..=16 {
+        for columns in 1..=256 {
+            for rows in (1..=256).take_while(|rows| columns * rows * planes <= 65_536) {
+                for strength in 1..=if planes == 1 { 32 } else { 8 } {
+                    look(ShapeNumbers { columns, rows, planes, strength });
+                }
+            }
+        }
+    }
+}
+
+/// No accepted shape has more cells, payload bytes or classes, and some shape has as many. A payload bit takes a cell, so a shape is
+/// planned only where it has cells enough for the limit's bytes; classes depend on planes and strength alone, so that one cell a
+/// plane does.
+#[test]
+fn the_limits() {
+    let limits = [number("MAX_CELLS"), number("MAX_PAYLOAD_BYTES"), number("MAX_CLASSES")];
+    let mut most = [0; 3];
+    for_each_shape(|s| {
+        let cells = s.columns * s.rows * s.planes;
+        if cells < 8 * limits[1] && cells != s.planes {
+            return;
+        }
+        let plan = ffi::plan(s);
+        assert_eq!(plan.number, 0, "{s:?}");
+        for (most, figure) in most.iter_mut().zip([plan.cells, plan.bytes, plan.classes]) {
+            *most = figure.max(*most);
+        }
+    });
+    assert_eq!(most, limits);
+}
