@@ -7,10 +7,11 @@ ghost use Rattle.lattice.specs.Refusal.{testedNumber};
 ghost use Rattle.lattice.specs.Shape.{maxClasses, cellsOf};
 ghost use Rattle.lattice.specs.Class.{classAt};
 ghost use Rattle.lattice.specs.Position.{allBelow};
-ghost use Rattle.codec.specs.Field.{fieldOf, isReceived, cellsOk};
+ghost use Rattle.codec.specs.Field.{fieldOf, cellsOk};
 ghost use Rattle.codec.specs.Payload.{paddingOk};
 ghost use Rattle.codec.specs.Decode.{correctedField, fieldNumber};
 ghost use Rattle.codec.specs.Working.{HoldsZeros, HoldsSizes, HoldsSyndromes, FieldFits, Examined, rightAt};
+use crate::cell::is_received;
 use crate::walk::corrected_value;
 use crate::walk::count_if;
 use crate::walk::holds_data;
@@ -21,13 +22,6 @@ use lattice::capacity::data_in;
 use lattice::refusal::Refusal;
 use lattice::refusal::Tested;
 use lattice::shape::Shape;
-
-// Is the byte a cell?
-fn is_received(value: u8) -> bool
-    ensures { λ r. ⌜ r ≡ isReceived value ⌝ }
-{
-    value <= 1
-}
 
 // Is every byte a cell?
 fn cells_ok(field: &[u8]) -> bool

@@ -1,4 +1,5 @@
 // Coding: the plan of a field, and encoding, decoding and correcting it.
+pub mod cell;
 pub mod correct;
 pub mod decode;
 pub mod encode;

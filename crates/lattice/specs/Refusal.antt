@@ -35,6 +35,18 @@ pub record Listed : Type 1 where
 abbrev pub listed : ℕ → Type 0 → Listed
 listed k P = record { number = k; condition = P }
 
+-- the same with a condition on what an operation is given, and the refusals that such conditions list at x
+pub record Condition (A : Type 0) : Type 1 where
+  pub number : ℕ
+  pub holds : A → Type 0
+
+abbrev pub condition : {A : Type 0} → ℕ → (A → Type 0) → Condition A
+condition k P = record { number = k; holds = P }
+
+abbrev pub listedAt : {A : Type 0} → List (Condition A) → A → List Listed
+listedAt [] x = []
+listedAt (c ∷ cs) x = listed (c .number) (c .holds x) ∷ listedAt cs x
+
 -- none of the conditions holds
 abbrev pub NoneHolds : List Listed → Type 0
 NoneHolds [] = Unit {0}

@@ -1,8 +1,8 @@
 -- `is_received` meets its contract.
 use mathlib.Core.Path.{refl}
 use Rattle.codec.specs.Field.{isCell, isReceived}
-use Rattle.codec.proofs.examine.is_received.Statement.{statement}
-use Rattle.codec.proofs.examine.is_received.Tie as tie
+use Rattle.codec.proofs.cell.is_received.Statement.{statement}
+use Rattle.codec.proofs.cell.is_received.Tie as tie
 
 returns : tie.Need-returns
 unfolding isReceived isCell
