@@ -38,8 +38,8 @@ module _ (h : Header) (card : CardHeader h) where
   strength-width = (
     (λ stack.
         digit-count-one (h .numbers .strength)
-        (omega (arith, strength-stack _ _ _ _ (card .accepted) stack))),
-    digit-count-two (h .numbers .strength) (omega (arith, strength-most _ _ _ _ (card .accepted))),
+        (omega (arith, strength-stack _ (card .accepted) stack))),
+    digit-count-two (h .numbers .strength) (omega (arith, strength-most _ (card .accepted))),
   )
 
   classes-width : (h .numbers .planes ≢ 1 → digitCount (planClasses (shapeOf h)) ≤ 2) × (digitCount (planClasses (shapeOf h)) ≤ 3)

@@ -3,16 +3,16 @@ use mathlib.Core.Path.{refl}
 use Rattle.lattice.specs.Shape.{inRange, maxStrength, sizeOk, strengthOk, shapeNumber}
 use Rattle.lattice.specs.Settings.{oddSettings, evenSettings, flatSettings, settingsFor}
 use Rattle.lattice.specs.Cell.{cellAt}
-use Rattle.lattice.specs.Class.{minusMod, classWith}
+use Rattle.lattice.specs.Class.{minusMod, classWith, classesOf, classOf}
 use Rattle.lattice.specs.Position.{size, position, isPower, isCheck, checks, holdsData, capacity}
-use Rattle.codec.specs.Field.{cellsOk, differences}
+use Rattle.codec.specs.Field.{isCell, isReceived, cellsOk, differences}
 use Rattle.codec.specs.Hamming.{inReach, allInReach, corrected}
 use Rattle.codec.specs.Payload.{payloadBytes, rank, payloadBit, padding, dataValue, dataField, encoded, paddingOk, heldPayload}
 use Rattle.codec.specs.Plan.{planClasses, planCapacity, planBytes, planCells}
 use Rattle.codec.specs.Encode.{encodeNumber, encodedField}
 use Rattle.codec.specs.Decode.{fieldNumber, correctedCount, decodeNumber, decodeCount, decodeLeaves}
 use Rattle.card.specs.Text.{digitCount, decimal, numberLine, headerText, hexDigit, payloadText, cellsText, rowText, fieldText, refusalText}
-use Rattle.card.specs.Parse.{keyAt, numberEnds, numberAt, lineAt, headerOf, isHex, hexValue, payloadOk, payloadOf, rowOk, rowsOk, cellsAt}
+use Rattle.card.specs.Parse.{keyAt, numberEnds, numberAt, lineAt, headerOf, isHex, hexValue, payloadOk, payloadOf, isCellDigit, rowOk, rowsOk, cellsAt}
 use Rattle.card.specs.Program.{bodyOk, operationNumber, numberAfter, programNumber, writtenText, readText, successText, answer}
 use Rattle.card.specs.Examples.{CardExamples}
 
@@ -20,14 +20,14 @@ use Rattle.card.specs.Examples.{CardExamples}
 pub cardExamples : CardExamples
 unfolding
     inRange maxStrength sizeOk strengthOk shapeNumber
-    oddSettings evenSettings flatSettings settingsFor cellAt minusMod classWith
+    oddSettings evenSettings flatSettings settingsFor cellAt minusMod classWith classesOf classOf
     size position isPower isCheck checks holdsData capacity
-    cellsOk differences inReach allInReach corrected
+    isCell isReceived cellsOk differences inReach allInReach corrected
     payloadBytes rank payloadBit padding dataValue dataField encoded paddingOk heldPayload planClasses planCapacity planBytes planCells
     encodeNumber encodedField
     fieldNumber correctedCount decodeNumber decodeCount decodeLeaves
     digitCount decimal numberLine headerText hexDigit payloadText cellsText rowText fieldText refusalText
-    keyAt numberEnds numberAt lineAt headerOf isHex hexValue payloadOk payloadOf rowOk rowsOk cellsAt
+    keyAt numberEnds numberAt lineAt headerOf isHex hexValue payloadOk payloadOf isCellDigit rowOk rowsOk cellsAt
     bodyOk operationNumber numberAfter programNumber writtenText readText successText answer
 cardExamples =
     record {

@@ -15,12 +15,12 @@ use Rattle.card.specs.Card.{shapeOf, Small, CardHeader}
 
 -- a card's header is within the limits
 module _ (h : Header) (x : CardHeader h) where
-  pub limits : Legal (h .numbers .columns) (h .numbers .rows) (h .numbers .planes) (h .numbers .strength)
-  limits = legal _ _ _ _ (x .accepted)
+  pub limits : Legal (shapeOf h)
+  limits = legal _ (x .accepted)
 
   pub card-small : Small h
   card-small =
-      let strength = strength-most _ _ _ _ (x .accepted) in
+      let strength = strength-most _ (x .accepted) in
       omega (arith, limits .width-high, limits .height-high, limits .planes-high, strength)
 
   -- it has a row, and at most 4,096

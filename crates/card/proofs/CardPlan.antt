@@ -1,22 +1,19 @@
 -- The plan of a card: how large its figures are.
 use Prim.Native.Nat.{ℕ, zero, suc, _≤_, zero-le}
-use mathlib.Core.Bool.{Bool, true, false, cond}
 use mathlib.Core.List.{List}
 use mathlib.Core.Logic.{_≢_}
 use mathlib.Core.Path.{_≡_, sym, _∙_}
-use lib.Dec.{eqb}
 use lib.ListN.{length}
 use Rattle.lattice.specs.declared.shape.Shape.{Shape}
-use Rattle.lattice.specs.Shape.{cellsOf}
+use Rattle.lattice.specs.Shape.{Accepted, cellsOf}
 use Rattle.lattice.specs.Class.{classAt}
-use Rattle.lattice.specs.Refusal.{figure}
+use Rattle.lattice.specs.Refusal.{beside, figure}
 use Rattle.lattice.proofs.Counting.{count-most}
 use Rattle.lattice.proofs.CapacityGiven.{classes-given}
-use Rattle.lattice.proofs.Limits.{legal, strength-stack}
-use Rattle.lattice.proofs.SettingsLaws.{settings-stack, stack-bounds}
+use Rattle.lattice.proofs.ClassBelow.{classes-stack-most}
 use Rattle.codec.specs.Field.{differences}
 use Rattle.codec.specs.Payload.{payloadBytes, heldPayload}
-use Rattle.codec.specs.Plan.{planNumber, planClasses, planBytes}
+use Rattle.codec.specs.Plan.{planClasses, planBytes}
 use Rattle.codec.specs.Decode.{correctedField, correctedCount, decodeNumber, decodeCount, decodeLeaves}
 use Rattle.codec.proofs.Accepted.{plan-bytes, plan-classes}
 use Rattle.codec.proofs.FieldLists.{length-listOf}
@@ -35,18 +32,16 @@ count-cells s payload field = less (decodeNumber s payload field) (correctedCoun
     less zero n m l = l
     less (suc number) n m l = zero-le
 
-module _ (s : Shape) (accepted : planNumber s ≡ 0) where
+module _ (s : Shape) (accepted : Accepted s) where
   pub classes-stack : s .planes ≢ 1 → planClasses s ≤ 92
   classes-stack stack =
-      rw (plan-classes s accepted, settings-stack (s .planes) (s .strength) stack)
-      (stack-bounds (s .strength) (legal (s .columns) (s .rows) (s .planes) (s .strength) accepted .strength-low)
-      (strength-stack (s .columns) (s .rows) (s .planes) (s .strength) accepted stack) .1)
+      rw (plan-classes s accepted) (classes-stack-most s accepted stack)
 
   -- decoding leaves as many bytes as the plan gives
   pub leaves-long : (payload field : List ℕ) → length payload ≡ planBytes s → length (decodeLeaves s payload field) ≡ planBytes s
   unfolding decodeLeaves heldPayload
-  leaves-long payload field long = go (eqb (decodeNumber s payload field) 0)
+  leaves-long payload field long = go (decodeNumber s payload field)
     where
-      go : (b : Bool) → length (cond b (heldPayload (classAt s) (cellsOf s) (correctedField s field)) payload) ≡ planBytes s
-      go true = length-listOf _ (payloadBytes (classAt s) (cellsOf s)) ∙ sym (plan-bytes s accepted)
-      go false = long
+      go : (n : ℕ) → length (beside n (heldPayload (classAt s) (cellsOf s) (correctedField s field)) payload) ≡ planBytes s
+      go zero = length-listOf _ (payloadBytes (classAt s) (cellsOf s)) ∙ sym (plan-bytes s accepted)
+      go (suc n) = long

@@ -5,10 +5,10 @@ pub mod CardExamples
 pub mod CardLimits
 pub mod CardPlan
 pub mod CardRead
+pub mod CellDigits
 pub mod DecimalText
 pub mod Digits
 pub mod FieldText
-pub mod FirstRefusal
 pub mod HeaderRest
 pub mod HeaderText
 pub mod HexText

@@ -7,8 +7,7 @@ use borrow.Author.Tests.{leb-true}
 use lib.Dec.{leb}
 use lib.ListN.{length, drop}
 use lib.Seq.{drop-append-seam}
-use Rattle.lattice.specs.Shape.{sizeOk, strengthOk, cellsOf}
-use Rattle.lattice.proofs.Limits.{number-accepted}
+use Rattle.lattice.specs.Shape.{Accepted, cellsOf}
 use Rattle.codec.specs.Payload.{Bytes}
 use Rattle.card.specs.declared.header.Header.{Header}
 use Rattle.card.specs.declared.header.HeaderAnswer.the-variants as head
@@ -20,15 +19,9 @@ use Rattle.card.specs.Form.{HeaderFirst}
 use Rattle.card.proofs.HeaderRest.{first-found, header-found}
 use Rattle.card.proofs.TextParses.{textParses}
 
--- the three tests of a header's numbers make it a card's
-pub card-header : (h : Header) → sizeOk (h .numbers .columns) (h .numbers .rows) (h .numbers .planes) ≡ true
-    → strengthOk (h .numbers .planes) (h .numbers .strength) ≡ true
-    → leb (cellsOf (shapeOf h)) maxCardCells ≡ true → CardHeader h
-card-header h size strength few =
-    record {
-      accepted = number-accepted _ _ _ _ size strength;
-      cells = leb-true (cellsOf (shapeOf h)) maxCardCells few;
-    }
+-- a header of an accepted shape with few enough cells is a card's
+pub card-header : (h : Header) → Accepted (shapeOf h) → leb (cellsOf (shapeOf h)) maxCardCells ≡ true → CardHeader h
+card-header h accepted few = record { accepted = accepted; cells = leb-true (cellsOf (shapeOf h)) maxCardCells few }
 
 module _ (s : List ℕ) (h : Header) (next : ℕ) (found : headerOf s ≡ head.Found h next) where
   -- the input starts with the text of the header that was found

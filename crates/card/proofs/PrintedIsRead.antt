@@ -24,6 +24,7 @@ use Rattle.card.specs.Text.{headerText, numberLine, payloadText, fieldTe
 use Rattle.card.specs.Card.{shapeOf, FieldCells, CardHeader, payloadCard, fieldCard}
 use Rattle.card.specs.Program.{blankField, blankPayload, writtenText, readText, answer}
 use Rattle.card.specs.RoundTrip.{ReadBack, PrintedIsRead}
+use Rattle.codec.proofs.CellValues.{cells-received}
 use Rattle.card.proofs.TextParses.{textParses}
 use Rattle.card.proofs.ProgramParts.{
   blank-field,
@@ -50,7 +51,7 @@ module _ (h : Header) (card : CardHeader h) (p : List ℕ) (long : length p ≡ 
   written-cells =
       record {
         long = encodeMeaning .long (shapeOf h) p;
-        each = encodeMeaning .lawful (shapeOf h) (card .accepted) p long bytes .cells;
+        each = cells-received _ _ (encodeMeaning .lawful (shapeOf h) (card .accepted) p long bytes .cells);
       }
 
   pub damaged-field : (selected : Cell → Bool) → FieldCells h (damagedField (shapeOf h) p selected)
@@ -60,8 +61,10 @@ module _ (h : Header) (card : CardHeader h) (p : List ℕ) (long : length p ≡ 
       record {
         long = length-listOf f n;
         each =
-            cells-same f (fieldOf (damagedField (shapeOf h) p selected)) n (λ i l. sym (getD-listOf f n i l))
-            (damaged-cells (fieldOf (encodedField (shapeOf h) p)) (λ i. selected (cellAt (shapeOf h) i)) n (written-cells .each));
+            cells-received _ _
+            (cells-same f (fieldOf (damagedField (shapeOf h) p selected)) n (λ i l. sym (getD-listOf f n i l))
+            (damaged-cells (fieldOf (encodedField (shapeOf h) p)) (λ i. selected (cellAt (shapeOf h) i)) n
+            (encodeMeaning .lawful (shapeOf h) (card .accepted) p long bytes .cells)));
       }
 
 module _ (h : Header) (card : CardHeader h) where
@@ -95,12 +98,14 @@ module _ (h : Header) (card : CardHeader h) where
   unfolding writtenText
   read-back p long bytes =
       let F = encodedField (shapeOf h) p in
-      let back = nothingToCorrect .read (shapeOf h) (card .accepted) p long bytes (blankPayload h) (blank-payload h) in
+      let back = nothingToCorrect .written (shapeOf h) (card .accepted) p long bytes (blankPayload h) (blank-payload h) in
       record {
         rest = fieldText h F;
         printed = printed p long bytes;
         rows = refl;
-        read = read F (written-cells h card p long bytes) (back .0) ∙ read-text h F p 0 (back .2) (back .1);
+        read =
+            read F (written-cells h card p long bytes) (back .decoded-number)
+            ∙ read-text h F p 0 (back .decoded-count ∙ nothingToCorrect .count (fieldOf F) (cellsOf (shapeOf h))) (back .decoded-payload);
       }
 
 -- Theorem. What the program prints for a payload is read back, whole and with demand 3's damage.

@@ -4,10 +4,10 @@ use mathlib.Core.Bool.{true, false}
 use mathlib.Core.List.{List}
 use mathlib.Core.Logic.{_≢_}
 use mathlib.Core.Path.{_≡_, _∙_, ap}
-use borrow.Author.Tests.{eq-eqb, ne-eqb, le-leb}
+use borrow.Author.Tests.{le-leb}
 use lib.ListN.{length, length-replicate}
 use Rattle.lattice.specs.Shape.{cellsOf}
-use Rattle.lattice.proofs.Limits.{size-held, strength-held}
+use Rattle.lattice.proofs.Answers.{beside-zero, beside-other}
 use Rattle.codec.specs.Plan.{planBytes}
 use Rattle.codec.specs.Encode.{encodeNumber}
 use Rattle.codec.specs.Decode.{decodeNumber}
@@ -57,11 +57,11 @@ module _ (s : List ℕ) (h : Header) (next : ℕ) where
 -- the answer where the number is 0, and where it is another
 pub answer-success : (s : List ℕ) → programNumber s ≡ 0 → answer s ≡ successText s (headerOf s)
 unfolding answer
-answer-success s e = rw (eq-eqb (programNumber s) 0 e)
+answer-success s e = beside-zero (programNumber s) _ _ e
 
 pub answer-refused : (s : List ℕ) → programNumber s ≢ 0 → answer s ≡ refusalText (programNumber s)
 unfolding answer
-answer-refused s other = rw (ne-eqb (programNumber s) 0 other)
+answer-refused s other = beside-other (programNumber s) _ _ other
 
 -- an input that passes every test but the operation's own has the operation's number
 pub number-operation : (s : List ℕ) (h : Header) (next : ℕ) → length s ≤ maxInput → headerOf s ≡ head.Found h next → CardHeader h
@@ -71,8 +71,7 @@ number-operation s h next short found card right =
     rw (
       le-leb (length s) maxInput short,
       found,
-      size-held _ _ _ _ (card .accepted),
-      strength-held _ _ _ _ (card .accepted),
+      card .accepted,
       le-leb (cellsOf (shapeOf h)) maxCardCells (card .cells),
       right,
     )

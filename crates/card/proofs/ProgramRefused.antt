@@ -1,18 +1,18 @@
 -- Demand 1 for the program: its number is that of the first of the listed conditions that holds.
 use Prim.Native.Nat.{ℕ}
-use mathlib.Core.List.{List, [], _∷_}
+use mathlib.Core.List.{List, _∷_, _++_}
 use mathlib.Core.Logic.{inl}
 use mathlib.Core.Path.{_≡_, refl, sym, _∙_, subst}
 use native.Mathlib.Omega.{arith}
 use borrow.Author.Tests.{eq-eqb, eqb-true}
 use lib.Dec.{eqb}
 use lib.ListN.{length}
-use Rattle.lattice.specs.Refusal.{Refusal, refusal, unless}
-use Rattle.lattice.specs.Settings.{settingsOf}
-use Rattle.lattice.specs.Shape.{cellsOf}
-use Rattle.lattice.specs.Class.{classAt}
-use Rattle.lattice.proofs.Limits.{size-held, strength-held}
-use Rattle.lattice.proofs.Refusals.{at-most}
+use Rattle.lattice.specs.Refusal.{Listed, listed, unless}
+use Rattle.lattice.specs.Shape.{shapeConditions, cellsOf}
+use Rattle.lattice.specs.Class.{classesOf, classAt}
+use Rattle.lattice.proofs.Answers.{unless-zero}
+use Rattle.lattice.proofs.Due.{Due, first-due, due-none, due-test, due-skip, due-append, due-settled}
+use Rattle.lattice.proofs.Refusals.{at-most, shape-due}
 use Rattle.codec.specs.Field.{fieldOf}
 use Rattle.codec.specs.Hamming.{allInReach}
 use Rattle.codec.specs.Payload.{paddingOk}
@@ -21,15 +21,14 @@ use Rattle.codec.specs.Encode.{encodeNumber}
 use Rattle.codec.specs.Decode.{correctedField, fieldNumber, decodeNumber}
 use Rattle.codec.specs.Refused.{NoneInReach, WrongPadding}
 use Rattle.codec.proofs.Accepted.{plan-cells, decode-number}
-use Rattle.codec.proofs.FieldLists.{cells-ok}
+use Rattle.codec.proofs.FieldLists.{received-ok}
 use Rattle.card.specs.declared.header.Header.{Header}
 use Rattle.card.specs.declared.header.HeaderAnswer.{HeaderAnswer}
 use Rattle.card.specs.declared.header.HeaderAnswer.the-variants as head
 use Rattle.card.specs.Card.{maxInput, shapeOf, FieldCells, CardHeader}
 use Rattle.card.specs.Parse.{headerOf, payloadOf}
 use Rattle.card.specs.Program.{blankField, blankPayload, cellsIn, operationNumber, numberAfter, programNumber}
-use Rattle.card.specs.Form.{NoHeader, SizeRefused, StrengthRefused, TooManyCells, NoBody, PayloadRefused, ReachRefused, PaddingRefused, programRefusals, ProgramRefused}
-use Rattle.card.proofs.FirstRefusal.{Due, first-due, due-none, due-test, due-skip, due-settled}
+use Rattle.card.specs.Form.{NoHeader, headerRefusals, TooManyCells, NoBody, operationRefusals, programRefusals, ProgramRefused}
 use Rattle.card.proofs.ProgramParts.{
   blank-field,
   blank-payload,
@@ -39,10 +38,8 @@ use Rattle.card.proofs.ProgramParts.{
 use Rattle.card.proofs.CardRead.{CardRead, of-payload, of-field, card-read}
 use Rattle.card.proofs.HeaderRest.{first-found}
 use Rattle.card.proofs.ParsedInput.{card-header, first}
-use Rattle.card.proofs.Passed.{test-passed}
 use Rattle.card.proofs.RefusalConditions.{
-  size-condition,
-  strength-condition,
+  header-due,
   cells-condition,
   body-condition,
   payload-condition,
@@ -58,37 +55,28 @@ encode-length : (h : Header) → CardHeader h → (p : List ℕ)
 unfolding encodeNumber
 encode-length h card p =
     rw (
-      size-held _ _ _ _ (card .accepted),
-      strength-held _ _ _ _ (card .accepted),
+      card .accepted,
       eq-eqb (length (blankField h)) (planCells (shapeOf h)) (blank-field h ∙ sym (plan-cells (shapeOf h) (card .accepted))),
     )
 
 -- and what it does not refuse has the plan's length
 pub encoded-long : (h : Header) → CardHeader h → (p : List ℕ) → encodeNumber (shapeOf h) p (blankField h) ≡ 0 → length p ≡ planBytes (shapeOf h)
 encoded-long h card p e =
-    eqb-true (length p) (planBytes (shapeOf h)) (test-passed 2 (eqb (length p) (planBytes (shapeOf h))) 0 (sym (encode-length h card p) ∙ e) .0)
+    eqb-true (length p) (planBytes (shapeOf h)) (unless-zero (eqb (length p) (planBytes (shapeOf h))) 2 0 (sym (encode-length h card p) ∙ e) .0)
 
 -- decoding a field of 0s and 1s refuses its classes and its padding alone
 decode-cells : (h : Header) → CardHeader h → (cells : List ℕ) → FieldCells h cells
     → decodeNumber (shapeOf h) (blankPayload h) cells
-    ≡ unless (allInReach (classAt (shapeOf h)) (cellsOf (shapeOf h)) (settingsOf (shapeOf h) .m) (fieldOf cells)) 6
+    ≡ unless (allInReach (classAt (shapeOf h)) (cellsOf (shapeOf h)) (classesOf (shapeOf h)) (fieldOf cells)) 6
     (unless (paddingOk (classAt (shapeOf h)) (cellsOf (shapeOf h)) (correctedField (shapeOf h) cells)) 7 0)
 unfolding fieldNumber
 decode-cells h card cells each =
     decode-number (shapeOf h) (card .accepted) (blankPayload h) cells (blank-payload h) (each .long)
-    ∙ rw (cells-ok (fieldOf cells) (cellsOf (shapeOf h)) (each .each))
+    ∙ rw (received-ok (fieldOf cells) (cellsOf (shapeOf h)) (each .each))
 
--- the conditions on what is written and read, and those after the first four lines
-abbrev operationRefusals : List ℕ → List Refusal
-operationRefusals s = refusal 3 (PayloadRefused s) ∷ refusal 6 (ReachRefused s) ∷ refusal 7 (PaddingRefused s) ∷ []
-
-abbrev headerRefusals : List ℕ → List Refusal
-headerRefusals s =
-    refusal 1 (SizeRefused s)
-    ∷ refusal 2 (StrengthRefused s)
-    ∷ refusal 8 (TooManyCells s)
-    ∷ refusal 8 (NoBody s)
-    ∷ operationRefusals s
+-- the refusals after the first lines
+abbrev laterRefusals : List ℕ → List Listed
+laterRefusals s = headerRefusals shapeConditions s ++ (listed 8 (TooManyCells s) ∷ listed 8 (NoBody s) ∷ operationRefusals s)
 
 module _ (s : List ℕ) (h : Header) (next : ℕ) (found : headerOf s ≡ head.Found h next) where
   -- the operation's own number
@@ -108,22 +96,21 @@ module _ (s : List ℕ) (h : Header) (next : ℕ) (found : headerOf s ≡ head.F
       (λ reach. due-test 6 _ (padding-condition s h next found card cells each text reach) (λ _. due-none))))
 
   -- the number after the header
-  header-due : Due (headerRefusals s) (numberAfter s (head.Found h next))
+  later-due : Due (laterRefusals s) (numberAfter s (head.Found h next))
   unfolding numberAfter
-  header-due =
-      due-test 0 _ (size-condition s h next found)
-      (λ size. due-test 1 _ (strength-condition s h next found)
-      (λ strength. due-test 7 _ (cells-condition s h next found)
+  later-due =
+      due-append (headerRefusals shapeConditions s) _ _ _ (header-due s h next found shapeConditions (shape-due (shapeOf h)))
+      (λ accepted. due-test 7 _ (cells-condition s h next found)
       (λ few.
-      let card = card-header h size strength few in
+      let card = card-header h accepted few in
       due-test 7 _ (body-condition s h next found card)
-      (λ right. operation-due card (card-read s h next found right)))))
+      (λ right. operation-due card (card-read s h next found right))))
 
 -- the number after the input's length
-after-due : (s : List ℕ) (a : HeaderAnswer) → headerOf s ≡ a → Due (refusal 8 (NoHeader s) ∷ headerRefusals s) (numberAfter s a)
+after-due : (s : List ℕ) (a : HeaderAnswer) → headerOf s ≡ a → Due (listed 8 (NoHeader s) ∷ laterRefusals s) (numberAfter s a)
 unfolding numberAfter
 after-due s (head.Found h next) found =
-    due-skip (λ none. none (first s h next found)) (header-due s h next found)
+    due-skip (λ none. none (first s h next found)) (later-due s h next found)
 after-due s head.Fault fault = first-due 7 refl (inl (none, refl))
   where
     none : NoHeader s

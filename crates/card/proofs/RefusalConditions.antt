@@ -1,16 +1,17 @@
 -- The program's conditions, for an input whose header is known: each is decided by its test where none before it holds.
 use Prim.Native.Nat.{ℕ, _<_}
 use mathlib.Core.Bool.{true, true≢false}
-use mathlib.Core.List.{List, _++_}
+use mathlib.Core.List.{List, [], _∷_, _++_}
 use mathlib.Core.Logic.{_↔_}
-use mathlib.Core.Path.{_≡_, sym, _∙_, ap₂, subst₂}
+use mathlib.Core.Path.{_≡_, refl, sym, _∙_, ap₂, subst₂}
 use lib.Dec.{leb, eqb}
 use lib.ListN.{length, drop}
-use Rattle.lattice.specs.Shape.{BadSize, BadStrength, sizeOk, strengthOk, cellsOf}
-use Rattle.lattice.specs.Settings.{settingsOf}
-use Rattle.lattice.specs.Class.{classAt}
-use Rattle.lattice.proofs.Refused.{Decides}
-use Rattle.lattice.proofs.Refusals.{at-most, size-decides, strength-decides}
+use Rattle.lattice.specs.declared.shape.Shape.{Shape}
+use Rattle.lattice.specs.Refusal.{Condition, listedAt}
+use Rattle.lattice.specs.Shape.{cellsOf}
+use Rattle.lattice.specs.Class.{classesOf, classAt}
+use Rattle.lattice.proofs.Due.{Decides, decides-same, Due, SameConditions, due-same}
+use Rattle.lattice.proofs.Refusals.{at-most}
 use Rattle.codec.specs.Field.{fieldOf}
 use Rattle.codec.specs.Hamming.{allInReach}
 use Rattle.codec.specs.Payload.{Bytes, paddingOk}
@@ -24,11 +25,11 @@ use Rattle.card.specs.Text.{headerText, payloadText, fieldText}
 use Rattle.card.specs.Card.{maxCardCells, shapeOf, FieldCells, CardHeader, payloadCard, fieldCard}
 use Rattle.card.specs.Parse.{headerOf}
 use Rattle.card.specs.Program.{bodyOk}
-use Rattle.card.specs.Form.{HeaderFirst, Body, SizeRefused, StrengthRefused, TooManyCells, NoBody, PayloadRefused, FieldRefused, ReachRefused, PaddingRefused}
+use Rattle.card.specs.Form.{HeaderFirst, Body, headerRefusals, TooManyCells, NoBody, PayloadRefused, FieldRefused, ReachRefused, PaddingRefused}
+use Rattle.codec.proofs.CellValues.{received-cells}
 use Rattle.card.proofs.HeaderRest.{header-found}
 use Rattle.card.proofs.BodyText.{body-ok, ok-body}
 use Rattle.card.proofs.CardLimits.{rows-some}
-use Rattle.card.proofs.FirstRefusal.{decides-same}
 use Rattle.card.proofs.ParsedInput.{first, same-header, text-of, rest-of, rows-of, payload-is, payload-read, field-is, field-read}
 
 module _ (s : List ℕ) (h : Header) (next : ℕ) (found : headerOf s ≡ head.Found h next) where
@@ -43,15 +44,13 @@ module _ (s : List ℕ) (h : Header) (next : ℕ) (found : headerOf s ≡ head.F
         (r .1),
   )
 
-  pub size-condition : Decides (sizeOk (h .numbers .columns) (h .numbers .rows) (h .numbers .planes)) (SizeRefused s)
-  size-condition =
-      decides-same (start-condition (λ g r. let n = g .numbers in BadSize (n .columns) (n .rows) (n .planes)))
-      (size-decides (h .numbers .columns) (h .numbers .rows) (h .numbers .planes))
-
-  pub strength-condition : Decides (strengthOk (h .numbers .planes) (h .numbers .strength)) (StrengthRefused s)
-  strength-condition =
-      decides-same (start-condition (λ g r. BadStrength (g .numbers .planes) (g .numbers .strength)))
-      (strength-decides (h .numbers .planes) (h .numbers .strength))
+  -- the refusals of the header's shape are due where those of the shape of the header found are
+  pub header-due : (cs : List (Condition Shape)) {n : ℕ} → Due (listedAt cs (shapeOf h)) n → Due (headerRefusals cs s) n
+  header-due cs d = due-same _ _ (same cs) d
+    where
+      same : (cs : List (Condition Shape)) → SameConditions (listedAt cs (shapeOf h)) (headerRefusals cs s)
+      same [] = tt
+      same (c ∷ cs) = (refl, start-condition (λ g r. c .holds (shapeOf g)), same cs)
 
   pub cells-condition : Decides (leb (cellsOf (shapeOf h)) maxCardCells) (TooManyCells s)
   cells-condition =
@@ -124,12 +123,12 @@ module _ (s : List ℕ) (h : Header) (next : ℕ) (found : headerOf s ≡ head.F
               ∙ field-read s h next found card cells each text .1 in
               subst₂ C (same-header s h next found (r .0)) same (r .4)
 
-      pub reach-condition : Decides (allInReach (classAt (shapeOf h)) (cellsOf (shapeOf h)) (settingsOf (shapeOf h) .m) (fieldOf cells)) (ReachRefused s)
+      pub reach-condition : Decides (allInReach (classAt (shapeOf h)) (cellsOf (shapeOf h)) (classesOf (shapeOf h)) (fieldOf cells)) (ReachRefused s)
       reach-condition =
-          decides-same (field-condition (λ g c. NoneInReach (shapeOf g) c)) (reach-decides (shapeOf h) cells (card .accepted) (each .long) (each .each))
+          decides-same (field-condition (λ g c. NoneInReach (shapeOf g) c)) (reach-decides (shapeOf h) cells (card .accepted) (each .long) (received-cells _ _ (each .each)))
 
-      pub padding-condition : allInReach (classAt (shapeOf h)) (cellsOf (shapeOf h)) (settingsOf (shapeOf h) .m) (fieldOf cells) ≡ true
+      pub padding-condition : allInReach (classAt (shapeOf h)) (cellsOf (shapeOf h)) (classesOf (shapeOf h)) (fieldOf cells) ≡ true
           → Decides (paddingOk (classAt (shapeOf h)) (cellsOf (shapeOf h)) (correctedField (shapeOf h) cells)) (PaddingRefused s)
       padding-condition reach =
           decides-same (field-condition (λ g c. WrongPadding (shapeOf g) c))
-          (padding-decides (shapeOf h) cells (card .accepted) (each .long) (each .each) reach)
+          (padding-decides (shapeOf h) cells (card .accepted) (each .long) (received-cells _ _ (each .each)) reach)

@@ -9,15 +9,14 @@ use native.Mathlib.Omega.{arith}
 use borrow.Author.Tests.{eq-eqb, eqb-true}
 use lib.Dec.{eqb}
 use lib.ListN.{length, getD}
-use Rattle.lattice.specs.Shape.{inRange}
 use Rattle.lattice.specs.Position.{allBelow}
 use Rattle.lattice.proofs.Bools.{and-true, and-left, and-right}
-use Rattle.lattice.proofs.Limits.{in-range, range-low, range-high}
-use Rattle.codec.specs.Field.{fieldOf, Cells}
+use Rattle.codec.specs.Field.{fieldOf, isReceived, Received}
 use Rattle.codec.proofs.AllBelow.{all-below, below-all}
 use Rattle.codec.proofs.FieldLists.{getD-listOf, length-listOf, list-field}
 use Rattle.card.specs.Text.{rowKey, rowsText, feed}
-use Rattle.card.specs.Parse.{keyAt, rowStart, cellPlace, rowOk, rowsOk, cellsAt}
+use Rattle.card.specs.Parse.{isCellDigit, keyAt, rowStart, cellPlace, rowOk, rowsOk, cellsAt}
+use Rattle.card.proofs.CellDigits.{cell-digit, digit-low, digit-cell}
 use Rattle.card.proofs.StandsAt.{StandsAt, key-at, at-key}
 use Rattle.card.proofs.RowText.{RowStands, rows-stand, stand-rows}
 
@@ -45,38 +44,38 @@ row-of w k i l =
     some zero l = absurd (omega (arith, mul-zero k))
     some (suc w) l = omega arith
 
--- the cells of k rows of w digits, each 0 or 1, stand at `at`, and nothing follows
+-- the cells of k rows of w digits stand at `at`, and nothing follows
 pub record RowsStand (s : List ℕ) (at w k : ℕ) (cells : List ℕ) : Type 0 where
   pub long : length cells ≡ k * w
-  pub each : Cells (fieldOf cells) (k * w)
+  pub each : Received (fieldOf cells) (k * w)
   pub stands : StandsAt (rowsText w k cells) s at
   pub ends : length s ≡ rowStart at w k
 
 -- the test of one row
 row-test : (s : List ℕ) (at w r : ℕ) → keyAt rowKey s (rowStart at w r) ≡ true
-    → ((c : ℕ) → c < w → inRange 48 49 (getD s (rowStart at w r + 4 + c) 0) ≡ true)
+    → ((c : ℕ) → c < w → isCellDigit (getD s (rowStart at w r + 4 + c) 0) ≡ true)
     → getD s (rowStart at w r + 4 + w) 0 ≡ feed → rowOk s at w r ≡ true
 unfolding rowOk
 row-test s at w r p q e =
-    let digits = allBelow (λ c. inRange 48 49 (getD s (rowStart at w r + 4 + c) 0)) w in
+    let digits = allBelow (λ c. isCellDigit (getD s (rowStart at w r + 4 + c) 0)) w in
     and-true (keyAt rowKey s (rowStart at w r) && digits) _
     (and-true (keyAt rowKey s (rowStart at w r)) digits p (all-below _ w q))
     (eq-eqb (getD s (rowStart at w r + 4 + w) 0) feed e)
 
 record Row (s : List ℕ) (start w : ℕ) : Type 0 where
   key : StandsAt rowKey s start
-  digit : (c : ℕ) → c < w → inRange 48 49 (getD s (start + 4 + c) 0) ≡ true
+  digit : (c : ℕ) → c < w → isCellDigit (getD s (start + 4 + c) 0) ≡ true
   ended : getD s (start + 4 + w) 0 ≡ feed
 
 test-row : (s : List ℕ) (at w r : ℕ) → rowOk s at w r ≡ true → Row s (rowStart at w r) w
 unfolding rowOk
 test-row s at w r p =
     let start = rowStart at w r in
-    let digits = allBelow (λ c. inRange 48 49 (getD s (start + 4 + c) 0)) w in
+    let digits = allBelow (λ c. isCellDigit (getD s (start + 4 + c) 0)) w in
     let front = and-left (keyAt rowKey s start && digits) _ p in
     record {
       key = at-key rowKey s start (and-left (keyAt rowKey s start) digits front);
-      digit = below-all (λ c. inRange 48 49 (getD s (start + 4 + c) 0)) w (and-right (keyAt rowKey s start) digits front);
+      digit = below-all (λ c. isCellDigit (getD s (start + 4 + c) 0)) w (and-right (keyAt rowKey s start) digits front);
       ended = eqb-true (getD s (start + 4 + w) 0) feed (and-right (keyAt rowKey s start && digits) _ p);
     }
 
@@ -94,8 +93,7 @@ module _ (s : List ℕ) (at w k : ℕ) (cells : List ℕ) (x : RowsStand s at w 
       row-test s at w r (key-at rowKey s (rowStart at w r) (row r l .key))
       (λ c m.
       let e = row r l .cell c m in
-      let b = x .each (r * w + c) (in-row w k r c l m) in
-      in-range 48 49 (getD s (rowStart at w r + 4 + c) 0) (omega arith) (omega arith))
+      cell-digit _ (getD s (rowStart at w r + 4 + c) 0) (x .each (r * w + c) (in-row w k r c l m)) e)
       (row r l .ended)))
 
   pub rows-read : cellsAt s at w (k * w) ≡ cells
@@ -116,8 +114,8 @@ at-rows s at w k p =
       long = long;
       each = λ i l.
           let y = row-of w k i l in
-          let high = range-high 48 49 (getD s (rowStart at w (i / w) + 4 + i % w) 0) (row (i / w) (y .row) .digit (i % w) (y .column)) in
-          omega (arith, getD-listOf f (k * w) i l);
+          ap isReceived (getD-listOf f (k * w) i l)
+          ∙ digit-cell (getD s (rowStart at w (i / w) + 4 + i % w) 0) (row (i / w) (y .row) .digit (i % w) (y .column));
       stands =
           stand-rows s at w k cells (le-of-eq (sym long))
           (λ r l.
@@ -125,7 +123,7 @@ at-rows s at w k p =
           record {
             key = y .key;
             cell = λ c m.
-                let low = range-low 48 49 (getD s (rowStart at w r + 4 + c) 0) (y .digit c m) in
+                let low = digit-low (getD s (rowStart at w r + 4 + c) 0) (y .digit c m) in
                 let e = getD-listOf f (k * w) (r * w + c) (in-row w k r c l m) ∙ ap (λ (i : ℕ). getD s i 0 - 48) (cell-place at w r c m) in
                 omega arith;
             ended = y .ended;

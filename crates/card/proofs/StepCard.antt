@@ -4,16 +4,16 @@ use mathlib.Core.Bool.{Bool}
 use mathlib.Core.List.{List, _++_, append-assoc}
 use mathlib.Core.Path.{_≡_, sym, ap, ap₂, _∙_}
 use lib.ListN.{length}
-use borrow.Author.Tests.{eq-eqb, ne-eqb}
 use Rattle.lattice.specs.declared.shape.Shape.{Shape}
 use Rattle.lattice.specs.declared.shape.NewShape.{NewShape}
 use Rattle.lattice.specs.declared.shape.NewShape.the-variants as new
-use Rattle.lattice.specs.Refusal.{figure}
+use Rattle.lattice.specs.declared.refusal.Refusal.{Refusal}
+use Rattle.lattice.specs.Refusal.{refusalNumber, figure}
 use Rattle.lattice.specs.Answer.{newNumber, newShape, IsNewShape}
-use Rattle.lattice.specs.Shape.{numberOf, cellsOf}
-use Rattle.lattice.specs.Settings.{settingsOf}
-use Rattle.lattice.specs.Class.{classAt}
+use Rattle.lattice.specs.Shape.{shapeNumber, Accepted, cellsOf}
+use Rattle.lattice.specs.Class.{classesOf, classAt}
 use Rattle.lattice.specs.Position.{capacity}
+use Rattle.lattice.proofs.Answers.{beside-zero, refused}
 use Rattle.lattice.proofs.Figure.{figure-given}
 use Rattle.codec.specs.Payload.{Bytes}
 use Rattle.codec.specs.Plan.{planClasses, planCapacity, planBytes}
@@ -33,60 +33,43 @@ use Rattle.card.proofs.PrintedIsRead.{written-cells}
 use Rattle.card.proofs.ProgramParts.{blank-payload}
 use Rattle.card.proofs.StepRows.{cellByte}
 
--- a shape is its four numbers
-shape-is : (s : Shape) (w h d t : ℕ) → s .columns ≡ w → s .rows ≡ h → s .planes ≡ d → s .strength ≡ t
-    → s ≡ record { columns = w; rows = h; planes = d; strength = t }
-shape-is s w h d t p q r u = rw (← p, ← q, ← r, ← u)
-
 -- the constructor's answer to a header
-module _ (h : Header) (r : NewShape)
-    (x : IsNewShape (h .numbers .columns) (h .numbers .rows) (h .numbers .planes) (h .numbers .strength) r) where
-  pub new-size : r ≡ new.BadSize → numberOf (shapeOf h) ≡ 1
-  new-size e = sym (x .number) ∙ ap newNumber e
-
-  pub new-strength : r ≡ new.BadStrength → numberOf (shapeOf h) ≡ 2
-  new-strength e = sym (x .number) ∙ ap newNumber e
+module _ (h : Header) (r : NewShape) (x : IsNewShape (h .numbers) r) where
+  pub new-refused : (why : Refusal) → r ≡ new.Refused why → refusalNumber why ≡ shapeNumber (shapeOf h)
+  new-refused why e = sym (ap newNumber e) ∙ x .number
 
   module _ (s : Shape) (e : r ≡ new.Accepted s) where
-    pub new-accepted : numberOf (shapeOf h) ≡ 0
+    pub new-accepted : Accepted (shapeOf h)
     new-accepted = sym (x .number) ∙ ap newNumber e
 
-    -- a field of the shape is the header's
-    part : (f : Shape → ℕ) (y : ℕ) → f (newShape r) ≡ figure (numberOf (shapeOf h)) y → f s ≡ y
-    part f y p = ap (λ (t : NewShape). f (newShape t)) (sym e) ∙ p ∙ figure-given _ y new-accepted
-
+    -- the shape is the header's
     new-shape : s ≡ shapeOf h
-    new-shape =
-        shape-is s (h .numbers .columns) (h .numbers .rows) (h .numbers .planes) (h .numbers .strength)
-        (part (λ t. t .columns) _ (x .columns))
-        (part (λ t. t .rows) _ (x .rows))
-        (part (λ t. t .planes) _ (x .planes))
-        (part (λ t. t .strength) _ (x .strength))
+    new-shape = sym (ap newShape e) ∙ x .shape ∙ beside-zero _ _ _ new-accepted
 
-    cells-given : (n : ℕ) → n ≡ figure (numberOf s) (cellsOf s) → n ≡ cellsOf (shapeOf h)
+    cells-given : (n : ℕ) → n ≡ figure (shapeNumber s) (cellsOf s) → n ≡ cellsOf (shapeOf h)
     cells-given n p =
         p
-        ∙ ap (λ (t : Shape). figure (numberOf t) (cellsOf t)) new-shape
+        ∙ ap (λ (t : Shape). figure (shapeNumber t) (cellsOf t)) new-shape
         ∙ figure-given _ (cellsOf (shapeOf h)) new-accepted
 
-    pub new-many : (n : ℕ) → n ≡ figure (numberOf s) (cellsOf s) → 16384 < n → 16384 < cellsOf (shapeOf h)
+    pub new-many : (n : ℕ) → n ≡ figure (shapeNumber s) (cellsOf s) → 16384 < n → 16384 < cellsOf (shapeOf h)
     new-many n p l = rw (cells-given n p) at l
 
-    pub new-card : (n : ℕ) → n ≡ figure (numberOf s) (cellsOf s) → n ≤ 16384 → CardShape h s
+    pub new-card : (n : ℕ) → n ≡ figure (shapeNumber s) (cellsOf s) → n ≤ 16384 → CardShape h s
     new-card n p l = record { card = record { accepted = new-accepted; cells = rw (cells-given n p) at l }; shape = new-shape }
 
 -- the figures of a card's shape
 module _ (h : Header) (s : Shape) (x : CardShape h s) where
-  accepted : numberOf s ≡ 0
+  accepted : Accepted s
   accepted = rw (x .shape) (x .card .accepted)
 
-  pub cells-are : (n : ℕ) → n ≡ figure (numberOf s) (cellsOf s) → n ≡ cellsOf s
-  cells-are n e = e ∙ figure-given (numberOf s) (cellsOf s) accepted
+  pub cells-are : (n : ℕ) → n ≡ figure (shapeNumber s) (cellsOf s) → n ≡ cellsOf s
+  cells-are n e = e ∙ figure-given (shapeNumber s) (cellsOf s) accepted
 
-  pub cells-fit : (n : ℕ) → n ≡ figure (numberOf s) (cellsOf s) → n ≤ 16384
+  pub cells-fit : (n : ℕ) → n ≡ figure (shapeNumber s) (cellsOf s) → n ≤ 16384
   cells-fit n e = rw (cells-are n e, x .shape) (x .card .cells)
 
-  pub bytes-are : (k : ℕ) → k ≡ figure (numberOf s) (capacity (classAt s) (cellsOf s)) → k / 8 ≡ planBytes s
+  pub bytes-are : (k : ℕ) → k ≡ figure (shapeNumber s) (capacity (classAt s) (cellsOf s)) → k / 8 ≡ planBytes s
   unfolding planBytes planCapacity
   bytes-are k e = ap (λ (n : ℕ). n / 8) e
 
@@ -115,14 +98,14 @@ module _ (h : Header) (s : Shape) (x : CardShape h s) where
     encoded-cells bytes =
         rw field-encoded (written-cells h (x .card) payload (long ∙ ap planBytes (x .shape)) bytes)
 
-    pub card-written : (m : ℕ) → m ≡ figure (numberOf s) (settingsOf s .m)
+    pub card-written : (m : ℕ) → m ≡ figure (shapeNumber s) (classesOf s)
         → headText h classesKey m ++ fieldText h last ≡ writtenText h payload
     unfolding headText writtenText planClasses
     card-written m e =
         append-assoc (headerText h) (numberLine classesKey m) (fieldText h last)
         ∙ ap₂
         (λ (n : ℕ) (f : List ℕ). headerText h ++ (numberLine classesKey n ++ fieldText h f))
-        (e ∙ ap (λ (t : Shape). figure (numberOf t) (settingsOf t .m)) (x .shape))
+        (e ∙ ap (λ (t : Shape). figure (shapeNumber t) (classesOf t)) (x .shape))
         field-encoded
 
   -- decoding, into a payload of zeros
@@ -130,25 +113,25 @@ module _ (h : Header) (s : Shape) (x : CardShape h s) where
     same-number : decodeNumber s payload cells ≡ decodeNumber (shapeOf h) (blankPayload h) cells
     same-number = ap₂ (λ (t : Shape) (p : List ℕ). decodeNumber t p cells) (x .shape) blank
 
-    pub decoded-refused : (n : ℕ) → n ≡ decodeNumber s payload cells → (n ≡ 0 → ⊥) → refusalText n ≡ decodedText h cells
+    pub decoded-refused : (why : Refusal) → refusalNumber why ≡ decodeNumber s payload cells → refusalText (refusalNumber why) ≡ decodedText h cells
     unfolding decodedText
-    decoded-refused n e p = rw (← same-number, ← e, ne-eqb n 0 p)
+    decoded-refused why e = let n = e ∙ same-number in ap refusalText n ∙ refused why _ _ _ n
 
     module _ (last : List ℕ) (leaves : last ≡ decodeLeaves s payload cells) where
       pub decoded-long : length last ≤ 2048
       decoded-long =
           rw (leaves, leaves-long s accepted payload cells (ap length blank ∙ blank-payload h ∙ ap planBytes (sym (x .shape)))) bytes-fit
 
-      pub card-decoded : (n k : ℕ) → n ≡ decodeNumber s payload cells → n ≡ 0 → k ≡ decodeCount s payload cells
+      pub card-decoded : (k : ℕ) → 0 ≡ decodeNumber s payload cells → k ≡ decodeCount s payload cells
           → headText h mendedKey k ++ payloadText last ≡ decodedText h cells
       unfolding headText decodedText readText
-      card-decoded n k e z f =
+      card-decoded k e f =
           append-assoc (headerText h) (numberLine mendedKey k) (payloadText last)
           ∙ ap₂
           (λ (m : ℕ) (p : List ℕ). headerText h ++ (numberLine mendedKey m ++ payloadText p))
           (f ∙ ap₂ (λ (t : Shape) (p : List ℕ). decodeCount t p cells) (x .shape) blank)
           (leaves ∙ ap₂ (λ (t : Shape) (p : List ℕ). decodeLeaves t p cells) (x .shape) blank)
-          ∙ rw (eq-eqb (decodeNumber (shapeOf h) (blankPayload h) cells) 0 (sym same-number ∙ sym e ∙ z))
+          ∙ sym (beside-zero (decodeNumber (shapeOf h) (blankPayload h) cells) _ _ (sym same-number ∙ sym e))
 
 -- the rows of a card, read by its shape
 module _ (h : Header) (s : Shape) (x : CardShape h s) (input : List ℕ) (next : ℕ) where

@@ -6,7 +6,7 @@ use native.Mathlib.Nat.{mul-le-mul-right, le-antisymm}
 use native.Mathlib.Omega.{arith}
 use lib.ListN.{length, take, drop, length-drop}
 use lib.Seq.{getD-take, getD-drop, length-take-le}
-use Rattle.codec.specs.Field.{fieldOf, Cells}
+use Rattle.codec.specs.Field.{fieldOf, Received}
 use Rattle.card.specs.Text.{digits, digitCount, decimal, numberLine, payloadKey, hexText, payloadText, rowKey, rowsText, feed, cellsText, rowText}
 use Rattle.card.specs.Working.{Room, Printed}
 use Rattle.card.proofs.RowText.{length-rows}
@@ -92,8 +92,8 @@ module _ {xs : List ℕ} {at : ℕ} (w k : ℕ) (cells : List ℕ) (long : lengt
   rows-all r l q {ys} {next} p = subst (λ (n : ℕ). Printed xs ys at (rowsText w n cells) next) (le-antisymm l q) p
 
 -- the cells of a part are cells
-pub part-cells : (cells : List ℕ) → Cells (fieldOf cells) (length cells) → (first n : ℕ) → first + n ≤ length cells
-    → Cells (fieldOf (take n (drop first cells))) (length (take n (drop first cells)))
+pub part-cells : (cells : List ℕ) → Received (fieldOf cells) (length cells) → (first n : ℕ) → first + n ≤ length cells
+    → Received (fieldOf (take n (drop first cells))) (length (take n (drop first cells)))
 part-cells cells each first n l i m =
     let long : length (take n (drop first cells)) ≡ n = length-take-le n (drop first cells) (omega (arith, length-drop first cells)) in
     let k : i < n = omega arith in

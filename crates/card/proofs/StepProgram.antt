@@ -1,14 +1,15 @@
 -- The answer to an input, by the tests in their order.
-use Prim.Native.Nat.{ℕ, suc, _<_, _≤_}
-use mathlib.Core.Bool.{Bool, true, false}
+use Prim.Native.Nat.{ℕ, _<_, _≤_}
+use mathlib.Core.Bool.{true, false}
 use mathlib.Core.List.{List}
-use mathlib.Core.Path.{_≡_, refl, ap, _∙_}
-use native.Mathlib.Omega.{arith}
+use mathlib.Core.Path.{_≡_, sym, ap, _∙_}
 use lib.ListN.{length}
 use borrow.Author.Tests.{le-leb, lt-leb, ne-eqb}
-use Rattle.lattice.specs.Refusal.{unless}
-use Rattle.lattice.specs.Shape.{sizeOk, strengthOk, shapeNumber, numberOf, cellsOf}
-use Rattle.lattice.proofs.Limits.{size-held, strength-held}
+use Rattle.lattice.specs.declared.refusal.Refusal.{Refusal}
+use Rattle.lattice.specs.declared.refusal.Refusal.the-variants as why
+use Rattle.lattice.specs.Refusal.{refusalNumber}
+use Rattle.lattice.specs.Shape.{shapeNumber, Accepted, cellsOf}
+use Rattle.lattice.proofs.Answers.{some-number, earlier-told}
 use Rattle.codec.specs.Plan.{planBytes}
 use Rattle.codec.specs.Encode.{encodeNumber}
 use Rattle.codec.proofs.Accepted.{encode-number}
@@ -22,86 +23,53 @@ use Rattle.card.specs.Working.{HeaderRead, decodedText}
 use Rattle.card.proofs.ProgramParts.{blank-field, body-payload, operation-payload, success-payload, body-rows, operation-rows, success-rows, answer-refused, number-operation, answer-found}
 
 -- an input that is refused has the refusal's text
-refused : (s : List ℕ) (k : ℕ) → programNumber s ≡ suc k → answer s ≡ refusalText (suc k)
-refused s k e = answer-refused s (λ z. omega arith) ∙ ap refusalText e
+refused : (s : List ℕ) (r : Refusal) → refusalNumber r ≡ programNumber s → refusalText (refusalNumber r) ≡ answer s
+refused s r e = ap refusalText e ∙ sym (answer-refused s (λ z. some-number r (e ∙ z)))
 
-pub too-long : (s : List ℕ) → maxInput < length s → answer s ≡ refusalText 8
+pub too-long : (s : List ℕ) → maxInput < length s → refusalText 8 ≡ answer s
 unfolding programNumber
-too-long s l = refused s 7 (rw (lt-leb (length s) maxInput l))
+too-long s l = refused s why.BadForm (rw (lt-leb (length s) maxInput l))
 
-pub no-header : (s : List ℕ) → length s ≤ maxInput → headerOf s ≡ head.Fault → answer s ≡ refusalText 8
+pub no-header : (s : List ℕ) → length s ≤ maxInput → headerOf s ≡ head.Fault → refusalText 8 ≡ answer s
 unfolding programNumber numberAfter
-no-header s l e = refused s 7 (rw (le-leb (length s) maxInput l, e))
-
--- which of the shape's tests failed
-size-fails : (a b : Bool) → unless a 1 (unless b 2 0) ≡ 1 → a ≡ false
-size-fails true true e = absurd (omega arith)
-size-fails true false e = absurd (omega arith)
-size-fails false b e = refl
-
-strength-fails : (a b : Bool) → unless a 1 (unless b 2 0) ≡ 2 → (a ≡ true) × (b ≡ false)
-strength-fails true true e = absurd (omega arith)
-strength-fails true false e = (refl, refl)
-strength-fails false b e = absurd (omega arith)
+no-header s l e = refused s why.BadForm (rw (le-leb (length s) maxInput l, e))
 
 module _ (s : List ℕ) (h : Header) (next : ℕ) (x : HeaderRead s h next) where
   number-after : programNumber s ≡ numberAfter s (head.Found h next)
   unfolding programNumber
   number-after = rw (le-leb (length s) maxInput (x .short), x .found)
 
-  pub bad-size : numberOf (shapeOf h) ≡ 1 → answer s ≡ refusalText 1
-  unfolding numberAfter shapeNumber
-  bad-size e =
-      let n = h .numbers in
-      let f = size-fails (sizeOk (n .columns) (n .rows) (n .planes)) (strengthOk (n .planes) (n .strength)) e in
-      refused s 0 (number-after ∙ rw f)
-
-  pub bad-strength : numberOf (shapeOf h) ≡ 2 → answer s ≡ refusalText 2
-  unfolding numberAfter shapeNumber
-  bad-strength e =
-      let n = h .numbers in
-      let f = strength-fails (sizeOk (n .columns) (n .rows) (n .planes)) (strengthOk (n .planes) (n .strength)) e in
-      refused s 1 (number-after ∙ rw (f .0, f .1))
-
-  pub too-many : numberOf (shapeOf h) ≡ 0 → maxCardCells < cellsOf (shapeOf h) → answer s ≡ refusalText 8
+  pub bad-shape : (r : Refusal) → refusalNumber r ≡ shapeNumber (shapeOf h) → refusalText (refusalNumber r) ≡ answer s
   unfolding numberAfter
-  too-many e l =
-      refused s 7
-      (number-after
-      ∙ rw
-      (size-held _ _ _ _ e, strength-held _ _ _ _ e, lt-leb (cellsOf (shapeOf h)) maxCardCells l))
+  bad-shape r e = refused s r (earlier-told r (shapeNumber (shapeOf h)) _ e ∙ sym number-after)
+
+  pub too-many : Accepted (shapeOf h) → maxCardCells < cellsOf (shapeOf h) → refusalText 8 ≡ answer s
+  unfolding numberAfter
+  too-many e l = refused s why.BadForm (rw (number-after, e, lt-leb (cellsOf (shapeOf h)) maxCardCells l))
 
   module _ (card : CardHeader h) where
-    bad-body : bodyOk s h next ≡ false → answer s ≡ refusalText 8
+    bad-body : bodyOk s h next ≡ false → refusalText 8 ≡ answer s
     unfolding numberAfter
     bad-body e =
-        refused s 7
-        (number-after
-        ∙ rw (
-          size-held _ _ _ _ (card .accepted),
-          strength-held _ _ _ _ (card .accepted),
-          le-leb (cellsOf (shapeOf h)) maxCardCells (card .cells),
-          e,
-        ))
+        refused s why.BadForm (rw (number-after, card .accepted, le-leb (cellsOf (shapeOf h)) maxCardCells (card .cells), e))
 
     -- a payload
     module _ (payload : isPayload s next ≡ true) where
-      pub bad-payload : payloadOk s next ≡ false → answer s ≡ refusalText 8
+      pub bad-payload : payloadOk s next ≡ false → refusalText 8 ≡ answer s
       bad-payload e = bad-body (body-payload s h next payload ∙ e)
 
       module _ (ok : payloadOk s next ≡ true) where
         right : bodyOk s h next ≡ true
         right = body-payload s h next payload ∙ ok
 
-        pub wrong-length : (length (payloadOf s next) ≡ planBytes (shapeOf h) → ⊥) → answer s ≡ refusalText 3
+        pub wrong-length : (length (payloadOf s next) ≡ planBytes (shapeOf h) → ⊥) → refusalText 3 ≡ answer s
         unfolding encodeNumber
         wrong-length p =
-            refused s 2
-            (number-operation s h next (x .short) (x .found) card right
-            ∙ operation-payload s h next payload
-            ∙ rw (
-              size-held _ _ _ _ (card .accepted),
-              strength-held _ _ _ _ (card .accepted),
+            refused s why.PayloadLength
+            (rw (
+              number-operation s h next (x .short) (x .found) card right,
+              operation-payload s h next payload,
+              card .accepted,
               ne-eqb (length (payloadOf s next)) (planBytes (shapeOf h)) p,
             ))
 
@@ -113,7 +81,7 @@ module _ (s : List ℕ) (h : Header) (next : ℕ) (x : HeaderRead s h next) wher
 
     -- rows
     module _ (rows : isPayload s next ≡ false) where
-      pub bad-rows : rowsFit s h next ≡ false → answer s ≡ refusalText 8
+      pub bad-rows : rowsFit s h next ≡ false → refusalText 8 ≡ answer s
       bad-rows e = bad-body (body-rows s h next rows ∙ e)
 
       pub rows-read : rowsFit s h next ≡ true → answer s ≡ decodedText h (cellsIn s h next)

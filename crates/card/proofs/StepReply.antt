@@ -1,12 +1,12 @@
 -- Whole answers: their length, and their parts written one behind the other.
 use Prim.Native.Nat.{ℕ, _+_, _*_, _<_, _≤_}
 use mathlib.Core.List.{List, _++_}
-use mathlib.Core.Path.{_≡_, _∙_}
+use mathlib.Core.Path.{_≡_, _∙_, subst}
 use native.Mathlib.Nat.{zero-add, mul-le-mul}
 use native.Mathlib.Omega.{arith}
 use lib.ListN.{length, length-append}
 use borrow.Author.Tests.{le-leb, lt-leb}
-use Rattle.codec.specs.Field.{fieldOf, Cells}
+use Rattle.codec.specs.Field.{fieldOf, Received}
 use Rattle.card.specs.declared.header.Header.{Header}
 use Rattle.card.specs.Text.{headerKeys, numberLine, headerText}
 use Rattle.card.specs.Card.{FieldCells, CardHeader}
@@ -18,6 +18,10 @@ use Rattle.card.proofs.HeaderText.{header-most}
 use Rattle.card.proofs.LineText.{length-line}
 use Rattle.card.proofs.LinesText.{linesMost}
 use Rattle.card.proofs.StepPrint.{printed-then, printed-front, room-first, room-next}
+
+-- an answer by another name of its text
+pub answered-same : {text other before after : List ℕ} {r : ℕ} → text ≡ other → Answered text before after r → Answered other before after r
+answered-same {before = before} {after = after} {r = r} e a = subst (λ (t : List ℕ). Answered t before after r) e a
 
 -- an output that is too short is left as it was
 pub answered-short : (text before : List ℕ) (r : ℕ) → r ≡ length text → length before < r → Answered text before before r
@@ -79,7 +83,7 @@ module _ (h : Header) (cells : List ℕ) (f : FieldCells h cells) where
   pub field-long : length cells ≡ h .numbers .planes * h .numbers .rows * h .numbers .columns
   field-long = f .long ∙ omega arith
 
-  pub field-each : Cells (fieldOf cells) (length cells)
+  pub field-each : Received (fieldOf cells) (length cells)
   field-each = rw (f .long) (f .each)
 
 -- its length fits

@@ -8,17 +8,16 @@ use native.Mathlib.Omega.{arith}
 use lib.Dec.{eqb}
 use lib.ListN.{length, getD}
 use borrow.Author.Tests.{eq-eqb, ne-eqb}
-use Rattle.lattice.specs.Shape.{inRange}
 use Rattle.lattice.specs.Position.{allBelow}
 use Rattle.codec.proofs.StepTest.{Passed, passed-all, failed-at}
 use Rattle.card.specs.Text.{rowKey, feed}
-use Rattle.card.specs.Parse.{keyAt, rowStart, rowOk, rowsOk, cellPlace, cellsAt}
+use Rattle.card.specs.Parse.{keyAt, isCellDigit, rowStart, rowOk, rowsOk, cellPlace, cellsAt}
 use Rattle.card.proofs.StepStored.{Stored, stored-all}
 
 -- a row that starts at p
 rowTest : List ℕ → ℕ → ℕ → Bool
 rowTest s p w =
-    keyAt rowKey s p && allBelow (λ c. inRange 48 49 (getD s (p + 4 + c) 0)) w && eqb (getD s (p + 4 + w) 0) feed
+    keyAt rowKey s p && allBelow (λ c. isCellDigit (getD s (p + 4 + c) 0)) w && eqb (getD s (p + 4 + w) 0) feed
 
 row-test : (s : List ℕ) (at w r p : ℕ) → rowStart at w r ≡ p → rowOk s at w r ≡ rowTest s p w
 unfolding rowOk rowTest
@@ -33,11 +32,11 @@ module _ (s : List ℕ) (start w : ℕ) where
   row-no-key p = rw (here, p)
 
   module _ (key : keyAt rowKey s start ≡ true) where
-    pub row-other : allBelow (λ j. inRange 48 49 (getD s (start + 4 + j) 0)) w ≡ false → false ≡ rowOk s start w 0
+    pub row-other : allBelow (λ j. isCellDigit (getD s (start + 4 + j) 0)) w ≡ false → false ≡ rowOk s start w 0
     unfolding rowTest
     row-other p = rw (here, key, p)
 
-    pub row-ends : allBelow (λ j. inRange 48 49 (getD s (start + 4 + j) 0)) w ≡ true → (b : ℕ) → b ≡ getD s (start + 4 + w) 0
+    pub row-ends : allBelow (λ j. isCellDigit (getD s (start + 4 + j) 0)) w ≡ true → (b : ℕ) → b ≡ getD s (start + 4 + w) 0
         → eqb b 10 ≡ rowOk s start w 0
     unfolding rowTest
     row-ends p b e = rw (here, key, p, e)

@@ -1,4 +1,4 @@
--- The program's work buffers, and the answer that a function passes on.
+-- The program's work buffers, and what an answer leaves.
 use Prim.Native.Nat.{ℕ, zero, suc, _/_, _≤_}
 use mathlib.Core.Bool.{true}
 use mathlib.Core.List.{List, _∷_, _++_}
@@ -16,10 +16,6 @@ use Rattle.card.specs.Working.{Answered}
 use Rattle.card.proofs.OutputForms.{outputForms}
 use Rattle.card.proofs.PayloadText.{at-payload}
 use Rattle.card.proofs.StepPayload.{payloadByte}
-
--- an answer by another name of its text
-pub answered-same : {text other before after : List ℕ} {r : ℕ} → text ≡ other → Answered text before after r → Answered other before after r
-answered-same {before = before} {after = after} {r = r} e a = subst (λ (t : List ℕ). Answered t before after r) e a
 
 pub answered-leaves : (s before after : List ℕ) (r : ℕ) → Answered (answer s) before after r → (r ≡ length (answer s)) × (after ≡ outputLeaves (answer s) before)
 answered-leaves s before after r a = (a .long, a .leaves)

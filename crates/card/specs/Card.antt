@@ -4,9 +4,8 @@ use mathlib.Core.List.{List, [], _∷_, _++_}
 use mathlib.Core.Path.{_≡_}
 use lib.ListN.{length}
 use Rattle.lattice.specs.declared.shape.Shape.{Shape}
-use Rattle.lattice.specs.Shape.{shapeFrom, cellsOf}
-use Rattle.codec.specs.Field.{fieldOf, Cells}
-use Rattle.codec.specs.Plan.{planNumber}
+use Rattle.lattice.specs.Shape.{Accepted, shapeFrom, cellsOf}
+use Rattle.codec.specs.Field.{fieldOf, Received}
 use Rattle.card.specs.declared.header.Header.{Header}
 use Rattle.card.specs.Text.{NumberLine, headerLines, headerText, payloadText, fieldText}
 
@@ -34,15 +33,15 @@ SmallLines (l ∷ ls) = (l .number < 100000) × SmallLines ls
 abbrev pub Small : Header → Type 0
 Small h = SmallLines (headerLines h)
 
--- a header whose shape the plan accepts, with at most 16,384 cells
+-- a header whose shape is accepted, with at most 16,384 cells
 pub record CardHeader (h : Header) : Type 0 where
-  pub accepted : planNumber (shapeOf h) ≡ 0
+  pub accepted : Accepted (shapeOf h)
   pub cells : cellsOf (shapeOf h) ≤ maxCardCells
 
--- the cells of a field of the header's shape: as many as it has, each 0 or 1
+-- the cells of a field of the header's shape: as many as it has, and nothing but cells
 pub record FieldCells (h : Header) (cells : List ℕ) : Type 0 where
   pub long : length cells ≡ cellsOf (shapeOf h)
-  pub each : Cells (fieldOf cells) (cellsOf (shapeOf h))
+  pub each : Received (fieldOf cells) (cellsOf (shapeOf h))
 
 -- the card text of a payload, and of a field
 abbrev pub payloadCard : Header → List ℕ → List ℕ

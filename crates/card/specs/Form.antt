@@ -1,12 +1,13 @@
 -- The form of a card text, said by its text alone, and the program's refusals, each by a condition of its own.
-use Prim.Native.Nat.{ℕ, suc, _<_, _≤_}
+use Prim.Native.Nat.{ℕ, _<_, _≤_}
 use mathlib.Core.Bool.{true}
 use mathlib.Core.List.{List, [], _∷_, _++_}
-use mathlib.Core.Logic.{_≢_, _⊎_, _↔_}
+use mathlib.Core.Logic.{_≢_}
 use mathlib.Core.Path.{_≡_}
 use lib.ListN.{length, drop}
-use Rattle.lattice.specs.Refusal.{Refusal, refusal, NoneHolds}
-use Rattle.lattice.specs.Shape.{BadSize, BadStrength, cellsOf}
+use Rattle.lattice.specs.declared.shape.Shape.{Shape}
+use Rattle.lattice.specs.Refusal.{Listed, listed, Condition, Settled}
+use Rattle.lattice.specs.Shape.{shapeConditions, cellsOf}
 use Rattle.codec.specs.Payload.{Bytes}
 use Rattle.codec.specs.Plan.{planClasses, planBytes}
 use Rattle.codec.specs.Decode.{decodeCount}
@@ -38,12 +39,10 @@ TooLong s = maxInput < length s
 abbrev pub NoHeader : List ℕ → Type 0
 NoHeader s = ¬ HeaderFirst s
 
--- 1, 2: the header's shape is outside the limits
-abbrev pub SizeRefused : List ℕ → Type 0
-SizeRefused s = (x : HeaderFirst s) × (let n = x .header .numbers in BadSize (n .columns) (n .rows) (n .planes))
-
-abbrev pub StrengthRefused : List ℕ → Type 0
-StrengthRefused s = (x : HeaderFirst s) × (let n = x .header .numbers in BadStrength (n .planes) (n .strength))
+-- the shape's refusals, of the header's shape
+abbrev pub headerRefusals : List (Condition Shape) → List ℕ → List Listed
+headerRefusals [] s = []
+headerRefusals (c ∷ cs) s = listed (c .number) ((x : HeaderFirst s) × c .holds (shapeOf (x .header))) ∷ headerRefusals cs s
 
 -- 8: more than 16,384 cells
 abbrev pub TooManyCells : List ℕ → Type 0
@@ -69,31 +68,20 @@ ReachRefused s = FieldRefused (λ h cells. NoneInReach (shapeOf h) cells) s
 abbrev pub PaddingRefused : List ℕ → Type 0
 PaddingRefused s = FieldRefused (λ h cells. WrongPadding (shapeOf h) cells) s
 
+-- the operation's own refusals
+abbrev pub operationRefusals : List ℕ → List Listed
+operationRefusals s = listed 3 (PayloadRefused s) ∷ listed 6 (ReachRefused s) ∷ listed 7 (PaddingRefused s) ∷ []
+
 -- the program's refusals in the listed order
-abbrev pub programRefusals : List ℕ → List Refusal
+abbrev pub programRefusals : List ℕ → List Listed
 programRefusals s =
-    refusal 8 (TooLong s)
-    ∷ refusal 8 (NoHeader s)
-    ∷ refusal 1 (SizeRefused s)
-    ∷ refusal 2 (StrengthRefused s)
-    ∷ refusal 8 (TooManyCells s)
-    ∷ refusal 8 (NoBody s)
-    ∷ refusal 3 (PayloadRefused s)
-    ∷ refusal 6 (ReachRefused s)
-    ∷ refusal 7 (PaddingRefused s)
-    ∷ []
+    listed 8 (TooLong s)
+    ∷ listed 8 (NoHeader s)
+    ∷ (headerRefusals shapeConditions s ++ (listed 8 (TooManyCells s) ∷ listed 8 (NoBody s) ∷ operationRefusals s))
 
--- the first of the listed conditions that holds has the number k; a number may stand in the list more than once, as 8 does here
-abbrev pub FirstIs : ℕ → List Refusal → Type 0
-FirstIs k [] = ⊥
-FirstIs k (r ∷ rs) = (r .condition × (r .number ≡ k)) ⊎ ((¬ (r .condition)) × FirstIs k rs)
-
--- Theorem (demand 1). The program's number is 0 exactly when none of the conditions holds, and another number exactly when the first that holds
--- has it.
+-- Theorem (demand 1). The program's number is settled by its refusals in the listed order.
 abbrev pub ProgramRefused : Type 0
-ProgramRefused =
-    (s : List ℕ)
-    → ((programNumber s ≡ 0) ↔ NoneHolds (programRefusals s)) × ((k : ℕ) → (programNumber s ≡ suc k) ↔ FirstIs (suc k) (programRefusals s))
+ProgramRefused = (s : List ℕ) → Settled (programRefusals s) (programNumber s)
 
 -- Theorem. Where a header is found, and a payload or rows of the right form behind it, the input is exactly the text of what is read from it.
 pub record ParsedIsText : Type 0 where

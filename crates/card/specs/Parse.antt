@@ -2,11 +2,11 @@
 use Prim.Native.Nat.{ℕ, zero, suc, _+_, _-_, _*_, _/_, _%_}
 use mathlib.Core.Bool.{Bool, cond, not, _&&_, _||_}
 use mathlib.Core.List.{List, [], _∷_, _++_}
-use lib.Dec.{ltb, eqb}
+use lib.Dec.{leb, ltb, eqb}
 use lib.ListN.{length, getD}
 use Rattle.lattice.specs.Shape.{inRange}
 use Rattle.lattice.specs.Position.{allBelow}
-use Rattle.codec.specs.Field.{listOf}
+use Rattle.codec.specs.Field.{listOf, isReceived}
 use Rattle.card.specs.declared.line.Line.{Line}
 use Rattle.card.specs.declared.line.Line.the-variants as line
 use Rattle.card.specs.declared.header.HeaderAnswer.{HeaderAnswer}
@@ -106,14 +106,18 @@ rowStart at w r = at + r * (length rowKey + w + 1)
 abbrev pub cellPlace : ℕ → ℕ → ℕ → ℕ
 cellPlace at w i = rowStart at w (i / w) + length rowKey + i % w
 
--- line r of the rows from `at` is a line `row` of w digits 0 or 1
+-- the digit of a cell, as a row has it: 0 for white and 1 for black
+unfoldable pub isCellDigit : ℕ → Bool
+isCellDigit b = leb 48 b && isReceived (b - 48)
+
+-- line r of the rows from `at` is a line `row` of w such digits
 unfoldable pub rowOk : List ℕ → ℕ → ℕ → ℕ → Bool
 rowOk s at w r =
     keyAt rowKey s (rowStart at w r)
-    && allBelow (λ c. inRange 48 49 (getD s (rowStart at w r + length rowKey + c) 0)) w
+    && allBelow (λ c. isCellDigit (getD s (rowStart at w r + length rowKey + c) 0)) w
     && eqb (getD s (rowStart at w r + length rowKey + w) 0) feed
 
--- the rest of the input from `at` is k lines `row` of w digits 0 or 1
+-- the rest of the input from `at` is k lines `row` of w digits of cells
 unfoldable pub rowsOk : List ℕ → ℕ → ℕ → ℕ → Bool
 rowsOk s at w k = eqb (length s) (rowStart at w k) && allBelow (rowOk s at w) k
 

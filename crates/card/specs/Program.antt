@@ -2,10 +2,10 @@
 use Prim.Native.Nat.{ℕ, _*_}
 use mathlib.Core.Bool.{Bool, cond}
 use mathlib.Core.List.{List, _++_}
-use lib.Dec.{leb, eqb}
+use lib.Dec.{leb}
 use lib.ListN.{length, replicate, drop}
-use Rattle.lattice.specs.Refusal.{unless}
-use Rattle.lattice.specs.Shape.{sizeOk, strengthOk, cellsOf}
+use Rattle.lattice.specs.Refusal.{unless, beside}
+use Rattle.lattice.specs.Shape.{afterShape, cellsOf}
 use Rattle.codec.specs.Plan.{planClasses, planBytes}
 use Rattle.codec.specs.Encode.{encodeNumber, encodedField}
 use Rattle.codec.specs.Decode.{decodeNumber, decodeCount, decodeLeaves}
@@ -44,16 +44,14 @@ operationNumber s h next =
     (encodeNumber (shapeOf h) (payloadOf s next) (blankField h))
     (decodeNumber (shapeOf h) (blankPayload h) (cellsIn s h next))
 
--- after the header: 1, 2, 8 for more than 16,384 cells, 8 for a fault of form later, then the operation's own
+-- after the header: the shape's, 8 for more than 16,384 cells, 8 for a fault of form later, then the operation's own
 unfoldable pub numberAfter : List ℕ → HeaderAnswer → ℕ
 numberAfter s head.Fault = 8
 numberAfter s (head.Found h next) =
-    let n = h .numbers in
-    unless (sizeOk (n .columns) (n .rows) (n .planes)) 1
-    (unless (strengthOk (n .planes) (n .strength)) 2
+    afterShape (shapeOf h)
     (unless (leb (cellsOf (shapeOf h)) maxCardCells) 8
     (unless (bodyOk s h next) 8
-    (operationNumber s h next))))
+    (operationNumber s h next)))
 
 -- the number: 8 for more than 65,536 bytes, 8 for a fault in the first lines, then the rest
 unfoldable pub programNumber : List ℕ → ℕ
@@ -78,7 +76,7 @@ successText s (head.Found h next) = cond (isPayload s next) (writtenText h (payl
 
 -- the answer to an input
 unfoldable pub answer : List ℕ → List ℕ
-answer s = cond (eqb (programNumber s) 0) (successText s (headerOf s)) (refusalText (programNumber s))
+answer s = beside (programNumber s) (successText s (headerOf s)) (refusalText (programNumber s))
 
 -- what an answer leaves in a lent output: its text and behind it the bytes as they were, or all of them as they were where it is too short
 unfoldable pub outputLeaves : List ℕ → List ℕ → List ℕ

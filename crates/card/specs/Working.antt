@@ -1,11 +1,10 @@
 -- What the work buffers of the program hold. Only contracts of functions that are private to the crate cite this file; no promise to a caller rests on it.
 use Prim.Native.Nat.{ℕ, _+_, _<_, _≤_}
-use mathlib.Core.Bool.{cond}
 use mathlib.Core.List.{List, [], _∷_, _++_}
 use mathlib.Core.Path.{_≡_}
-use lib.Dec.{eqb}
 use lib.ListN.{length, take, drop}
 use Rattle.lattice.specs.declared.shape.Shape.{Shape}
+use Rattle.lattice.specs.Refusal.{beside}
 use Rattle.codec.specs.Decode.{decodeNumber}
 use Rattle.card.specs.declared.header.Header.{Header}
 use Rattle.card.specs.declared.header.HeaderAnswer.the-variants as head
@@ -63,4 +62,4 @@ pub record BodyRead (s : List ℕ) (h : Header) (next : ℕ) (shape : Shape) : T
 unfoldable pub decodedText : Header → List ℕ → List ℕ
 decodedText h cells =
     let number = decodeNumber (shapeOf h) (blankPayload h) cells in
-    cond (eqb number 0) (readText h cells) (refusalText number)
+    beside number (readText h cells) (refusalText number)

@@ -3,13 +3,13 @@ ghost use mathlib.Core.Bool.{true};
 ghost use mathlib.Core.Path.{_≡_};
 ghost use Prim.Native.Nat.{_+_, _-_, _*_, _/_, _≤_};
 ghost use lib.ListN.{length, getD};
-ghost use Rattle.lattice.specs.Shape.{inRange};
 ghost use Rattle.lattice.specs.Position.{allBelow};
 ghost use Rattle.card.specs.Text.{payloadKey};
-ghost use Rattle.card.specs.Parse.{keyAt, isHex, hexValue, hexCount, payloadOk, payloadOf, rowOk, rowsOk, cellsAt};
+ghost use Rattle.card.specs.Parse.{keyAt, isHex, hexValue, hexCount, payloadOk, payloadOf, isCellDigit, rowOk, rowsOk, cellsAt};
 ghost use Rattle.card.specs.Working.{CellsFit};
 use crate::scan::byte_at;
 use crate::scan::key_at;
+use codec::cell::is_received;
 use lattice::shape::within;
 
 // Is the line at a position a payload?
@@ -103,13 +103,23 @@ pub(crate) fn fill_payload(text: &[u8], at: usize, payload: &mut [u8])
     }
 }
 
-// Are the n bytes from a position digits 0 or 1?
+// Is the byte the digit of a cell?
+fn is_cell_digit(byte: u8) -> bool
+    ensures { λ r. ⌜ r ≡ isCellDigit byte ⌝ }
+{
+    if byte < 48 {
+        return false;
+    }
+    is_received(byte - 48)
+}
+
+// Are the n bytes from a position digits of cells?
 fn all_cells(text: &[u8], start: usize, n: usize) -> bool
-    ensures { λ r. ⌜ r ≡ allBelow (λ j. inRange 48 49 (getD (now (text .entry)) (start + j) 0)) n ⌝ }
+    ensures { λ r. ⌜ r ≡ allBelow (λ j. isCellDigit (getD (now (text .entry)) (start + j) 0)) n ⌝ }
 {
     let mut j = 0;
     while j < n {
-        if !within(48, 49, byte_at(text, start, j) as usize) {
+        if !is_cell_digit(byte_at(text, start, j)) {
             return false;
         }
         j += 1;

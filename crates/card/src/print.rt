@@ -3,7 +3,7 @@ ghost use mathlib.Core.List.{[], _∷_};
 ghost use mathlib.Core.Path.{_≡_};
 ghost use Prim.Native.Nat.{_+_, _*_, _<_};
 ghost use lib.ListN.{length};
-ghost use Rattle.codec.specs.Field.{fieldOf, Cells};
+ghost use Rattle.codec.specs.Field.{fieldOf, Received};
 ghost use Rattle.card.specs.Text.{digits, digitCount, numberLine, hexDigit, hexText, payloadText, cellsText, rowText, rowsText};
 ghost use Rattle.card.specs.Working.{Room, Printed};
 
@@ -112,7 +112,7 @@ pub(crate) fn put_payload(out: &mut [u8], at: usize, payload: &[u8]) -> usize
 // Writes the digits of cells.
 fn put_cells(out: &mut [u8], at: usize, cells: &[u8]) -> usize
     requires { ⌜ Room (now out) at (cellsText (now cells)) ⌝ }
-    requires { ⌜ Cells (fieldOf (now cells)) (length (now cells)) ⌝ }
+    requires { ⌜ Received (fieldOf (now cells)) (length (now cells)) ⌝ }
     ensures { λ r. ⌜ Printed (now (out .entry)) (now (out .exit)) at (cellsText (now (cells .entry))) r ⌝ }
 {
     let mut i = 0;
@@ -126,7 +126,7 @@ fn put_cells(out: &mut [u8], at: usize, cells: &[u8]) -> usize
 // Writes a line `row`.
 fn put_row(out: &mut [u8], at: usize, cells: &[u8]) -> usize
     requires { ⌜ Room (now out) at (rowText (now cells)) ⌝ }
-    requires { ⌜ Cells (fieldOf (now cells)) (length (now cells)) ⌝ }
+    requires { ⌜ Received (fieldOf (now cells)) (length (now cells)) ⌝ }
     ensures { λ r. ⌜ Printed (now (out .entry)) (now (out .exit)) at (rowText (now (cells .entry))) r ⌝ }
 {
     let digits = put_bytes(out, at, b"row=");
@@ -137,7 +137,7 @@ fn put_row(out: &mut [u8], at: usize, cells: &[u8]) -> usize
 // Writes rows of cells, plane after plane.
 pub(crate) fn put_rows(out: &mut [u8], at: usize, width: usize, lines: usize, cells: &[u8]) -> usize
     requires { ⌜ Room (now out) at (rowsText width lines (now cells)) ⌝ }
-    requires { ⌜ Cells (fieldOf (now cells)) (length (now cells)) ⌝ }
+    requires { ⌜ Received (fieldOf (now cells)) (length (now cells)) ⌝ }
     requires { ⌜ length (now cells) ≡ lines * width ⌝ }
     ensures { λ r. ⌜ Printed (now (out .entry)) (now (out .exit)) at (rowsText width lines (now (cells .entry))) r ⌝ }
 {

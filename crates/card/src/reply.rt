@@ -3,6 +3,7 @@ ghost use mathlib.Core.List.{_++_};
 ghost use mathlib.Core.Path.{_≡_};
 ghost use Prim.Native.Nat.{_≤_};
 ghost use lib.ListN.{length};
+ghost use Rattle.lattice.specs.Refusal.{refusalNumber};
 ghost use Rattle.card.specs.Text.{classesKey, mendedKey, payloadText, fieldText, refusalText};
 ghost use Rattle.card.specs.Card.{FieldCells, CardHeader};
 ghost use Rattle.card.specs.Working.{Room, Printed, Answered, headText};
@@ -13,11 +14,13 @@ use crate::print::number_line_length;
 use crate::print::put_number_line;
 use crate::print::put_payload;
 use crate::print::put_rows;
+use lattice::refusal::Refusal;
 
 // A refusal.
-pub fn refuse(number: usize, output: &mut [u8]) -> usize
-    ensures { λ r. ⌜ Answered (refusalText number) (now (output .entry)) (now (output .exit)) r ⌝ }
+pub fn refuse(why: Refusal, output: &mut [u8]) -> usize
+    ensures { λ r. ⌜ Answered (refusalText (refusalNumber why)) (now (output .entry)) (now (output .exit)) r ⌝ }
 {
+    let number = why.number();
     let length = number_line_length(b"refusal=", number);
     if output.len() < length {
         return length;

@@ -21,8 +21,10 @@ use crate::header::parse_header;
 use crate::reply::refuse;
 use crate::reply::reply_field;
 use crate::reply::reply_payload;
+use codec::decode::DecodeAnswer;
 use codec::decode::decode;
 use codec::encode::encode;
+use lattice::refusal::Refusal;
 use lattice::shape::NewShape;
 use lattice::shape::Shape;
 
@@ -70,12 +72,10 @@ fn read_card(
     requires { ⌜ now payload ≡ blankPayload header ⌝ }
     ensures { λ r. ⌜ Answered (decodedText header (now (field .entry))) (now (output .entry)) (now (output .exit)) r ⌝ }
 {
-    let decoded = decode(shape, payload, field);
-    let number = decoded.number();
-    if number != 0 {
-        return refuse(number, output);
+    match decode(shape, payload, field) {
+        DecodeAnswer::Refused(why) => refuse(why, output),
+        DecodeAnswer::Decoded(count) => reply_payload(header, count, payload, output),
     }
-    reply_payload(header, decoded.count(), payload, output)
 }
 
 // The answer where a payload follows the header.
@@ -91,11 +91,11 @@ fn answer_payload(
     ensures { λ r. ⌜ Answered (answer (now (input .entry))) (now (output .entry)) (now (output .exit)) r ⌝ }
 {
     if !payload_ok(input, next) {
-        return refuse(8, output);
+        return refuse(Refusal::BadForm, output);
     }
     let bytes = payload_bytes(input, next);
     if bytes != shape.capacity() / 8 {
-        return refuse(3, output);
+        return refuse(Refusal::PayloadLength, output);
     }
     let cells = shape.cells();
     let mut payload = [0u8; MAX_BYTES];
@@ -122,7 +122,7 @@ fn answer_rows(input: &[u8], header: Header, next: usize, shape: Shape, output: 
         shape.columns,
         shape.planes as u32 * shape.rows as u32,
     ) {
-        return refuse(8, output);
+        return refuse(Refusal::BadForm, output);
     }
     let cells = shape.cells();
     let bytes = shape.capacity() / 8;
@@ -143,14 +143,11 @@ fn answer_header(input: &[u8], header: Header, next: usize, output: &mut [u8]) -
     requires { ⌜ HeaderRead (now input) header next ⌝ }
     ensures { λ r. ⌜ Answered (answer (now (input .entry))) (now (output .entry)) (now (output .exit)) r ⌝ }
 {
-    let n = header.numbers;
-    let made = Shape::new(n.columns, n.rows, n.planes, n.strength);
-    match made {
-        NewShape::BadSize => refuse(1, output),
-        NewShape::BadStrength => refuse(2, output),
+    match Shape::new(header.numbers) {
+        NewShape::Refused(why) => refuse(why, output),
         NewShape::Accepted(shape) => {
             if shape.cells() > MAX_CELLS {
-                return refuse(8, output);
+                return refuse(Refusal::BadForm, output);
             }
             if is_payload(input, next) {
                 return answer_payload(input, header, next, shape, output);
@@ -168,10 +165,10 @@ pub fn answer_card(input: &[u8], output: &mut [u8]) -> usize
     ensures { λ r. do ⌜ (← ⟦MAX_ANSWER⟧ .entry) ≡ maxAnswer ⌝ }
 {
     if input.len() > MAX_INPUT {
-        return refuse(8, output);
+        return refuse(Refusal::BadForm, output);
     }
     let HeaderAnswer::Found(header, next) = parse_header(input) else {
-        return refuse(8, output);
+        return refuse(Refusal::BadForm, output);
     };
     answer_header(input, header, next, output)
 }

@@ -2,6 +2,8 @@
 use Prim.Native.Nat.{ℕ, _<_, _≤_}
 use mathlib.Core.Bool.{Bool, true, false, cond}
 use mathlib.Core.Path.{_≡_, refl}
+use native.Mathlib.Nat.{le-trans}
+use lib.Dec.{lit≤}
 use borrow.Author.Tests.{le-leb, leb-true}
 use Rattle.codec.specs.Field.{Field, isCell, Cells, isReceived, Received}
 
@@ -30,3 +32,8 @@ received-cells f n p = p
 pub cells-received : (f : Field) (n : ℕ) → Cells f n → Received f n
 unfolding isReceived
 cells-received f n p = p
+
+-- a received cell is a decimal digit
+pub received-digit : (v : ℕ) → isReceived v ≡ true → v ≤ 9
+unfolding isReceived
+received-digit v p = le-trans (cell-most v p) (lit≤ tt)

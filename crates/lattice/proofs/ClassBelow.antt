@@ -12,7 +12,7 @@ use Rattle.lattice.specs.Settings.{settingsOf}
 use Rattle.lattice.specs.Cell.{Cell}
 use Rattle.lattice.specs.Class.{minusMod, classWith, classesOf, classOf}
 use Rattle.lattice.proofs.Limits.{legal, strength-stack, strength-most}
-use Rattle.lattice.proofs.SettingsLaws.{settings-flat, settings-stack, flat-most, stack-bounds, classes-some}
+use Rattle.lattice.proofs.SettingsLaws.{settings-flat, settings-stack, classes-stack, flat-most, stack-bounds, classes-some}
 
 -- with m of 0 the class is the column
 pub class-none : (k : Settings) (x : Cell) → k .m ≡ 0 → classWith k x ≡ x .column
@@ -38,6 +38,12 @@ module _ (s : Shape) (a : Accepted s) where
           (le-trans
           (stack-bounds _ (legal s a .strength-low) (strength-stack s a (eqb-false (s .planes) 1 e)) .1)
           (lit≤ tt))
+
+  -- and an accepted stack at most 92
+  pub classes-stack-most : (s .planes ≡ 1 → ⊥) → classesOf s ≤ 92
+  classes-stack-most stack =
+      rw (classes-stack s stack)
+      (stack-bounds (s .strength) (legal s a .strength-low) (strength-stack s a stack) .1)
 
   pub class-below : (x : Cell) → classOf s x < classesOf s
   unfolding classesOf classOf

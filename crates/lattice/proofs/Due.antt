@@ -63,6 +63,29 @@ pub due-append : (rs qs : List Listed) (n later : ℕ) → Due rs n → (n ≡ 0
 due-append rs qs n later (none-due e h) next = rw e (due-behind rs qs h (next e))
 due-append rs qs n later (first-due k e h) next = rw e (first-due k refl (first-append (suc k) rs qs h))
 
+-- two lists with the same numbers, whose conditions hold together, have the same number due
+abbrev pub SameConditions : List Listed → List Listed → Type 0
+SameConditions [] [] = Unit {0}
+SameConditions [] (q ∷ qs) = ⊥
+SameConditions (r ∷ rs) [] = ⊥
+SameConditions (r ∷ rs) (q ∷ qs) = (r .number ≡ q .number) × (r .condition ↔ q .condition) × SameConditions rs qs
+
+none-same : (rs qs : List Listed) → SameConditions rs qs → NoneHolds rs → NoneHolds qs
+none-same [] [] same none = tt
+none-same [] (q ∷ qs) same none = absurd same
+none-same (r ∷ rs) [] same none = absurd same
+none-same (r ∷ rs) (q ∷ qs) same none = ((λ h. none .0 (same .1 .1 h)), none-same rs qs (same .2) (none .1))
+
+first-same : (k : ℕ) (rs qs : List Listed) → SameConditions rs qs → FirstIs k rs → FirstIs k qs
+first-same k [] qs same f = absurd f
+first-same k (r ∷ rs) [] same f = absurd same
+first-same k (r ∷ rs) (q ∷ qs) same (inl h) = inl (same .1 .0 (h .0), sym (same .0) ∙ h .1)
+first-same k (r ∷ rs) (q ∷ qs) same (inr h) = inr ((λ c. h .0 (same .1 .1 c)), first-same k rs qs (same .2) (h .1))
+
+pub due-same : (rs qs : List Listed) {n : ℕ} → SameConditions rs qs → Due rs n → Due qs n
+due-same rs qs same (none-due e h) = none-due e (none-same rs qs same h)
+due-same rs qs same (first-due k e h) = first-due k e (first-same (suc k) rs qs same h)
+
 -- the number due is settled by the conditions
 pub due-settled : (rs : List Listed) (n : ℕ) → Due rs n → Settled rs n
 due-settled rs n (none-due z h) = (

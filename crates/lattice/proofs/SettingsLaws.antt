@@ -42,10 +42,14 @@ pub settings-stack : (d t : ℕ) → (d ≡ 1 → ⊥) → settingsFor d t ≡ s
 unfolding settingsFor
 settings-stack d t p = rw (ne-eqb d 1 p)
 
--- so a flat field has the classes of the flat rule
+-- so a flat field has the classes of the flat rule, and a stack those of its row
 pub classes-flat : (s : Shape) → s .planes ≡ 1 → classesOf s ≡ flatSettings (s .strength) .m
 unfolding classesOf
 classes-flat s flat = ap (λ (k : Settings). k .m) (settings-flat (s .planes) (s .strength) flat)
+
+pub classes-stack : (s : Shape) → (s .planes ≡ 1 → ⊥) → classesOf s ≡ stackSettings (s .strength) .m
+unfolding classesOf
+classes-stack s stack = ap (λ (k : Settings). k .m) (settings-stack (s .planes) (s .strength) stack)
 
 -- the settings that an accepted shape gives, and those of a refused one
 pub given-accepted : (s : Shape) → Accepted s → settingsGiven s ≡ settingsOf s

@@ -2,14 +2,14 @@ use borrow.Author.Needs.{needs}
 use Prim.Native.Nat.{_-_, _≤_, zero-le}
 use native.Mathlib.Omega.{arith}
 use Rattle.lattice.proofs.Bools.{failed, passed}
-use Rattle.lattice.specs.Shape.{inRange}
 use Rattle.codec.proofs.StepTest.{Passed, passed-none, passed-more}
+use Rattle.card.specs.Parse.{isCellDigit}
 use Rattle.card.proofs.StepScan.{testAt, test-passes, test-fails, test-all}
 use Rattle.card.proofs.body.all_cells.Statement.{statement}
 use Rattle.card.proofs.body.all_cells.Tie as tie
 
 abbrev Inv-loop : tie.InvT-loop
-Inv-loop text start n j₀ j = (j ≤ n) × Passed (testAt (inRange 48 49) text start) j
+Inv-loop text start n j₀ j = (j ≤ n) × Passed (testAt isCellDigit text start) j
 
 abbrev μ-loop : tie.MeasureT-loop
 μ-loop text start n j₀ j = n - j
@@ -20,14 +20,11 @@ loop-holds c = (zero-le, passed-none _)
 byte-at-requires : tie.Need-byte-at-requires Inv-loop μ-loop
 byte-at-requires c κs = tt
 
-cast-within : tie.Need-cast-within Inv-loop μ-loop
-cast-within c = search needs
-
-within-requires : tie.Need-within-requires Inv-loop μ-loop
-within-requires c κs = tt
+is-cell-digit-requires : tie.Need-is-cell-digit-requires Inv-loop μ-loop
+is-cell-digit-requires c κs = tt
 
 returns : tie.Need-returns Inv-loop μ-loop
-returns c = test-fails (inRange 48 49) (c .before .before .before .before .before .before .args .text .now) (c .before .before .before .before .before .before .args .start) _ _ _ (c .before .before .before .loop-test .taken) (c .before .before .byte-at .ensures) (failed _ _ (c .if1 .taken) (c .before .within .ensures))
+returns c = test-fails isCellDigit (c .before .before .before .before .before .before .args .text .now) (c .before .before .before .before .before .before .args .start) _ _ _ (c .before .before .before .loop-test .taken) (c .before .before .byte-at .ensures) (failed _ _ (c .if1 .taken) (c .before .is-cell-digit .ensures))
 
 add-j : tie.Need-add-j Inv-loop μ-loop
 add-j c = omega arith
@@ -36,10 +33,10 @@ loop-less : tie.Need-loop-less Inv-loop μ-loop
 loop-less c = omega arith
 
 loop-again : tie.Need-loop-again Inv-loop μ-loop
-loop-again c = (omega arith, passed-more _ _ (c .before .before .before .before .loop .inv .1) (test-passes (inRange 48 49) _ _ _ _ (c .before .before .byte-at .ensures) (passed _ _ (c .if1 .left) (c .before .within .ensures))))
+loop-again c = (omega arith, passed-more _ _ (c .before .before .before .before .loop .inv .1) (test-passes isCellDigit _ _ _ _ (c .before .before .byte-at .ensures) (passed _ _ (c .if1 .left) (c .before .is-cell-digit .ensures))))
 
 returns-2 : tie.Need-returns-2 Inv-loop μ-loop
-returns-2 c = test-all (inRange 48 49) (c .before .before .before .args .text .now) (c .before .before .before .args .start) _ _ (c .before .loop .inv .1) (c .before .loop .inv .0) (c .loop-test .left)
+returns-2 c = test-all isCellDigit (c .before .before .before .args .text .now) (c .before .before .before .args .start) _ _ (c .before .loop .inv .1) (c .before .loop .inv .0) (c .loop-test .left)
 
 pub all-cells-spec : {M : Type 1} → statement M
 all-cells-spec =
@@ -49,8 +46,7 @@ all-cells-spec =
     μ-loop
     loop-holds
     byte-at-requires
-    cast-within
-    within-requires
+    is-cell-digit-requires
     returns
     add-j
     loop-less

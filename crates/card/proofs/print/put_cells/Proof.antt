@@ -3,6 +3,7 @@ use native.Mathlib.Omega.{arith}
 use lib.ListN.{length, take}
 use Rattle.card.specs.Text.{cellsText}
 use Rattle.card.specs.Working.{Printed}
+use Rattle.codec.proofs.CellValues.{received-digit}
 use Rattle.card.proofs.StepText.{length-cells, cell-digit}
 use Rattle.card.proofs.StepPrint.{prefix-none, prefix-more, prefix-index, prefix-long, prefix-all}
 use Rattle.card.proofs.print.put_cells.Statement.{statement}
@@ -24,10 +25,10 @@ shared-slice-read-out : tie.Need-shared-slice-read-out Inv-loop μ-loop
 shared-slice-read-out c = omega arith
 
 add-out : tie.Need-add-out Inv-loop μ-loop
-add-out c = omega (arith, length-cells (c .before .before .before .args .cells .now), c .before .before .before .pre .0 .fits, c .before .before .before .pre .1 (c .before .before .loop .i) (c .before .loop-test .taken))
+add-out c = omega (arith, length-cells (c .before .before .before .args .cells .now), c .before .before .before .pre .0 .fits, received-digit _ (c .before .before .before .pre .1 (c .before .before .loop .i) (c .before .loop-test .taken)))
 
 add-out-2 : tie.Need-add-out-2 Inv-loop μ-loop
-add-out-2 c = omega (arith, length-cells (c .before .before .before .args .cells .now), c .before .before .before .pre .0 .fits, c .before .before .before .pre .1 (c .before .before .loop .i) (c .before .loop-test .taken))
+add-out-2 c = omega (arith, length-cells (c .before .before .before .args .cells .now), c .before .before .before .pre .0 .fits, received-digit _ (c .before .before .before .pre .1 (c .before .before .loop .i) (c .before .loop-test .taken)))
 
 slice-write-out : tie.Need-slice-write-out Inv-loop μ-loop
 slice-write-out c = prefix-index (c .before .before .before .pre .0) _ (inside (c .before)) (c .before .before .loop .inv .1)

@@ -1,8 +1,13 @@
+-- `refuse` meets its contract.
+use mathlib.Core.Path.{ap}
 use borrow.Author.Needs.{needs}
 use Rattle.card.specs.Text.{refusalText}
-use Rattle.card.proofs.StepReply.{answered-short, answered-printed, room-front}
+use Rattle.card.proofs.StepReply.{answered-same, answered-short, answered-printed, room-front}
 use Rattle.card.proofs.reply.refuse.Statement.{statement}
 use Rattle.card.proofs.reply.refuse.Tie as tie
+
+number-requires : tie.Need-number-requires
+number-requires c κs = search needs
 
 slice-aggregate-number-line-length : tie.Need-slice-aggregate-number-line-length
 slice-aggregate-number-line-length c = search needs
@@ -12,7 +17,9 @@ number-line-length-requires c κs = search needs
 
 returns : tie.Need-returns
 unfolding refusalText
-returns c = answered-short _ _ _ (c .before .number-line-length .ensures) (c .if1 .taken)
+returns c =
+    answered-same (ap refusalText (c .before .before .before .number .ensures))
+    (answered-short _ _ _ (c .before .number-line-length .ensures) (c .if1 .taken))
 
 slice-aggregate-put-number-line : tie.Need-slice-aggregate-put-number-line
 slice-aggregate-put-number-line c = search needs
@@ -25,12 +32,17 @@ same-length c = search needs
 
 returns-2 : tie.Need-returns-2
 unfolding refusalText
-returns-2 c = answered-printed (room-front _ _ _ (c .before .before .before .before .before .before .number-line-length .ensures) (c .before .before .before .before .before .if1 .left)) (c .before .before .put-number-line .ensures)
+returns-2 c =
+    answered-same (ap refusalText (c .before .before .before .before .before .before .before .before .number .ensures))
+    (answered-printed
+    (room-front _ _ _ (c .before .before .before .before .before .before .number-line-length .ensures) (c .before .before .before .before .before .if1 .left))
+    (c .before .before .put-number-line .ensures))
 
 pub refuse-spec : {M : Type 1} → statement M
 refuse-spec =
     tie.close
     (tie.spec
+    number-requires
     slice-aggregate-number-line-length
     number-line-length-requires
     returns

@@ -1,6 +1,7 @@
 use borrow.Author.Needs.{needs}
 use mathlib.Core.Path.{refl, sym, _∙_}
-use Rattle.card.proofs.StepRun.{answered-same, answered-leaves}
+use Rattle.card.proofs.StepReply.{answered-same}
+use Rattle.card.proofs.StepRun.{answered-leaves}
 use Rattle.card.proofs.StepProgram.{too-long, no-header}
 use Rattle.card.proofs.run.answer_card.Statement.{statement}
 use Rattle.card.proofs.run.answer_card.Tie as tie
@@ -13,7 +14,7 @@ same-length c = search needs
 
 returns : tie.Need-returns
 returns c =
-    let a = answered-leaves _ _ _ _ (answered-same (sym (too-long _ (c .before .before .before .before .if1 .taken))) (c .before .before .refuse .ensures)) in
+    let a = answered-leaves _ _ _ _ (answered-same (too-long _ (c .before .before .before .before .if1 .taken)) (c .before .before .refuse .ensures)) in
     (a .0, (a .1, (refl, refl)))
 
 parse-header-requires : tie.Need-parse-header-requires
@@ -36,7 +37,7 @@ returns-2 c =
     let a =
     answered-leaves
     _ _ _ _
-    (answered-same (sym (no-header _ (c .before .before .before .before .before .before .before .if1 .left) (sym (c .before .before .before .before .before .before .parse-header .ensures) ∙ c .before .before .before .before .enum-told .given .1))) (c .before .before .refuse2 .ensures)) in
+    (answered-same (no-header _ (c .before .before .before .before .before .before .before .if1 .left) (sym (c .before .before .before .before .before .before .parse-header .ensures) ∙ c .before .before .before .before .enum-told .given .1)) (c .before .before .refuse2 .ensures)) in
     (a .0, (a .1, (refl, refl)))
 
 answer-header-requires : tie.Need-answer-header-requires

@@ -12,7 +12,8 @@ use Rattle.card.specs.Parse.{payloadOk, payloadOf}
 use Rattle.card.specs.Program.{writtenText}
 use Rattle.card.proofs.StepProgram.{bad-payload, wrong-length, payload-written}
 use Rattle.card.proofs.StepCard.{cells-are, cells-fit, bytes-are, bytes-fit}
-use Rattle.card.proofs.StepRun.{answered-same, zeros-count, part-again, part-within, part-count, length-read, bytes-read}
+use Rattle.card.proofs.StepReply.{answered-same}
+use Rattle.card.proofs.StepRun.{zeros-count, part-again, part-within, part-count, length-read, bytes-read}
 use Rattle.card.proofs.run.answer_payload.Statement.{statement}
 use Rattle.card.proofs.run.answer_payload.Tie as tie
 
@@ -51,7 +52,7 @@ same-length : tie.Need-same-length
 same-length c = search needs
 
 returns : tie.Need-returns
-returns c = answered-same (sym (bad-payload _ _ _ (c .before .before .before .before .before .before .before .before .pre .0 .header) (c .before .before .before .before .before .before .before .before .pre .0 .shaped .card) (c .before .before .before .before .before .before .before .before .pre .1) (failed _ _ (c .before .before .before .before .if1 .taken) (c .before .before .before .before .before .payload-ok .ensures)))) (c .before .before .refuse .ensures)
+returns c = answered-same (bad-payload _ _ _ (c .before .before .before .before .before .before .before .before .pre .0 .header) (c .before .before .before .before .before .before .before .before .pre .0 .shaped .card) (c .before .before .before .before .before .before .before .before .pre .1) (failed _ _ (c .before .before .before .before .if1 .taken) (c .before .before .before .before .before .payload-ok .ensures))) (c .before .before .refuse .ensures)
 
 payload-bytes-requires : tie.Need-payload-bytes-requires
 payload-bytes-requires c κs = search needs
@@ -68,7 +69,6 @@ same-length-2 c = search needs
 returns-2 : tie.Need-returns-2
 returns-2 c =
     answered-same
-    (sym
     (wrong-length _ _ _ (c .before .before .before .before .before .before .before .before .before .before .before .pre .0 .header) (c .before .before .before .before .before .before .before .before .before .before .before .pre .0 .shaped .card) (c .before .before .before .before .before .before .before .before .before .before .before .pre .1)
     (ok (c .before .before .before .before .before .before .before))
     (λ e.
@@ -76,7 +76,7 @@ returns-2 c =
     (sym (bytes-read-are (c .before .before .before .before .before .before))
     ∙ e
     ∙ ap planBytes (sym (c .before .before .before .before .before .before .before .before .before .before .before .pre .0 .shaped .shape))
-    ∙ sym (bytes-are _ _ (c .before .before .before .before .before .before .before .before .before .before .before .pre .0 .shaped) _ (c .before .before .before .before .before .capacity .ensures))))))
+    ∙ sym (bytes-are _ _ (c .before .before .before .before .before .before .before .before .before .before .before .pre .0 .shaped) _ (c .before .before .before .before .before .capacity .ensures)))))
     (c .before .before .refuse2 .ensures)
 
 cells-requires : tie.Need-cells-requires

@@ -11,7 +11,8 @@ use Rattle.card.specs.Working.{decodedText}
 use Rattle.card.proofs.StepCard.{cells-are, cells-fit, bytes-are, bytes-fit, columns-some, columns-narrow, lines-most, rows-fit, cells-read, cells-long}
 use Rattle.card.proofs.StepProgram.{bad-rows, rows-read}
 use Rattle.card.proofs.HeaderRest.{header-found}
-use Rattle.card.proofs.StepRun.{answered-same, zeros-count, zeros-take, part-again, part-within, part-count}
+use Rattle.card.proofs.StepReply.{answered-same}
+use Rattle.card.proofs.StepRun.{zeros-count, zeros-take, part-again, part-within, part-count}
 use Rattle.card.proofs.run.answer_rows.Statement.{statement}
 use Rattle.card.proofs.run.answer_rows.Tie as tie
 
@@ -58,7 +59,7 @@ same-length : tie.Need-same-length
 same-length c = search needs
 
 returns : tie.Need-returns
-returns c = answered-same (sym (bad-rows _ _ _ (c .before .before .before .before .before .before .before .before .before .before .pre .0 .header) (c .before .before .before .before .before .before .before .before .before .before .pre .0 .shaped .card) (c .before .before .before .before .before .before .before .before .before .before .pre .1) (failed _ _ (c .before .before .before .before .if1 .taken) (rows-fit _ _ (c .before .before .before .before .before .before .before .before .before .before .pre .0 .shaped) _ _ _ (c .before .before .before .before .before .rows-ok .ensures))))) (c .before .before .refuse .ensures)
+returns c = answered-same (bad-rows _ _ _ (c .before .before .before .before .before .before .before .before .before .before .pre .0 .header) (c .before .before .before .before .before .before .before .before .before .before .pre .0 .shaped .card) (c .before .before .before .before .before .before .before .before .before .before .pre .1) (failed _ _ (c .before .before .before .before .if1 .taken) (rows-fit _ _ (c .before .before .before .before .before .before .before .before .before .before .pre .0 .shaped) _ _ _ (c .before .before .before .before .before .rows-ok .ensures)))) (c .before .before .refuse .ensures)
 
 cells-requires : tie.Need-cells-requires
 cells-requires c κs = search needs

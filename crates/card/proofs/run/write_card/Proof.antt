@@ -1,6 +1,6 @@
 use borrow.Author.Needs.{needs}
 use Rattle.card.proofs.StepCard.{encoded-cells, card-written}
-use Rattle.card.proofs.StepRun.{answered-same}
+use Rattle.card.proofs.StepReply.{answered-same}
 use Rattle.card.proofs.run.write_card.Statement.{statement}
 use Rattle.card.proofs.run.write_card.Tie as tie
 
