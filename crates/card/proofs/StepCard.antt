@@ -9,12 +9,13 @@ use Rattle.lattice.specs.declared.shape.NewShape.{NewShape}
 use Rattle.lattice.specs.declared.shape.NewShape.the-variants as new
 use Rattle.lattice.specs.declared.refusal.Refusal.{Refusal}
 use Rattle.lattice.specs.Refusal.{refusalNumber, figure}
-use Rattle.lattice.specs.Answer.{newNumber, newShape, IsNewShape}
+use Rattle.lattice.specs.Answer.{IsNewShape}
 use Rattle.lattice.specs.Shape.{shapeNumber, Accepted, cellsOf}
 use Rattle.lattice.specs.Class.{classesOf, classAt}
 use Rattle.lattice.specs.Position.{capacity}
 use Rattle.lattice.proofs.Answers.{beside-zero, refused}
 use Rattle.lattice.proofs.Figure.{figure-given}
+use Rattle.lattice.proofs.NewShapes.{new-accepted, new-shape}
 use Rattle.codec.specs.Payload.{Bytes}
 use Rattle.codec.specs.Plan.{planClasses, planCapacity, planBytes}
 use Rattle.codec.specs.Encode.{encodedField, encodeLeaves}
@@ -35,28 +36,18 @@ use Rattle.card.proofs.StepRows.{cellByte}
 
 -- the constructor's answer to a header
 module _ (h : Header) (r : NewShape) (x : IsNewShape (h .numbers) r) where
-  pub new-refused : (why : Refusal) → r ≡ new.Refused why → refusalNumber why ≡ shapeNumber (shapeOf h)
-  new-refused why e = sym (ap newNumber e) ∙ x .number
-
   module _ (s : Shape) (e : r ≡ new.Accepted s) where
-    pub new-accepted : Accepted (shapeOf h)
-    new-accepted = sym (x .number) ∙ ap newNumber e
-
-    -- the shape is the header's
-    new-shape : s ≡ shapeOf h
-    new-shape = sym (ap newShape e) ∙ x .shape ∙ beside-zero _ _ _ new-accepted
-
     cells-given : (n : ℕ) → n ≡ figure (shapeNumber s) (cellsOf s) → n ≡ cellsOf (shapeOf h)
     cells-given n p =
         p
-        ∙ ap (λ (t : Shape). figure (shapeNumber t) (cellsOf t)) new-shape
-        ∙ figure-given _ (cellsOf (shapeOf h)) new-accepted
+        ∙ ap (λ (t : Shape). figure (shapeNumber t) (cellsOf t)) (new-shape _ _ x s e)
+        ∙ figure-given _ (cellsOf (shapeOf h)) (new-accepted _ _ x s e)
 
     pub new-many : (n : ℕ) → n ≡ figure (shapeNumber s) (cellsOf s) → 16384 < n → 16384 < cellsOf (shapeOf h)
     new-many n p l = rw (cells-given n p) at l
 
     pub new-card : (n : ℕ) → n ≡ figure (shapeNumber s) (cellsOf s) → n ≤ 16384 → CardShape h s
-    new-card n p l = record { card = record { accepted = new-accepted; cells = rw (cells-given n p) at l }; shape = new-shape }
+    new-card n p l = record { card = record { accepted = new-accepted _ _ x s e; cells = rw (cells-given n p) at l }; shape = new-shape _ _ x s e }
 
 -- the figures of a card's shape
 module _ (h : Header) (s : Shape) (x : CardShape h s) where

@@ -22,6 +22,7 @@ pub mod PaddingCells
 pub mod PaddingFew
 pub mod PaperExamples
 pub mod PayloadBits
+pub mod PlanRefusal
 pub mod PowerPositions
 pub mod Ranks
 pub mod Reach

@@ -27,6 +27,7 @@ pub mod InField
 pub mod Integers
 pub mod LabelsNeeded
 pub mod Limits
+pub mod NewShapes
 pub mod Numbering
 pub mod OrderLists
 pub mod OrderMembers

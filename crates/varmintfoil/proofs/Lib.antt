@@ -1,2 +1,1 @@
--- Laws that belong to no one function.
-pub mod ShapeOfNumbers
+-- The proofs of the functions; their laws are those of placing and coding.

@@ -19,49 +19,44 @@ use lattice::shape::ShapeNumbers;
 pub fn plan_of(shape: ShapeNumbers) -> PlanAnswer
     ensures { λ r. ⌜ IsPlan (shapeFrom shape) r ⌝ }
 {
-    match Shape::new(shape.columns, shape.rows, shape.planes, shape.strength) {
+    match Shape::new(shape) {
         NewShape::Accepted(accepted) => plan(accepted),
-        NewShape::BadSize => PlanAnswer::BadSize,
-        NewShape::BadStrength => PlanAnswer::BadStrength,
+        NewShape::Refused(why) => PlanAnswer::Refused(why),
     }
 }
 
 pub fn class_of(shape: ShapeNumbers, row: usize, plane: usize, column: usize) -> CellClass
     ensures { λ r. ⌜ IsCellClass (shapeFrom shape) (cell row plane column) r ⌝ }
 {
-    match Shape::new(shape.columns, shape.rows, shape.planes, shape.strength) {
+    match Shape::new(shape) {
         NewShape::Accepted(accepted) => accepted.class_of(row, plane, column),
-        NewShape::BadSize => CellClass::BadSize,
-        NewShape::BadStrength => CellClass::BadStrength,
+        NewShape::Refused(why) => CellClass::Refused(why),
     }
 }
 
 pub fn encode_in(shape: ShapeNumbers, payload: &[u8], field: &mut [u8]) -> EncodeAnswer
     ensures { λ r. ⌜ IsEncoded (shapeFrom shape) (now (payload .entry)) (now (field .entry)) (now (field .exit)) r ⌝ }
 {
-    match Shape::new(shape.columns, shape.rows, shape.planes, shape.strength) {
+    match Shape::new(shape) {
         NewShape::Accepted(accepted) => encode(accepted, payload, field),
-        NewShape::BadSize => EncodeAnswer::BadSize,
-        NewShape::BadStrength => EncodeAnswer::BadStrength,
+        NewShape::Refused(why) => EncodeAnswer::Refused(why),
     }
 }
 
 pub fn decode_in(shape: ShapeNumbers, payload: &mut [u8], field: &[u8]) -> DecodeAnswer
     ensures { λ r. ⌜ IsDecoded (shapeFrom shape) (now (payload .entry)) (now (field .entry)) (now (payload .exit)) r ⌝ }
 {
-    match Shape::new(shape.columns, shape.rows, shape.planes, shape.strength) {
+    match Shape::new(shape) {
         NewShape::Accepted(accepted) => decode(accepted, payload, field),
-        NewShape::BadSize => DecodeAnswer::BadSize,
-        NewShape::BadStrength => DecodeAnswer::BadStrength,
+        NewShape::Refused(why) => DecodeAnswer::Refused(why),
     }
 }
 
 pub fn correct_in(shape: ShapeNumbers, field: &mut [u8]) -> CorrectAnswer
     ensures { λ r. ⌜ IsCorrected (shapeFrom shape) (now (field .entry)) (now (field .exit)) r ⌝ }
 {
-    match Shape::new(shape.columns, shape.rows, shape.planes, shape.strength) {
+    match Shape::new(shape) {
         NewShape::Accepted(accepted) => correct(accepted, field),
-        NewShape::BadSize => CorrectAnswer::BadSize,
-        NewShape::BadStrength => CorrectAnswer::BadStrength,
+        NewShape::Refused(why) => CorrectAnswer::Refused(why),
     }
 }

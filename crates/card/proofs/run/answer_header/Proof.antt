@@ -1,9 +1,10 @@
 -- `answer_header` meets its contract: a refusal is the constructor's, and else the later tests follow.
 use mathlib.Core.Path.{sym, _∙_}
 use borrow.Author.Needs.{needs}
+use Rattle.lattice.proofs.NewShapes.{new-refused, new-accepted}
 use Rattle.card.specs.Working.{BodyRead}
 use Rattle.card.proofs.StepProgram.{bad-shape, too-many}
-use Rattle.card.proofs.StepCard.{new-refused, new-accepted, new-many, new-card}
+use Rattle.card.proofs.StepCard.{new-many, new-card}
 use Rattle.card.proofs.StepReply.{answered-same}
 use Rattle.card.proofs.run.answer_header.Statement.{statement}
 use Rattle.card.proofs.run.answer_header.Tie as tie
@@ -42,7 +43,7 @@ returns c =
     let made = c .before .before .before .before .before .before .before .before .before .new .ensures .0 in
     let shape = c .before .before .before .before .before .before .before .shape .given .1 in
     answered-same
-    (too-many _ _ _ (c .before .before .before .before .before .before .before .before .before .before .before .before .pre) (new-accepted h _ made _ shape) (new-many h _ made _ shape _ (c .before .before .before .before .before .cells .ensures) (c .before .before .before .before .if1 .taken)))
+    (too-many _ _ _ (c .before .before .before .before .before .before .before .before .before .before .before .before .pre) (new-accepted _ _ made _ shape) (new-many h _ made _ shape _ (c .before .before .before .before .before .cells .ensures) (c .before .before .before .before .if1 .taken)))
     (c .before .before .refuse2 .ensures)
 
 is-payload-requires : tie.Need-is-payload-requires
@@ -67,7 +68,7 @@ returns-3 : tie.Need-returns-3
 returns-3 c =
     let why = c .before .before .before .before .before .why .given in
     answered-same
-    (bad-shape _ _ _ (c .before .before .before .before .before .before .before .before .before .before .pre) (why .0 .0) (new-refused (c .before .before .before .before .before .before .before .before .before .before .args .header) _ (c .before .before .before .before .before .before .before .new .ensures .0) (why .0 .0) (why .1)))
+    (bad-shape _ _ _ (c .before .before .before .before .before .before .before .before .before .before .pre) (why .0 .0) (new-refused _ _ (c .before .before .before .before .before .before .before .new .ensures .0) (why .0 .0) (why .1)))
     (c .before .before .refuse .ensures)
 
 same-length-4 : tie.Need-same-length-4

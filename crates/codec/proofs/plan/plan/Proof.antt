@@ -1,10 +1,10 @@
 -- `plan` meets its contract: a refusal settles the answer, and else the figures are those of the shape's methods.
 use Prim.Native.Nat.{ℕ, _/_}
-use mathlib.Core.Path.{sym, ap, _∙_}
-use native.Mathlib.Nat.{zero-div}
+use mathlib.Core.Path.{sym, ap}
 use borrow.Author.Needs.{needs}
 use Rattle.codec.specs.Plan.{planClasses, planCapacity, planBytes, planCells}
-use Rattle.lattice.proofs.Answers.{refused, told, told-none}
+use Rattle.lattice.proofs.Answers.{told, told-none}
+use Rattle.codec.proofs.PlanRefusal.{plan-refused}
 use Rattle.codec.proofs.plan.plan.Statement.{statement}
 use Rattle.codec.proofs.plan.plan.Tie as tie
 
@@ -15,17 +15,9 @@ enum-known-tested : tie.Need-enum-known-tested
 enum-known-tested c = search needs
 
 returns : tie.Need-returns
-unfolding planClasses planCapacity planBytes planCells
 returns c =
-    let why = c .before .tested .given .0 .0 in
-    let e = told (c .before .before .before .tests .ensures) (c .before .tested .given .1) in
-    record {
-      number = e;
-      classes = refused why _ _ _ e;
-      capacity = refused why _ _ _ e;
-      bytes = sym (zero-div 8) ∙ ap (λ (k : ℕ). k / 8) (refused why _ _ _ e);
-      cells = refused why _ _ _ e;
-    }
+    let why = c .before .tested .given in
+    plan-refused _ (why .0 .0) (told (c .before .before .before .tests .ensures) (why .1))
 
 enum-told : tie.Need-enum-told
 enum-told c = search needs

@@ -1,7 +1,8 @@
--- `correct_in` meets its contract: the accepted shape is that of the numbers, and a refusal settles the answer.
+-- `correct_in` meets its contract: the accepted shape is that of the numbers, and the constructor's refusal is the operation's.
 use borrow.Author.Needs.{needs}
-use Rattle.codec.proofs.OnCorrect.{bad-size, bad-strength}
-use Rattle.varmintfoil.proofs.ShapeOfNumbers.{accepted, size-refused, strength-refused}
+use Rattle.codec.specs.Correct.{correctNumber, correctCount, correctLeaves}
+use Rattle.lattice.proofs.Answers.{earlier-told, refused}
+use Rattle.lattice.proofs.NewShapes.{new-refused, new-shape}
 use Rattle.varmintfoil.proofs.operations.correct_in.Statement.{statement}
 use Rattle.varmintfoil.proofs.operations.correct_in.Tie as tie
 
@@ -14,24 +15,24 @@ enum-known-accepted c = search needs
 correct-requires : tie.Need-correct-requires
 correct-requires c κs = search needs
 
-enum-told : tie.Need-enum-told
-enum-told c = search needs
-
-enum-told-2 : tie.Need-enum-told-2
-enum-told-2 c = search needs
+enum-known-why : tie.Need-enum-known-why
+enum-known-why c = search needs
 
 same-length : tie.Need-same-length
 same-length c = search needs
 
 returns : tie.Need-returns
 returns c =
-    rw (accepted _ _ (c .before .before .before .before .before .before .before .new .ensures .0) _ (c .before .before .before .before .before .accepted .given .1)) at (c .before .before .correct .ensures)
+    let a = c .before .before .before .before .before in
+    rw (new-shape _ _ (a .before .before .new .ensures .0) _ (a .accepted .given .1)) at (c .before .before .correct .ensures)
 
 returns-2 : tie.Need-returns-2
-returns-2 c = bad-size _ _ (size-refused _ _ (c .before .before .new .ensures .0) (c .enum-told .given .1))
-
-returns-3 : tie.Need-returns-3
-returns-3 c = bad-strength _ _ (strength-refused _ _ (c .before .before .new .ensures .0) (c .enum-told2 .given .1))
+unfolding correctNumber correctCount correctLeaves
+returns-2 c =
+    let why = c .before .why .given in
+    let e = new-refused _ _ (c .before .before .before .new .ensures .0) (why .0 .0) (why .1) in
+    let n = earlier-told (why .0 .0) _ _ e in
+    record { number = n; count = refused (why .0 .0) _ _ _ n; leaves = refused (why .0 .0) _ _ _ n }
 
 pub correct-in-spec : {M : Type 1} → statement M
 correct-in-spec =
@@ -40,9 +41,7 @@ correct-in-spec =
     new-requires
     enum-known-accepted
     correct-requires
-    enum-told
-    enum-told-2
+    enum-known-why
     same-length
     returns
-    returns-2
-    returns-3)
+    returns-2)

@@ -1,7 +1,7 @@
--- `plan_of` meets its contract: the accepted shape is that of the numbers, and a refusal settles the answer.
+-- `plan_of` meets its contract: the accepted shape is that of the numbers, and the constructor's refusal is the operation's.
 use borrow.Author.Needs.{needs}
-use Rattle.codec.proofs.OnPlan.{bad-size, bad-strength}
-use Rattle.varmintfoil.proofs.ShapeOfNumbers.{accepted, size-refused, strength-refused}
+use Rattle.codec.proofs.PlanRefusal.{plan-refused}
+use Rattle.lattice.proofs.NewShapes.{new-refused, new-shape}
 use Rattle.varmintfoil.proofs.operations.plan_of.Statement.{statement}
 use Rattle.varmintfoil.proofs.operations.plan_of.Tie as tie
 
@@ -14,31 +14,21 @@ enum-known-accepted c = search needs
 plan-requires : tie.Need-plan-requires
 plan-requires c κs = search needs
 
-enum-told : tie.Need-enum-told
-enum-told c = search needs
-
-enum-told-2 : tie.Need-enum-told-2
-enum-told-2 c = search needs
+enum-known-why : tie.Need-enum-known-why
+enum-known-why c = search needs
 
 returns : tie.Need-returns
 returns c =
-    rw (accepted _ _ (c .before .before .before .before .new .ensures .0) _ (c .before .before .accepted .given .1)) at (c .plan .ensures)
+    let a = c .before .before in
+    rw (new-shape _ _ (a .before .before .new .ensures .0) _ (a .accepted .given .1)) at (c .plan .ensures)
 
 returns-2 : tie.Need-returns-2
-returns-2 c = bad-size _ (size-refused _ _ (c .before .before .new .ensures .0) (c .enum-told .given .1))
-
-returns-3 : tie.Need-returns-3
-returns-3 c = bad-strength _ (strength-refused _ _ (c .before .before .new .ensures .0) (c .enum-told2 .given .1))
+returns-2 c =
+    let why = c .before .why .given in
+    let e = new-refused _ _ (c .before .before .before .new .ensures .0) (why .0 .0) (why .1) in
+    plan-refused _ (why .0 .0) e
 
 pub plan-of-spec : {M : Type 1} → statement M
 plan-of-spec =
     tie.close
-    (tie.spec
-    new-requires
-    enum-known-accepted
-    plan-requires
-    enum-told
-    enum-told-2
-    returns
-    returns-2
-    returns-3)
+    (tie.spec new-requires enum-known-accepted plan-requires enum-known-why returns returns-2)
