@@ -1,65 +1,52 @@
 // An answer as document 01 has it: a number, and the figures that come with it.
 use crate::print;
 
-// At most five figures; those that an operation does not have are 0.
+// The most figures that an operation gives.
+pub(crate) const FIGURES: usize = 5;
+
+// The figures that an operation does not have are 0, and so is every figure on each number above 0.
 pub(crate) struct Answer {
     pub(crate) number: usize,
-    pub(crate) first: u64,
-    pub(crate) second: u64,
-    pub(crate) third: u64,
-    pub(crate) fourth: u64,
-    pub(crate) fifth: u64,
+    pub(crate) figures: [u64; FIGURES],
 }
 
-// A number alone: every figure is 0, as it is on each number above 0.
+// A number alone.
 pub(crate) fn number(number: usize) -> Answer {
     Answer {
         number,
-        first: 0,
-        second: 0,
-        third: 0,
-        fourth: 0,
-        fifth: 0,
+        figures: [0; FIGURES],
     }
 }
 
-// Success with one figure.
-pub(crate) fn figure(first: u64) -> Answer {
-    Answer {
-        number: 0,
-        first,
-        second: 0,
-        third: 0,
-        fourth: 0,
-        fifth: 0,
+// Success with some figures.
+pub(crate) fn of(given: &[u64]) -> Answer {
+    let mut figures = [0; FIGURES];
+    let mut k = 0;
+    while k < given.len() {
+        if k < FIGURES {
+            figures[k] = given[k];
+        }
+        k += 1;
     }
+    Answer { number: 0, figures }
 }
 
 pub(crate) fn same(a: Answer, b: Answer) -> bool {
     if a.number != b.number {
         return false;
     }
-    if a.first != b.first {
-        return false;
+    let mut k = 0;
+    while k < FIGURES {
+        if a.figures[k] != b.figures[k] {
+            return false;
+        }
+        k += 1;
     }
-    if a.second != b.second {
-        return false;
-    }
-    if a.third != b.third {
-        return false;
-    }
-    if a.fourth != b.fourth {
-        return false;
-    }
-    a.fifth == b.fifth
+    true
 }
 
+// The number and the figures, each after a space.
 pub(crate) fn show(a: Answer) {
-    print::decimal(a.number as u64);
-    print::labelled(b" (", a.first);
-    print::labelled(b" ", a.second);
-    print::labelled(b" ", a.third);
-    print::labelled(b" ", a.fourth);
-    print::labelled(b" ", a.fifth);
-    print::text(b")");
+    print::numbers(&[a.number as u64]);
+    print::numbers(&a.figures);
 }

@@ -5,6 +5,8 @@ use crate::cases::random;
 use crate::cases::shapes;
 use crate::compare;
 use crate::second;
+use crate::second::layout::Field;
+use crate::second::write::Payload;
 use crate::tally::Tally;
 use lattice::shape::Shape;
 
@@ -60,22 +62,78 @@ fn way(case: usize) -> usize {
     }
 }
 
+// Any bytes.
+fn some_payload(x: u64) -> Payload {
+    let mut payload = [0u8; 80];
+    random::fill(&mut payload, x, 256);
+    payload
+}
+
+fn some_field(x: u64) -> Field {
+    let mut field = [0u8; 512];
+    random::fill(&mut field, x, 256);
+    field
+}
+
+// A field that is written and damaged as a case says.
+fn damaged(shape: Shape, cells: usize, bytes: usize, case: usize, x: u64) -> Field
+    requires { ⌜ (0 < cells) × ((cells ≤ 512) × (bytes ≤ 80)) ⌝ }
+{
+    let mut field = some_field(random::next(x));
+    second::write::write_with(
+        shape,
+        cells,
+        &some_payload(x),
+        bytes,
+        filler(case),
+        &mut field,
+    );
+    damage::damage(shape, cells, way(case), x, &mut field);
+    field
+}
+
+fn write(tally: &mut Tally, shape: Shape, cells: usize, bytes: usize, x: u64)
+    requires { ⌜ (cells ≤ 512) × (bytes ≤ 80) ⌝ }
+{
+    let mut theirs = some_field(random::next(x));
+    let mut ours = theirs;
+    compare::coding::write(
+        tally,
+        shape,
+        &some_payload(x),
+        bytes,
+        &mut theirs,
+        &mut ours,
+        cells,
+    );
+}
+
+fn read(tally: &mut Tally, shape: Shape, field: &Field, cells: usize, bytes: usize, x: u64)
+    requires { ⌜ (cells ≤ 512) × (bytes ≤ 80) ⌝ }
+{
+    let mut theirs = some_payload(random::next(x));
+    let mut ours = theirs;
+    compare::coding::read(tally, shape, &mut theirs, &mut ours, bytes, field, cells);
+}
+
+fn mend(tally: &mut Tally, shape: Shape, field: Field, cells: usize)
+    requires { ⌜ cells ≤ 512 ⌝ }
+{
+    let mut theirs = field;
+    let mut ours = field;
+    compare::coding::mend(tally, shape, &mut theirs, &mut ours, cells);
+}
+
 // One case of a shape: a payload is written, and a field, written and damaged, is read and mended.
 fn case(tally: &mut Tally, shape: Shape, cells: usize, bytes: usize, case: usize, x: u64)
     requires { ⌜ (0 < cells) × ((cells ≤ 512) × (bytes ≤ 80)) ⌝ }
 {
-    let mut payload = [0u8; 80];
-    let mut field = [0u8; 512];
-    random::fill(&mut payload, x, 256);
-    random::fill(&mut field, random::next(x), 256);
     let lent_cells = field_length(case, cells);
     let lent_bytes = payload_length(case, bytes);
-    compare::coding::write(tally, shape, &payload, lent_bytes, &field, lent_cells);
-    second::write::write_with(shape, cells, &payload, bytes, filler(case), &mut field);
-    damage::damage(shape, cells, way(case), x, &mut field);
-    random::fill(&mut payload, random::next(x), 256);
-    compare::coding::read(tally, shape, &payload, lent_bytes, &field, lent_cells);
-    compare::coding::mend(tally, shape, &field, lent_cells);
+    write(tally, shape, lent_cells, lent_bytes, x);
+    let field = damaged(shape, cells, bytes, case, x);
+    read(tally, shape, &field, lent_cells, lent_bytes, x);
+    mend(tally, shape, field, lent_cells);
 }
 
 // The 14 cases of a shape.
@@ -121,11 +179,11 @@ fn all_of(tally: &mut Tally, shape: Shape, k: usize) {
     compare::placing::plan(tally, shape);
     classes(tally, shape, k);
     let plan = second::plan::plan(shape);
-    let cells = at_most(plan.fourth, 512);
+    let cells = at_most(plan.figures[3], 512);
     if cells == 0 {
         cases(tally, shape, 7, 1, k);
     } else {
-        cases(tally, shape, cells, at_most(plan.third, 80), k);
+        cases(tally, shape, cells, at_most(plan.figures[2], 80), k);
     }
 }
 

@@ -165,7 +165,7 @@ fn look(
     if !filler_is_clear(checks, cells, plan::capacity(shape) / 8 * 8, mended) {
         return answer::number(7);
     }
-    answer::figure(count)
+    answer::of(&[count])
 }
 
 // Reads the first `cells` of a field into the first `bytes` of a payload. The figure: the count.

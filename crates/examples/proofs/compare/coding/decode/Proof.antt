@@ -1,13 +1,13 @@
--- `decode_slices` is safe: the parts that are lent are as long as they say.
+-- `decode` is safe: the parts that are lent are as long as they say.
 use native.Mathlib.Omega.{arith}
 use mathlib.Core.Path.{sym}
 use lib.Seq.{length-take-le}
 use borrow.Author.Needs.{needs}
-use Rattle.examples.proofs.compare.coding.decode_slices.Statement.{statement}
-use Rattle.examples.proofs.compare.coding.decode_slices.Tie as tie
+use Rattle.examples.proofs.compare.coding.decode.Statement.{statement}
+use Rattle.examples.proofs.compare.coding.decode.Tie as tie
 
-pub decode-slices-spec : {M : Type 1} → statement M
-decode-slices-spec =
+pub decode-spec : {M : Type 1} → statement M
+decode-spec =
     tie.close
     (tie.spec (λ c. search needs) (λ c. sym (length-take-le _ _ (omega arith))) (λ c. sym (length-take-le _ _ (omega arith)))
     (λ c κs. search needs) (λ c κs. search needs) (λ c. search needs) (λ c. search needs))

@@ -1,13 +1,13 @@
--- `encode_slices` is safe: the parts that are lent are as long as they say.
+-- `encode` is safe: the parts that are lent are as long as they say.
 use native.Mathlib.Omega.{arith}
 use mathlib.Core.Path.{sym}
 use lib.Seq.{length-take-le}
 use borrow.Author.Needs.{needs}
-use Rattle.examples.proofs.compare.coding.encode_slices.Statement.{statement}
-use Rattle.examples.proofs.compare.coding.encode_slices.Tie as tie
+use Rattle.examples.proofs.compare.coding.encode.Statement.{statement}
+use Rattle.examples.proofs.compare.coding.encode.Tie as tie
 
-pub encode-slices-spec : {M : Type 1} → statement M
-encode-slices-spec =
+pub encode-spec : {M : Type 1} → statement M
+encode-spec =
     tie.close
     (tie.spec (λ c. sym (length-take-le _ _ (omega arith))) (λ c. search needs) (λ c. sym (length-take-le _ _ (omega arith)))
     (λ c κs. search needs) (λ c κs. search needs) (λ c. search needs) (λ c. search needs))
