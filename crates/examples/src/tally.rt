@@ -1,5 +1,4 @@
 // How often each operation gave each number, and how often the two implementations differed.
-ghost use Prim.Native.Nat.{_<_};
 use crate::answer;
 use crate::answer::Answer;
 use crate::print;
@@ -54,38 +53,36 @@ fn name(operation: usize) {
     print::name(b"shape,plan,class,write,read,mend,gauge", operation);
 }
 
-// Says how two answers differ, whether the lent buffers do, and which numbers the operation was given.
-fn differ(operation: usize, given: Answer, expected: Answer, buffers: bool, inputs: &[u64]) {
-    name(operation);
-    print::text(b" gave");
-    answer::show(given);
-    print::text(b", not");
-    answer::show(expected);
-    if !buffers {
-        print::text(b", other bytes");
-    }
-    print::text(b", at");
-    print::numbers(inputs);
-    print::text(b"\n");
+// The numbers that an operation was given.
+pub(crate) type Inputs = [u64; 7];
+
+pub(crate) fn numbers(a: usize, b: usize, c: usize, d: usize) -> Inputs {
+    [a as u64, b as u64, c as u64, d as u64, 0, 0, 0]
 }
 
-// Counts one comparison, of the answers and of whether the lent buffers agree.
+// Says which operation gave what, what was expected, and what the operation was given.
+fn differ(operation: usize, given: Answer, expected: Answer, inputs: Inputs) {
+    name(operation);
+    answer::show(given);
+    answer::show(expected);
+    print::text(b" at");
+    print::numbers(&inputs);
+    print::end_line();
+}
+
+// Counts one comparison.
 pub(crate) fn compare(
     tally: &mut Tally,
     operation: usize,
     given: Answer,
     expected: Answer,
-    buffers: bool,
-    inputs: &[u64],
+    inputs: Inputs,
 ) {
     add(tally, operation, given.number);
-    if buffers {
-        if answer::same(given, expected) {
-            return;
-        }
+    if !answer::same(given, expected) {
+        add(tally, operation, DIFFERENCES);
+        differ(operation, given, expected, inputs);
     }
-    add(tally, operation, DIFFERENCES);
-    differ(operation, given, expected, buffers, inputs);
 }
 
 // The comparisons of an operation: as many as gave some number.
@@ -102,7 +99,7 @@ fn comparisons(row: &Row) -> u64 {
 }
 
 // How often an operation gave each number, where it ever did.
-fn numbers(row: &Row) {
+fn shares(row: &Row) {
     let mut number = 0;
     while number < NUMBERS {
         if row[number] != 0 {
@@ -115,7 +112,7 @@ fn numbers(row: &Row) {
 fn line(row: &Row, operation: usize) {
     name(operation);
     print::filled(b": # compared", &[comparisons(row)]);
-    numbers(row);
+    shares(row);
     print::filled(b", # differ\n", &[row[DIFFERENCES]]);
 }
 

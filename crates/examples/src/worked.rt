@@ -1,36 +1,49 @@
 // The worked examples of document 01 that are not proved, and a case for each error that it lists. A line each.
 use crate::answer::Answer;
+use crate::answer::Buffer;
+use crate::answer::CELLS;
+use crate::compare::coding;
 use crate::given;
 use crate::print;
-use crate::second::lawful::turned_over;
-use codec::correct::correct;
-use codec::decode::decode;
-use codec::encode::encode;
+use crate::second::lawful;
 use codec::plan::plan;
 use lattice::shape::NewShape;
 use lattice::shape::Shape;
 
+fn refusal(number: usize) {
+    print::filled(b"refusal #", &[number as u64]);
+}
+
 // The number of a refusal, or the figures in a form.
 fn show(form: &[u8], a: Answer) {
     if a.number != 0 {
-        print::filled(b"refusal #", &[a.number as u64]);
+        refusal(a.number);
     } else {
         print::filled(form, &a.figures);
     }
 }
 
-// A shape at the edge: whether it is made, and its plan.
-fn edge(columns: usize, rows: usize, planes: usize, strength: usize) {
+fn sizes(columns: usize, rows: usize, planes: usize, strength: usize) {
     print::filled(
-        b"# by # in #, strength #: ",
+        b"# by # in #, strength #",
         &[columns as u64, rows as u64, planes as u64, strength as u64],
     );
-    let given = match Shape::new(columns, rows, planes, strength) {
+}
+
+fn plan_of(columns: usize, rows: usize, planes: usize, strength: usize) -> Answer {
+    match Shape::new(columns, rows, planes, strength) {
         NewShape::Accepted(s) => given::of_plan(plan(s)),
         refused => given::of_new_shape(refused),
-    };
+    }
+}
+
+// A shape at the edge: whether it is made, and its plan.
+fn edge(columns: usize, rows: usize, planes: usize, strength: usize) {
+    sizes(columns, rows, planes, strength);
+    print::text(b": ");
+    let given = plan_of(columns, rows, planes, strength);
     show(b"accepted, classes #, capacity #, bytes #, cells #", given);
-    print::text(b"\n");
+    print::end_line();
 }
 
 fn edges() {
@@ -47,14 +60,12 @@ fn edges() {
 // The card of document 01: 5 by 5, flat, at strength 3.
 const SIDE: usize = 5;
 
-const CELLS: usize = SIDE * SIDE;
-
-type Card = [u8; CELLS];
+const CARD: usize = SIDE * SIDE;
 
 fn card_shape() -> Shape {
     Shape {
-        columns: 5,
-        rows: 5,
+        columns: SIDE as u16,
+        rows: SIDE as u16,
         planes: 1,
         strength: 3,
     }
@@ -65,97 +76,89 @@ fn show_cell(cell: u8) {
 }
 
 // The rows of a card, each after a space.
-fn show_rows(card: &Card) {
+fn show_rows(card: Buffer) {
     let mut i = 0;
-    while i < CELLS {
+    while i < CARD {
         if i % SIDE == 0 {
             print::text(b" ");
         }
         show_cell(card[i]);
         i += 1;
     }
-    print::text(b"\n");
+    print::end_line();
 }
 
 // The card of the payload a5, as encode writes it.
-fn written() -> Card {
-    let mut card = [0u8; CELLS];
-    show(
-        b"",
-        given::of_encode(encode(card_shape(), b"\xa5", &mut card)),
-    );
-    card
+fn written() -> Buffer {
+    let given = coding::encode(card_shape(), [0xa5; CELLS], 1, [0; CELLS], CARD);
+    show(b"", given);
+    given.buffer
 }
 
 // Reads a card into a payload buffer that holds 77.
-fn read(card: &Card) {
-    let mut payload = [0x77u8];
-    show(
-        b"count #",
-        given::of_decode(decode(card_shape(), &mut payload, card)),
-    );
+fn read(card: Buffer) {
+    let given = coding::decode(card_shape(), [0x77; CELLS], 1, card, CARD);
+    show(b"count #", given);
     print::text(b", payload ");
-    print::hex(payload[0]);
+    print::hex(given.buffer[0]);
 }
 
-fn mend(card: &mut Card) {
-    show(b"count #", given::of_correct(correct(card_shape(), card)));
+fn mend(card: Buffer) {
+    let given = coding::correct(card_shape(), card, CARD);
+    show(b"count #", given);
     print::text(b", rows");
-    show_rows(card);
+    let mended = given.buffer;
+    show_rows(mended);
 }
 
-// Some cells of a card are turned over.
-fn turn_over(card: &mut Card, at: &[usize]) {
+// A card with some of its cells turned over.
+fn turned_over(card: Buffer, at: &[usize]) -> Buffer {
+    let mut turned = card;
     let mut k = 0;
     while k < at.len() {
         let i = at[k];
-        if i < CELLS {
-            card[i] = turned_over(card[i]);
+        if i < CARD {
+            turned[i] = lawful::turned_over(turned[i]);
         }
         k += 1;
     }
+    turned
 }
 
-// A card with some of its cells turned over is read and then mended.
-fn damaged(name: &[u8], card: Card, at: &[usize]) {
-    let mut damaged = card;
-    turn_over(&mut damaged, at);
+// A card is read and then mended.
+fn read_and_mend(name: &[u8], card: Buffer) {
     print::text(name);
-    read(&damaged);
+    read(card);
     print::text(b"; mended ");
-    mend(&mut damaged);
+    mend(card);
 }
 
-fn whole_card(card: Card) {
+fn whole_card(card: Buffer) {
     print::text(b"payload a5 on a card: written");
-    show_rows(&card);
-    damaged(b"that card: read ", card, &[]);
+    show_rows(card);
+    read_and_mend(b"that card: read ", card);
 }
 
-fn damaged_card(card: Card) {
-    damaged(
+fn damaged_card(card: Buffer) {
+    read_and_mend(
         b"that card with third row 10010 and fourth 00001: read ",
-        card,
-        &[12, 13, 17],
+        turned_over(card, &[12, 13, 17]),
     );
 }
 
 fn class(s: Shape, row: usize, plane: usize, column: usize) {
-    print::filled(
-        b"# by # in #, strength #",
-        &[
-            s.columns as u64,
-            s.rows as u64,
-            s.planes as u64,
-            s.strength as u64,
-        ],
+    sizes(
+        s.columns as usize,
+        s.rows as usize,
+        s.planes as usize,
+        s.strength as usize,
     );
     print::filled(
         b", row #, plane #, column #: ",
         &[row as u64, plane as u64, column as u64],
     );
     show(b"class #", given::of_class(s.class_of(row, plane, column)));
-    print::text(b"\n");
+    print::end_line();
 }
 
 // Error 1: a remainder of a negative column difference that is negative. Here the differences are −5 and −6, and m is 7.
@@ -184,30 +187,27 @@ fn even_strength() {
 
 // Error 3: the cell that an exclusive or above n names, in the next class. The second and the fourth cell of class 0 are turned over, so the
 // exclusive or is 6, and the class has 5 cells.
-fn beyond_the_class(card: Card) {
-    damaged(
+fn beyond_the_class(card: Buffer) {
+    read_and_mend(
         b"that card with cells 2 and 4 of class 0 turned over: read ",
-        card,
-        &[8, 19],
+        turned_over(card, &[8, 19]),
     );
 }
 
 // Error 4: a payload that is filled before the last class is known to be in reach. Here the last class is out of reach.
-fn last_class(card: Card) {
-    damaged(
+fn last_class(card: Buffer) {
+    read_and_mend(
         b"that card with cells 2 and 4 of class 4 turned over: read ",
-        card,
-        &[7, 18],
+        turned_over(card, &[7, 18]),
     );
 }
 
 // Error 5: positions counted along columns. In byte order the three cells are at positions 1, 2 and 3 of class 0, which is lawful; along
 // columns they would be at 1, 4 and 2.
 fn byte_order() {
-    damaged(
+    read_and_mend(
         b"a card with cells 1, 2 and 3 of class 0 alone: read ",
-        [0; CELLS],
-        &[0, 8, 11],
+        turned_over([0; CELLS], &[0, 8, 11]),
     );
 }
 

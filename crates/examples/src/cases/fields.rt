@@ -1,12 +1,11 @@
 // The cases of one shape: its plan, the classes of some cells, and fields that are written, damaged, read and mended.
 ghost use Prim.Native.Nat.{_<_, _≤_};
+use crate::answer::CELLS;
 use crate::cases::damage;
 use crate::cases::random;
 use crate::cases::shapes;
 use crate::compare;
 use crate::second;
-use crate::second::layout::Field;
-use crate::second::write::Payload;
 use crate::tally::Tally;
 use lattice::shape::Shape;
 
@@ -18,23 +17,23 @@ fn at_most(x: u64, end: u64) -> usize
 
 // The length of the lent field in a case: the plan's, or another one.
 fn field_length(case: usize, cells: usize) -> usize
-    requires { ⌜ cells ≤ 512 ⌝ }
-    ensures { λ r. ⌜ r ≤ 512 ⌝ }
+    requires { do ⌜ cells ≤ (← ⟦CELLS⟧) ⌝ }
+    ensures { λ r. do ⌜ r ≤ (← ⟦CELLS⟧ .entry) ⌝ }
 {
     match case {
         11 => cells / 2,
-        12 => if cells < 512 { cells + 1 } else { 0 },
+        12 => if cells < CELLS { cells + 1 } else { 0 },
         _ => cells,
     }
 }
 
 // The length of the lent payload in a case: the plan's, or another one.
 fn payload_length(case: usize, bytes: usize) -> usize
-    requires { ⌜ bytes ≤ 80 ⌝ }
-    ensures { λ r. ⌜ r ≤ 80 ⌝ }
+    requires { do ⌜ bytes ≤ (← ⟦CELLS⟧) ⌝ }
+    ensures { λ r. do ⌜ r ≤ (← ⟦CELLS⟧ .entry) ⌝ }
 {
     match case {
-        12 => if bytes < 80 { bytes + 1 } else { 0 },
+        12 => if bytes < CELLS { bytes + 1 } else { 0 },
         13 => if 0 < bytes { bytes - 1 } else { 3 },
         _ => bytes,
     }
@@ -62,83 +61,24 @@ fn way(case: usize) -> usize {
     }
 }
 
-// Any bytes.
-fn some_payload(x: u64) -> Payload {
-    let mut payload = [0u8; 80];
-    random::fill(&mut payload, x, 256);
-    payload
-}
-
-fn some_field(x: u64) -> Field {
-    let mut field = [0u8; 512];
-    random::fill(&mut field, x, 256);
-    field
-}
-
-// A field that is written and damaged as a case says.
-fn damaged(shape: Shape, cells: usize, bytes: usize, case: usize, x: u64) -> Field
-    requires { ⌜ (0 < cells) × ((cells ≤ 512) × (bytes ≤ 80)) ⌝ }
-{
-    let mut field = some_field(random::next(x));
-    second::write::write_with(
-        shape,
-        cells,
-        &some_payload(x),
-        bytes,
-        filler(case),
-        &mut field,
-    );
-    damage::damage(shape, cells, way(case), x, &mut field);
-    field
-}
-
-fn write(tally: &mut Tally, shape: Shape, cells: usize, bytes: usize, x: u64)
-    requires { ⌜ (cells ≤ 512) × (bytes ≤ 80) ⌝ }
-{
-    let mut theirs = some_field(random::next(x));
-    let mut ours = theirs;
-    compare::coding::write(
-        tally,
-        shape,
-        &some_payload(x),
-        bytes,
-        &mut theirs,
-        &mut ours,
-        cells,
-    );
-}
-
-fn read(tally: &mut Tally, shape: Shape, field: &Field, cells: usize, bytes: usize, x: u64)
-    requires { ⌜ (cells ≤ 512) × (bytes ≤ 80) ⌝ }
-{
-    let mut theirs = some_payload(random::next(x));
-    let mut ours = theirs;
-    compare::coding::read(tally, shape, &mut theirs, &mut ours, bytes, field, cells);
-}
-
-fn mend(tally: &mut Tally, shape: Shape, field: Field, cells: usize)
-    requires { ⌜ cells ≤ 512 ⌝ }
-{
-    let mut theirs = field;
-    let mut ours = field;
-    compare::coding::mend(tally, shape, &mut theirs, &mut ours, cells);
-}
-
 // One case of a shape: a payload is written, and a field, written and damaged, is read and mended.
 fn case(tally: &mut Tally, shape: Shape, cells: usize, bytes: usize, case: usize, x: u64)
-    requires { ⌜ (0 < cells) × ((cells ≤ 512) × (bytes ≤ 80)) ⌝ }
+    requires { do ⌜ (0 < cells) × ((cells ≤ (← ⟦CELLS⟧)) × (bytes ≤ (← ⟦CELLS⟧))) ⌝ }
 {
+    let payload = random::buffer(x, 256);
+    let before = random::buffer(random::next(x), 256);
     let lent_cells = field_length(case, cells);
     let lent_bytes = payload_length(case, bytes);
-    write(tally, shape, lent_cells, lent_bytes, x);
-    let field = damaged(shape, cells, bytes, case, x);
-    read(tally, shape, &field, lent_cells, lent_bytes, x);
-    mend(tally, shape, field, lent_cells);
+    compare::coding::write(tally, shape, payload, lent_bytes, before, lent_cells);
+    let written = second::write::write_with(shape, payload, bytes, filler(case), before, cells);
+    let field = damage::damage(shape, cells, way(case), x, written);
+    compare::coding::read(tally, shape, before, lent_bytes, field, lent_cells);
+    compare::coding::mend(tally, shape, field, lent_cells);
 }
 
 // The 14 cases of a shape.
 fn cases(tally: &mut Tally, shape: Shape, cells: usize, bytes: usize, k: usize)
-    requires { ⌜ (0 < cells) × ((cells ≤ 512) × (bytes ≤ 80)) ⌝ }
+    requires { do ⌜ (0 < cells) × ((cells ≤ (← ⟦CELLS⟧)) × (bytes ≤ (← ⟦CELLS⟧))) ⌝ }
 {
     let mut v = 0;
     while v < 14 {
@@ -179,11 +119,17 @@ fn all_of(tally: &mut Tally, shape: Shape, k: usize) {
     compare::placing::plan(tally, shape);
     classes(tally, shape, k);
     let plan = second::plan::plan(shape);
-    let cells = at_most(plan.figures[3], 512);
+    let cells = at_most(plan.figures[3], CELLS as u64);
     if cells == 0 {
         cases(tally, shape, 7, 1, k);
     } else {
-        cases(tally, shape, cells, at_most(plan.figures[2], 80), k);
+        cases(
+            tally,
+            shape,
+            cells,
+            at_most(plan.figures[2], CELLS as u64),
+            k,
+        );
     }
 }
 

@@ -1,118 +1,106 @@
-// Writing, reading and mending. Each is done twice, to buffers that hold the same: `theirs` is lent to the library, `ours` to the second
-// implementation.
+// Writing, reading and mending.
 ghost use Prim.Native.Nat.{_≤_};
-ghost use lib.ListN.{length};
 use crate::answer::Answer;
+use crate::answer::Buffer;
+use crate::answer::CELLS;
 use crate::compare::inputs;
 use crate::given;
 use crate::second;
-use crate::second::layout::Field;
-use crate::second::write::Payload;
 use crate::tally;
 use crate::tally::Tally;
 use lattice::shape::Shape;
 
-fn same_bytes(a: &[u8], b: &[u8]) -> bool {
-    let mut i = 0;
-    while i < a.len() {
-        if b.len() <= i {
-            return false;
-        }
-        if a[i] != b[i] {
-            return false;
-        }
-        i += 1;
-    }
-    true
-}
-
-fn encode(shape: Shape, payload: &[u8], bytes: usize, field: &mut [u8], cells: usize) -> Answer
-    requires { ⌜ (bytes ≤ length (now payload)) × (cells ≤ length (now field)) ⌝ }
-{
-    given::of_encode(codec::encode::encode(shape, &payload[..bytes], &mut field[..cells]))
-}
-
 // The first `bytes` of a payload are written into the first `cells` of a field.
+pub(crate) fn encode(
+    shape: Shape,
+    payload: Buffer,
+    bytes: usize,
+    field: Buffer,
+    cells: usize,
+) -> Answer
+    requires { do ⌜ (cells ≤ (← ⟦CELLS⟧)) × (bytes ≤ (← ⟦CELLS⟧)) ⌝ }
+{
+    let mut lent = field;
+    let given = codec::encode::encode(shape, &payload[..bytes], &mut lent[..cells]);
+    given::of_encode(given).leaving(lent)
+}
+
 pub(crate) fn write(
     tally: &mut Tally,
     shape: Shape,
-    payload: &Payload,
+    payload: Buffer,
     bytes: usize,
-    theirs: &mut Field,
-    ours: &mut Field,
+    field: Buffer,
     cells: usize,
 )
-    requires { ⌜ (bytes ≤ 80) × (cells ≤ 512) ⌝ }
+    requires { do ⌜ (cells ≤ (← ⟦CELLS⟧)) × (bytes ≤ (← ⟦CELLS⟧)) ⌝ }
 {
-    let given = encode(shape, payload, bytes, theirs, cells);
-    let expected = second::write::write(shape, payload, bytes, ours, cells);
-    let same = same_bytes(theirs, ours);
+    let given = encode(shape, payload, bytes, field, cells);
+    let expected = second::write::write(shape, payload, bytes, field, cells);
     tally::compare(
         tally,
         tally::WRITE,
         given,
         expected,
-        same,
-        &inputs(shape, bytes, cells, 0),
+        inputs(shape, bytes, cells, 0),
     );
 }
 
-fn decode(shape: Shape, payload: &mut [u8], bytes: usize, field: &[u8], cells: usize) -> Answer
-    requires { ⌜ (bytes ≤ length (now payload)) × (cells ≤ length (now field)) ⌝ }
+// The first `cells` of a field are read into the first `bytes` of a payload.
+pub(crate) fn decode(
+    shape: Shape,
+    payload: Buffer,
+    bytes: usize,
+    field: Buffer,
+    cells: usize,
+) -> Answer
+    requires { do ⌜ (cells ≤ (← ⟦CELLS⟧)) × (bytes ≤ (← ⟦CELLS⟧)) ⌝ }
 {
-    given::of_decode(codec::decode::decode(shape, &mut payload[..bytes], &field[..cells]))
+    let mut lent = payload;
+    let given = codec::decode::decode(shape, &mut lent[..bytes], &field[..cells]);
+    given::of_decode(given).leaving(lent)
 }
 
-// The first `cells` of a field are read into the first `bytes` of a payload.
 pub(crate) fn read(
     tally: &mut Tally,
     shape: Shape,
-    theirs: &mut Payload,
-    ours: &mut Payload,
+    payload: Buffer,
     bytes: usize,
-    field: &Field,
+    field: Buffer,
     cells: usize,
 )
-    requires { ⌜ (bytes ≤ 80) × (cells ≤ 512) ⌝ }
+    requires { do ⌜ (cells ≤ (← ⟦CELLS⟧)) × (bytes ≤ (← ⟦CELLS⟧)) ⌝ }
 {
-    let given = decode(shape, theirs, bytes, field, cells);
-    let expected = second::read::read(shape, ours, bytes, field, cells);
-    let same = same_bytes(theirs, ours);
+    let given = decode(shape, payload, bytes, field, cells);
+    let expected = second::read::read(shape, payload, bytes, field, cells);
     tally::compare(
         tally,
         tally::READ,
         given,
         expected,
-        same,
-        &inputs(shape, bytes, cells, 0),
+        inputs(shape, bytes, cells, 0),
     );
 }
 
-fn correct(shape: Shape, field: &mut [u8], cells: usize) -> Answer
-    requires { ⌜ cells ≤ length (now field) ⌝ }
+// The first `cells` of a field are mended.
+pub(crate) fn correct(shape: Shape, field: Buffer, cells: usize) -> Answer
+    requires { do ⌜ cells ≤ (← ⟦CELLS⟧) ⌝ }
 {
-    given::of_correct(codec::correct::correct(shape, &mut field[..cells]))
+    let mut lent = field;
+    let given = codec::correct::correct(shape, &mut lent[..cells]);
+    given::of_correct(given).leaving(lent)
 }
 
-// The first `cells` of a field are mended.
-pub(crate) fn mend(
-    tally: &mut Tally,
-    shape: Shape,
-    theirs: &mut Field,
-    ours: &mut Field,
-    cells: usize,
-)
-    requires { ⌜ cells ≤ 512 ⌝ }
+pub(crate) fn mend(tally: &mut Tally, shape: Shape, field: Buffer, cells: usize)
+    requires { do ⌜ cells ≤ (← ⟦CELLS⟧) ⌝ }
 {
-    let given = correct(shape, theirs, cells);
-    let expected = second::read::mend(shape, ours, cells);
-    let same = same_bytes(theirs, ours);
+    let given = correct(shape, field, cells);
+    let expected = second::read::mend(shape, field, cells);
     tally::compare(
         tally,
         tally::MEND,
         given,
         expected,
-        same,
-        &inputs(shape, cells, 0, 0),
+        inputs(shape, cells, 0, 0),
     );
 }

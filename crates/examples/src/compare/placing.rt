@@ -37,21 +37,14 @@ pub(crate) fn shape(
 ) {
     let given = given::of_new_shape(Shape::new(columns, rows, planes, strength));
     let expected = expected_shape(columns, rows, planes, strength);
-    let inputs = [columns as u64, rows as u64, planes as u64, strength as u64];
-    tally::compare(tally, tally::SHAPE, given, expected, true, &inputs);
+    let inputs = tally::numbers(columns, rows, planes, strength);
+    tally::compare(tally, tally::SHAPE, given, expected, inputs);
 }
 
 pub(crate) fn plan(tally: &mut Tally, shape: Shape) {
     let given = given::of_plan(codec::plan::plan(shape));
     let expected = second::plan::plan(shape);
-    tally::compare(
-        tally,
-        tally::PLAN,
-        given,
-        expected,
-        true,
-        &inputs(shape, 0, 0, 0),
-    );
+    tally::compare(tally, tally::PLAN, given, expected, inputs(shape, 0, 0, 0));
 }
 
 pub(crate) fn class(tally: &mut Tally, shape: Shape, row: usize, plane: usize, column: usize) {
@@ -62,7 +55,6 @@ pub(crate) fn class(tally: &mut Tally, shape: Shape, row: usize, plane: usize, c
         tally::CLASS,
         given,
         expected,
-        true,
-        &inputs(shape, row, plane, column),
+        inputs(shape, row, plane, column),
     );
 }

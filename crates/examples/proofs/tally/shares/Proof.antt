@@ -1,8 +1,8 @@
--- `numbers` is safe and ends. The measure does not name how many numbers there are.
+-- `shares` is safe and ends. The measure does not name how many numbers there are.
 use Prim.Native.Nat.{_≤_, _-_}
 use borrow.Author.Needs.{needs}
-use Rattle.examples.proofs.tally.numbers.Statement.{statement}
-use Rattle.examples.proofs.tally.numbers.Tie as tie
+use Rattle.examples.proofs.tally.shares.Statement.{statement}
+use Rattle.examples.proofs.tally.shares.Tie as tie
 
 abbrev Inv-loop : tie.InvT-loop
 Inv-loop row number₀ t3 number = number ≤ 1000000
@@ -10,8 +10,8 @@ Inv-loop row number₀ t3 number = number ≤ 1000000
 abbrev μ-loop : tie.MeasureT-loop
 μ-loop row number₀ t3 number = 1000000 - number
 
-pub numbers-spec : {M : Type 1} → statement M
-numbers-spec =
+pub shares-spec : {M : Type 1} → statement M
+shares-spec =
     tie.close
     (tie.spec Inv-loop μ-loop (λ c. search needs) (λ c. search needs) (λ c. search needs) (λ c. search needs)
     (λ c. search needs) (λ c. search needs) (λ c. search needs) (λ c κs. search needs) (λ c. search needs)
