@@ -1,65 +1,92 @@
-// An answer as document 01 has it: a number, and the figures that come with it.
+// An answer as document 01 has it: a number, the figures that come with it, and what it leaves in the lent buffer.
 use crate::print;
 
-// At most five figures; those that an operation does not have are 0.
+// The most figures that an operation gives.
+pub(crate) const FIGURES: usize = 5;
+
+// The most cells of a field that is lent, and the most bytes of a payload.
+pub(crate) const CELLS: usize = 512;
+
+// A payload or a field lies at its start.
+pub(crate) type Buffer = [u8; CELLS];
+
+// The figures that an operation does not have are 0, and so is every figure on each number above 0. An operation that is lent no buffer to
+// change has zeros for it.
 pub(crate) struct Answer {
     pub(crate) number: usize,
-    pub(crate) first: u64,
-    pub(crate) second: u64,
-    pub(crate) third: u64,
-    pub(crate) fourth: u64,
-    pub(crate) fifth: u64,
+    pub(crate) figures: [u64; FIGURES],
+    pub(crate) buffer: Buffer,
 }
 
-// A number alone: every figure is 0, as it is on each number above 0.
+impl Answer {
+    // The same, leaving this in the lent buffer.
+    pub(crate) fn leaving(self, buffer: Buffer) -> Answer {
+        let mut answer = self;
+        answer.buffer = buffer;
+        answer
+    }
+}
+
+// A number alone.
 pub(crate) fn number(number: usize) -> Answer {
     Answer {
         number,
-        first: 0,
-        second: 0,
-        third: 0,
-        fourth: 0,
-        fifth: 0,
+        figures: [0; FIGURES],
+        buffer: [0; CELLS],
     }
 }
 
-// Success with one figure.
-pub(crate) fn figure(first: u64) -> Answer {
+// Success with some figures.
+pub(crate) fn of(given: &[u64]) -> Answer {
+    let mut figures = [0; FIGURES];
+    let mut k = 0;
+    while k < given.len() {
+        if k < FIGURES {
+            figures[k] = given[k];
+        }
+        k += 1;
+    }
     Answer {
         number: 0,
-        first,
-        second: 0,
-        third: 0,
-        fourth: 0,
-        fifth: 0,
+        figures,
+        buffer: [0; CELLS],
     }
+}
+
+fn same_figures(a: Answer, b: Answer) -> bool {
+    let mut k = 0;
+    while k < FIGURES {
+        if a.figures[k] != b.figures[k] {
+            return false;
+        }
+        k += 1;
+    }
+    true
+}
+
+fn same_buffers(a: Answer, b: Answer) -> bool {
+    let mut i = 0;
+    while i < CELLS {
+        if a.buffer[i] != b.buffer[i] {
+            return false;
+        }
+        i += 1;
+    }
+    true
 }
 
 pub(crate) fn same(a: Answer, b: Answer) -> bool {
     if a.number != b.number {
         return false;
     }
-    if a.first != b.first {
+    if !same_figures(a, b) {
         return false;
     }
-    if a.second != b.second {
-        return false;
-    }
-    if a.third != b.third {
-        return false;
-    }
-    if a.fourth != b.fourth {
-        return false;
-    }
-    a.fifth == b.fifth
+    same_buffers(a, b)
 }
 
+// The number and the figures, each after a space.
 pub(crate) fn show(a: Answer) {
-    print::decimal(a.number as u64);
-    print::labelled(b" (", a.first);
-    print::labelled(b" ", a.second);
-    print::labelled(b" ", a.third);
-    print::labelled(b" ", a.fourth);
-    print::labelled(b" ", a.fifth);
-    print::text(b")");
+    print::numbers(&[a.number as u64]);
+    print::numbers(&a.figures);
 }

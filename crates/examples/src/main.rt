@@ -2,6 +2,7 @@
 mod answer;
 mod cases;
 mod compare;
+mod given;
 mod print;
 mod second;
 mod tally;
@@ -9,7 +10,7 @@ mod worked;
 
 fn main() {
     worked::run();
-    let mut tally = [0u64; 77];
+    let mut tally = tally::empty();
     cases::numbers::shapes(&mut tally);
     cases::numbers::classes(&mut tally);
     cases::fields::all(&mut tally);

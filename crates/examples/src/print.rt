@@ -1,9 +1,12 @@
-// What the program prints: texts, numbers and shapes, on standard output.
-use lattice::shape::Shape;
+// What the program prints, on standard output.
 use libc::STDOUT_FILENO;
 
 pub(crate) fn text(bytes: &[u8]) {
     io::write_all(STDOUT_FILENO, bytes);
+}
+
+pub(crate) fn end_line() {
+    text(b"\n");
 }
 
 pub(crate) fn decimal(n: u64) {
@@ -15,31 +18,55 @@ pub(crate) fn hex(byte: u8) {
     io::print_hex(STDOUT_FILENO, byte as u64, 2);
 }
 
-// A text and a number after it.
-pub(crate) fn labelled(label: &[u8], n: u64) {
-    text(label);
-    decimal(n);
+// Numbers, each after a space.
+pub(crate) fn numbers(numbers: &[u64]) {
+    let mut k = 0;
+    while k < numbers.len() {
+        text(b" ");
+        decimal(numbers[k]);
+        k += 1;
+    }
 }
 
-pub(crate) fn sizes(columns: u64, rows: u64, planes: u64, strength: u64) {
-    decimal(columns);
-    labelled(b" by ", rows);
-    labelled(b" in ", planes);
-    labelled(b", strength ", strength);
+// A letter of a form, or number k where it is #. Gives which number is next.
+fn letter(letter: u8, numbers: &[u64], k: usize) -> usize {
+    if letter != b'#' {
+        text(&[letter]);
+        return k;
+    }
+    if k < numbers.len() {
+        decimal(numbers[k]);
+        return k + 1;
+    }
+    k
 }
 
-pub(crate) fn shape(s: Shape) {
-    sizes(
-        s.columns as u64,
-        s.rows as u64,
-        s.planes as u64,
-        s.strength as u64,
-    );
+// A form: a text in which each # stands for the next of some numbers.
+pub(crate) fn filled(form: &[u8], numbers: &[u64]) {
+    let mut k = 0;
+    let mut i = 0;
+    while i < form.len() {
+        k = letter(form[i], numbers, k);
+        i += 1;
+    }
 }
 
-// A cell, after a comma.
-pub(crate) fn cell(row: u64, plane: u64, column: u64) {
-    labelled(b", row ", row);
-    labelled(b", plane ", plane);
-    labelled(b", column ", column);
+fn letter_where(wanted: bool, letter: u8) {
+    if wanted {
+        text(&[letter]);
+    }
+}
+
+// One name of a list, in which a comma parts them.
+pub(crate) fn name(names: &[u8], chosen: usize) {
+    let mut at = 0;
+    let mut i = 0;
+    while i < names.len() {
+        if names[i] == b',' {
+            at += 1;
+        } else {
+            letter_where(at == chosen, names[i]);
+        }
+        i += 1;
+    }
 }

@@ -1,11 +1,13 @@
 // How often each operation gave each number, and how often the two implementations differed.
-ghost use Prim.Native.Nat.{_<_, _≤_};
 use crate::answer;
 use crate::answer::Answer;
 use crate::print;
 
-// A row of 11 for each operation: the numbers 0 to 9, and then the differences.
-pub(crate) type Tally = [u64; 77];
+// The numbers that an operation may give are those below it.
+pub(crate) const NUMBERS: usize = 10;
+
+// How many operations are compared.
+pub(crate) const OPERATIONS: usize = 7;
 
 pub(crate) const SHAPE: usize = 0;
 
@@ -21,114 +23,104 @@ pub(crate) const MEND: usize = 5;
 
 pub(crate) const GAUGE: usize = 6;
 
-const DIFFERENCES: usize = 10;
+// How often an operation gave each number, and after those, how often it differed.
+type Row = [u64; NUMBERS + 1];
 
-// The entry of a tally for an operation.
-fn at(operation: usize, entry: usize) -> usize
-    ensures { λ r. ⌜ r < 77 ⌝ }
-{
-    if operation < 7 {
-        if entry < 11 {
-            return operation * 11 + entry;
-        }
-    }
-    0
+const DIFFERENCES: usize = NUMBERS;
+
+// A row for each operation.
+pub(crate) type Tally = [Row; OPERATIONS];
+
+// No count goes past it.
+const MOST: u64 = 1000000;
+
+pub(crate) fn empty() -> Tally {
+    [[0; NUMBERS + 1]; OPERATIONS]
 }
 
 fn add(tally: &mut Tally, operation: usize, entry: usize) {
-    let k = at(operation, entry);
-    let n = tally[k];
-    if n < 1000000 {
-        tally[k] = n + 1;
+    if operation < OPERATIONS {
+        if entry <= DIFFERENCES {
+            let n = tally[operation][entry];
+            if n < MOST {
+                tally[operation][entry] = n + 1;
+            }
+        }
     }
 }
 
-fn entry(tally: &Tally, operation: usize, entry: usize) -> u64 {
-    let k = at(operation, entry);
-    tally[k]
+fn name(operation: usize) {
+    print::name(b"shape,plan,class,write,read,mend,gauge", operation);
 }
 
-// Counts one comparison, and says whether the two answers and the lent buffers agree.
-pub(crate) fn agree(
+// The numbers that an operation was given.
+pub(crate) type Inputs = [u64; 7];
+
+pub(crate) fn numbers(a: usize, b: usize, c: usize, d: usize) -> Inputs {
+    [a as u64, b as u64, c as u64, d as u64, 0, 0, 0]
+}
+
+// Says which operation gave what, what was expected, and what the operation was given.
+fn differ(operation: usize, given: Answer, expected: Answer, inputs: Inputs) {
+    name(operation);
+    answer::show(given);
+    answer::show(expected);
+    print::text(b" at");
+    print::numbers(&inputs);
+    print::end_line();
+}
+
+// Counts one comparison.
+pub(crate) fn compare(
     tally: &mut Tally,
     operation: usize,
     given: Answer,
     expected: Answer,
-    buffers: bool,
-) -> bool {
+    inputs: Inputs,
+) {
     add(tally, operation, given.number);
-    if buffers {
-        if answer::same(given, expected) {
-            return true;
-        }
+    if !answer::same(given, expected) {
+        add(tally, operation, DIFFERENCES);
+        differ(operation, given, expected, inputs);
     }
-    add(tally, operation, DIFFERENCES);
-    false
-}
-
-// Says how two answers differ. What the operation was given comes after it.
-pub(crate) fn differ(name: &[u8], given: Answer, expected: Answer, buffers: bool) {
-    print::text(name);
-    print::text(b" gave ");
-    answer::show(given);
-    print::text(b", expected ");
-    answer::show(expected);
-    if !buffers {
-        print::text(b", other bytes");
-    }
-    print::text(b": ");
 }
 
 // The comparisons of an operation: as many as gave some number.
-fn comparisons(tally: &Tally, operation: usize) -> u64
-    ensures { λ r. ⌜ r ≤ 10000000 ⌝ }
-{
+fn comparisons(row: &Row) -> u64 {
     let mut sum: u64 = 0;
     let mut number = 0;
-    while number < 10 {
-        let n = entry(tally, operation, number);
-        if n < 1000000 {
-            sum += n;
+    while number < NUMBERS {
+        if row[number] <= MOST {
+            sum += row[number];
         }
         number += 1;
     }
     sum
 }
 
-// How often an operation gave a number, where it ever did.
-fn given(tally: &Tally, operation: usize, number: usize) {
-    let n = entry(tally, operation, number);
-    if n == 0 {
-        return;
-    }
-    print::labelled(b", ", n);
-    print::labelled(b" gave ", number as u64);
-}
-
-fn numbers(tally: &Tally, operation: usize) {
+// How often an operation gave each number, where it ever did.
+fn shares(row: &Row) {
     let mut number = 0;
-    while number < 10 {
-        given(tally, operation, number);
+    while number < NUMBERS {
+        if row[number] != 0 {
+            print::filled(b", # gave #", &[row[number], number as u64]);
+        }
         number += 1;
     }
 }
 
-fn line(tally: &Tally, name: &[u8], operation: usize) {
-    print::text(name);
-    print::labelled(b": ", comparisons(tally, operation));
-    print::text(b" compared");
-    numbers(tally, operation);
-    print::labelled(b", ", entry(tally, operation, DIFFERENCES));
-    print::text(b" differ\n");
+fn line(row: &Row, operation: usize) {
+    name(operation);
+    print::filled(b": # compared", &[comparisons(row)]);
+    shares(row);
+    print::filled(b", # differ\n", &[row[DIFFERENCES]]);
 }
 
 // A line for each operation.
 pub(crate) fn lines(tally: &Tally) {
-    line(tally, b"shape", SHAPE);
-    line(tally, b"plan", PLAN);
-    line(tally, b"class", CLASS);
-    line(tally, b"write", WRITE);
-    line(tally, b"read", READ);
-    line(tally, b"mend", MEND);
-    line(tally, b"gauge", GAUGE);
+    let mut operation = 0;
+    while operation < OPERATIONS {
+        line(&tally[operation], operation);
+        operation += 1;
+    }
 }

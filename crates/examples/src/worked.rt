@@ -1,40 +1,49 @@
 // The worked examples of document 01 that are not proved, and a case for each error that it lists. A line each.
 use crate::answer::Answer;
+use crate::answer::Buffer;
+use crate::answer::CELLS;
 use crate::compare::coding;
-use crate::compare::placing;
+use crate::given;
 use crate::print;
-use codec::correct::correct;
-use codec::decode::decode;
-use codec::encode::encode;
+use crate::second::lawful;
 use codec::plan::plan;
 use lattice::shape::NewShape;
 use lattice::shape::Shape;
 
 fn refusal(number: usize) {
-    print::labelled(b"refusal ", number as u64);
+    print::filled(b"refusal #", &[number as u64]);
 }
 
-// What plan gives.
-fn figures(p: Answer) {
-    if p.number != 0 {
-        return refusal(p.number);
+// The number of a refusal, or the figures in a form.
+fn show(form: &[u8], a: Answer) {
+    if a.number != 0 {
+        refusal(a.number);
+    } else {
+        print::filled(form, &a.figures);
     }
-    print::labelled(b"accepted, classes ", p.first);
-    print::labelled(b", capacity ", p.second);
-    print::labelled(b", bytes ", p.third);
-    print::labelled(b", cells ", p.fourth);
+}
+
+fn sizes(columns: usize, rows: usize, planes: usize, strength: usize) {
+    print::filled(
+        b"# by # in #, strength #",
+        &[columns as u64, rows as u64, planes as u64, strength as u64],
+    );
+}
+
+fn plan_of(columns: usize, rows: usize, planes: usize, strength: usize) -> Answer {
+    match Shape::new(columns, rows, planes, strength) {
+        NewShape::Accepted(s) => given::of_plan(plan(s)),
+        refused => given::of_new_shape(refused),
+    }
 }
 
 // A shape at the edge: whether it is made, and its plan.
 fn edge(columns: usize, rows: usize, planes: usize, strength: usize) {
-    print::sizes(columns as u64, rows as u64, planes as u64, strength as u64);
+    sizes(columns, rows, planes, strength);
     print::text(b": ");
-    match Shape::new(columns, rows, planes, strength) {
-        NewShape::Accepted(s) => figures(placing::of_plan(plan(s))),
-        NewShape::BadSize => refusal(1),
-        NewShape::BadStrength => refusal(2),
-    }
-    print::text(b"\n");
+    let given = plan_of(columns, rows, planes, strength);
+    show(b"accepted, classes #, capacity #, bytes #, cells #", given);
+    print::end_line();
 }
 
 fn edges() {
@@ -49,12 +58,14 @@ fn edges() {
 }
 
 // The card of document 01: 5 by 5, flat, at strength 3.
-type Card = [u8; 25];
+const SIDE: usize = 5;
+
+const CARD: usize = SIDE * SIDE;
 
 fn card_shape() -> Shape {
     Shape {
-        columns: 5,
-        rows: 5,
+        columns: SIDE as u16,
+        rows: SIDE as u16,
         planes: 1,
         strength: 3,
     }
@@ -65,77 +76,89 @@ fn show_cell(cell: u8) {
 }
 
 // The rows of a card, each after a space.
-fn show_rows(card: &Card) {
+fn show_rows(card: Buffer) {
     let mut i = 0;
-    while i < 25 {
-        if i % 5 == 0 {
+    while i < CARD {
+        if i % SIDE == 0 {
             print::text(b" ");
         }
         show_cell(card[i]);
         i += 1;
     }
-    print::text(b"\n");
+    print::end_line();
 }
 
 // The card of the payload a5, as encode writes it.
-fn written() -> Card {
-    let mut card = [0u8; 25];
-    let given = coding::of_encode(encode(card_shape(), b"\xa5", &mut card));
-    if given.number != 0 {
-        refusal(given.number);
-    }
-    card
+fn written() -> Buffer {
+    let given = coding::encode(card_shape(), [0xa5; CELLS], 1, [0; CELLS], CARD);
+    show(b"", given);
+    given.buffer
 }
 
-fn count(found: Answer) {
-    if found.number != 0 {
-        refusal(found.number);
-    } else {
-        print::labelled(b"count ", found.first);
-    }
-}
-
-// Reads a card into a payload buffer that holds 77, and then mends it.
-fn read_and_mend(card: Card) {
-    let mut payload = [0x77u8];
-    count(coding::of_decode(decode(card_shape(), &mut payload, &card)));
+// Reads a card into a payload buffer that holds 77.
+fn read(card: Buffer) {
+    let given = coding::decode(card_shape(), [0x77; CELLS], 1, card, CARD);
+    show(b"count #", given);
     print::text(b", payload ");
-    print::hex(payload[0]);
-    print::text(b"; mended ");
-    let mut mended = card;
-    count(coding::of_correct(correct(card_shape(), &mut mended)));
+    print::hex(given.buffer[0]);
+}
+
+fn mend(card: Buffer) {
+    let given = coding::correct(card_shape(), card, CARD);
+    show(b"count #", given);
     print::text(b", rows");
-    show_rows(&mended);
+    let mended = given.buffer;
+    show_rows(mended);
 }
 
-fn whole_card() {
-    print::text(b"payload a5 on a card: written");
-    let card = written();
-    show_rows(&card);
-    print::text(b"that card: read ");
-    read_and_mend(card);
-}
-
-fn damaged_card() {
-    print::text(b"that card with third row 10010 and fourth 00001: read ");
-    let mut card = written();
-    card[12] = 0;
-    card[13] = 1;
-    card[17] = 0;
-    read_and_mend(card);
-}
-
-fn class(shape: Shape, row: usize, plane: usize, column: usize) {
-    print::shape(shape);
-    print::cell(row as u64, plane as u64, column as u64);
-    print::text(b": ");
-    let given = placing::of_class(shape.class_of(row, plane, column));
-    if given.number != 0 {
-        refusal(given.number);
-    } else {
-        print::labelled(b"class ", given.first);
+// A card with some of its cells turned over.
+fn turned_over(card: Buffer, at: &[usize]) -> Buffer {
+    let mut turned = card;
+    let mut k = 0;
+    while k < at.len() {
+        let i = at[k];
+        if i < CARD {
+            turned[i] = lawful::turned_over(turned[i]);
+        }
+        k += 1;
     }
-    print::text(b"\n");
+    turned
+}
+
+// A card is read and then mended.
+fn read_and_mend(name: &[u8], card: Buffer) {
+    print::text(name);
+    read(card);
+    print::text(b"; mended ");
+    mend(card);
+}
+
+fn whole_card(card: Buffer) {
+    print::text(b"payload a5 on a card: written");
+    show_rows(card);
+    read_and_mend(b"that card: read ", card);
+}
+
+fn damaged_card(card: Buffer) {
+    read_and_mend(
+        b"that card with third row 10010 and fourth 00001: read ",
+        turned_over(card, &[12, 13, 17]),
+    );
+}
+
+fn class(s: Shape, row: usize, plane: usize, column: usize) {
+    sizes(
+        s.columns as usize,
+        s.rows as usize,
+        s.planes as usize,
+        s.strength as usize,
+    );
+    print::filled(
+        b", row #, plane #, column #: ",
+        &[row as u64, plane as u64, column as u64],
+    );
+    show(b"class #", given::of_class(s.class_of(row, plane, column)));
+    print::end_line();
 }
 
 // Error 1: a remainder of a negative column difference that is negative. Here the differences are −5 and −6, and m is 7.
@@ -164,41 +187,38 @@ fn even_strength() {
 
 // Error 3: the cell that an exclusive or above n names, in the next class. The second and the fourth cell of class 0 are turned over, so the
 // exclusive or is 6, and the class has 5 cells.
-fn beyond_the_class() {
-    print::text(b"that card with cells 2 and 4 of class 0 turned over: read ");
-    let mut card = written();
-    card[8] = 1;
-    card[19] = 0;
-    read_and_mend(card);
+fn beyond_the_class(card: Buffer) {
+    read_and_mend(
+        b"that card with cells 2 and 4 of class 0 turned over: read ",
+        turned_over(card, &[8, 19]),
+    );
 }
 
 // Error 4: a payload that is filled before the last class is known to be in reach. Here the last class is out of reach.
-fn last_class() {
-    print::text(b"that card with cells 2 and 4 of class 4 turned over: read ");
-    let mut card = written();
-    card[7] = 0;
-    card[18] = 1;
-    read_and_mend(card);
+fn last_class(card: Buffer) {
+    read_and_mend(
+        b"that card with cells 2 and 4 of class 4 turned over: read ",
+        turned_over(card, &[7, 18]),
+    );
 }
 
 // Error 5: positions counted along columns. In byte order the three cells are at positions 1, 2 and 3 of class 0, which is lawful; along
 // columns they would be at 1, 4 and 2.
 fn byte_order() {
-    print::text(b"a card with cells 1, 2 and 3 of class 0 alone: read ");
-    let mut card = [0u8; 25];
-    card[0] = 1;
-    card[8] = 1;
-    card[11] = 1;
-    read_and_mend(card);
+    read_and_mend(
+        b"a card with cells 1, 2 and 3 of class 0 alone: read ",
+        turned_over([0; CELLS], &[0, 8, 11]),
+    );
 }
 
 pub(crate) fn run() {
     edges();
-    whole_card();
-    damaged_card();
+    let card = written();
+    whole_card(card);
+    damaged_card(card);
     negative_difference();
     even_strength();
-    beyond_the_class();
-    last_class();
+    beyond_the_class(card);
+    last_class(card);
     byte_order();
 }

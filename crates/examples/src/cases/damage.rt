@@ -1,28 +1,29 @@
 // What is done to a written field before it is read.
 ghost use Prim.Native.Nat.{_<_, _≤_};
+use crate::answer::Buffer;
+use crate::answer::CELLS;
 use crate::cases::random;
 use crate::second::lawful;
-use crate::second::layout::Field;
 use crate::second::settings;
 use lattice::shape::Shape;
 
 // Some cell of a field.
 fn some_cell(x: u64, cells: usize) -> usize
-    requires { ⌜ (0 < cells) × (cells ≤ 512) ⌝ }
+    requires { do ⌜ (0 < cells) × (cells ≤ (← ⟦CELLS⟧)) ⌝ }
     ensures { λ r. ⌜ r < cells ⌝ }
 {
     random::below(x, cells as u64) as usize
 }
 
-fn turn_over(field: &mut Field, i: usize)
-    requires { ⌜ i < 512 ⌝ }
+fn turn_over(field: &mut Buffer, i: usize)
+    requires { do ⌜ i < (← ⟦CELLS⟧) ⌝ }
 {
     field[i] = lawful::turned_over(field[i]);
 }
 
 // The cell that is `by` bytes after cell i, where there is one and `open` says that it is joined to i; else i.
 fn ahead(i: usize, by: usize, open: bool, cells: usize) -> usize
-    requires { ⌜ (i < cells) × (cells ≤ 512) ⌝ }
+    requires { do ⌜ (i < cells) × (cells ≤ (← ⟦CELLS⟧)) ⌝ }
     ensures { λ r. ⌜ r < cells ⌝ }
 {
     if open {
@@ -48,7 +49,7 @@ fn back(i: usize, by: usize, open: bool, cells: usize) -> usize
 
 // A cell that is joined to cell i: one of at most six, by `way`; i itself where the field ends that way.
 fn joined(shape: Shape, cells: usize, i: usize, way: u64) -> usize
-    requires { ⌜ (i < cells) × (cells ≤ 512) ⌝ }
+    requires { do ⌜ (i < cells) × (cells ≤ (← ⟦CELLS⟧)) ⌝ }
     ensures { λ r. ⌜ r < cells ⌝ }
 {
     let columns = shape.columns as usize;
@@ -73,60 +74,63 @@ fn joined(shape: Shape, cells: usize, i: usize, way: u64) -> usize
 }
 
 // Turns over a cluster of at most `size` cells: those of a walk from joined cell to joined cell.
-fn cluster(shape: Shape, cells: usize, size: u16, x: u64, field: &mut Field)
-    requires { ⌜ (0 < cells) × (cells ≤ 512) ⌝ }
+fn cluster(shape: Shape, cells: usize, size: u16, x: u64, before: Buffer) -> Buffer
+    requires { do ⌜ (0 < cells) × (cells ≤ (← ⟦CELLS⟧)) ⌝ }
 {
-    let mut walked = [false; 512];
+    let mut field = before;
+    let mut walked = [false; CELLS];
     let mut state = x;
     let mut i = some_cell(x, cells);
     let mut step = 0;
     while step < size {
         if !walked[i] {
             walked[i] = true;
-            turn_over(field, i);
+            turn_over(&mut field, i);
         }
         state = random::next(state);
         i = joined(shape, cells, i, random::below(state, 6));
         step += 1;
     }
+    field
 }
 
 // Turns over `count` cells, wherever they lie.
-fn scatter(cells: usize, count: u64, x: u64, field: &mut Field)
-    requires { ⌜ (0 < cells) × (cells ≤ 512) ⌝ }
+fn scatter(cells: usize, count: u64, x: u64, before: Buffer) -> Buffer
+    requires { do ⌜ (0 < cells) × (cells ≤ (← ⟦CELLS⟧)) ⌝ }
 {
+    let mut field = before;
     let mut state = x;
     let mut n = 0;
     while n < count {
         state = random::next(state);
-        turn_over(field, some_cell(state, cells));
+        turn_over(&mut field, some_cell(state, cells));
         n += 1;
     }
+    field
 }
 
 // Puts a byte above 1 into some cell.
-fn soil(cells: usize, x: u64, field: &mut Field)
-    requires { ⌜ (0 < cells) × (cells ≤ 512) ⌝ }
+fn soil(cells: usize, x: u64, before: Buffer) -> Buffer
+    requires { do ⌜ (0 < cells) × (cells ≤ (← ⟦CELLS⟧)) ⌝ }
 {
+    let mut field = before;
     let i = some_cell(x, cells);
     field[i] = 2 + random::below(random::next(x), 254) as u8;
+    field
 }
 
 // The damage of a way: none, within the strength, beyond it, scattered, a cell above 1, or all cells by chance.
-pub(crate) fn damage(shape: Shape, cells: usize, way: usize, x: u64, field: &mut Field)
-    requires { ⌜ (0 < cells) × (cells ≤ 512) ⌝ }
+pub(crate) fn damage(shape: Shape, cells: usize, way: usize, x: u64, before: Buffer) -> Buffer
+    requires { do ⌜ (0 < cells) × (cells ≤ (← ⟦CELLS⟧)) ⌝ }
 {
     match way {
-        1 => cluster(shape, cells, shape.strength, x, field),
-        2 => cluster(shape, cells, 2 + shape.strength % 40 * 2, x, field),
-        3 => scatter(cells, 1, x, field),
-        4 => scatter(cells, 2 + random::below(x, 5), x, field),
-        5 => soil(cells, x, field),
-        6 => random::fill(field, x, 2),
-        7 => {
-            random::fill(field, x, 2);
-            soil(cells, x, field);
-        }
-        _ => {}
+        1 => cluster(shape, cells, shape.strength, x, before),
+        2 => cluster(shape, cells, 2 + shape.strength % 40 * 2, x, before),
+        3 => scatter(cells, 1, x, before),
+        4 => scatter(cells, 2 + random::below(x, 5), x, before),
+        5 => soil(cells, x, before),
+        6 => random::buffer(x, 2),
+        7 => soil(cells, x, random::buffer(x, 2)),
+        _ => before,
     }
 }

@@ -1,5 +1,6 @@
 // The cases of one shape: its plan, the classes of some cells, and fields that are written, damaged, read and mended.
 ghost use Prim.Native.Nat.{_<_, _≤_};
+use crate::answer::CELLS;
 use crate::cases::damage;
 use crate::cases::random;
 use crate::cases::shapes;
@@ -16,23 +17,23 @@ fn at_most(x: u64, end: u64) -> usize
 
 // The length of the lent field in a case: the plan's, or another one.
 fn field_length(case: usize, cells: usize) -> usize
-    requires { ⌜ cells ≤ 512 ⌝ }
-    ensures { λ r. ⌜ r ≤ 512 ⌝ }
+    requires { do ⌜ cells ≤ (← ⟦CELLS⟧) ⌝ }
+    ensures { λ r. do ⌜ r ≤ (← ⟦CELLS⟧ .entry) ⌝ }
 {
     match case {
         11 => cells / 2,
-        12 => if cells < 512 { cells + 1 } else { 0 },
+        12 => if cells < CELLS { cells + 1 } else { 0 },
         _ => cells,
     }
 }
 
 // The length of the lent payload in a case: the plan's, or another one.
 fn payload_length(case: usize, bytes: usize) -> usize
-    requires { ⌜ bytes ≤ 80 ⌝ }
-    ensures { λ r. ⌜ r ≤ 80 ⌝ }
+    requires { do ⌜ bytes ≤ (← ⟦CELLS⟧) ⌝ }
+    ensures { λ r. do ⌜ r ≤ (← ⟦CELLS⟧ .entry) ⌝ }
 {
     match case {
-        12 => if bytes < 80 { bytes + 1 } else { 0 },
+        12 => if bytes < CELLS { bytes + 1 } else { 0 },
         13 => if 0 < bytes { bytes - 1 } else { 3 },
         _ => bytes,
     }
@@ -62,25 +63,22 @@ fn way(case: usize) -> usize {
 
 // One case of a shape: a payload is written, and a field, written and damaged, is read and mended.
 fn case(tally: &mut Tally, shape: Shape, cells: usize, bytes: usize, case: usize, x: u64)
-    requires { ⌜ (0 < cells) × ((cells ≤ 512) × (bytes ≤ 80)) ⌝ }
+    requires { do ⌜ (0 < cells) × ((cells ≤ (← ⟦CELLS⟧)) × (bytes ≤ (← ⟦CELLS⟧))) ⌝ }
 {
-    let mut payload = [0u8; 80];
-    let mut field = [0u8; 512];
-    random::fill(&mut payload, x, 256);
-    random::fill(&mut field, random::next(x), 256);
+    let payload = random::buffer(x, 256);
+    let before = random::buffer(random::next(x), 256);
     let lent_cells = field_length(case, cells);
     let lent_bytes = payload_length(case, bytes);
-    compare::coding::write(tally, shape, &payload, lent_bytes, &field, lent_cells);
-    second::write::write_with(shape, cells, &payload, bytes, filler(case), &mut field);
-    damage::damage(shape, cells, way(case), x, &mut field);
-    random::fill(&mut payload, random::next(x), 256);
-    compare::coding::read(tally, shape, &payload, lent_bytes, &field, lent_cells);
-    compare::coding::mend(tally, shape, &field, lent_cells);
+    compare::coding::write(tally, shape, payload, lent_bytes, before, lent_cells);
+    let written = second::write::write_with(shape, payload, bytes, filler(case), before, cells);
+    let field = damage::damage(shape, cells, way(case), x, written);
+    compare::coding::read(tally, shape, before, lent_bytes, field, lent_cells);
+    compare::coding::mend(tally, shape, field, lent_cells);
 }
 
 // The 14 cases of a shape.
 fn cases(tally: &mut Tally, shape: Shape, cells: usize, bytes: usize, k: usize)
-    requires { ⌜ (0 < cells) × ((cells ≤ 512) × (bytes ≤ 80)) ⌝ }
+    requires { do ⌜ (0 < cells) × ((cells ≤ (← ⟦CELLS⟧)) × (bytes ≤ (← ⟦CELLS⟧))) ⌝ }
 {
     let mut v = 0;
     while v < 14 {
@@ -121,11 +119,17 @@ fn all_of(tally: &mut Tally, shape: Shape, k: usize) {
     compare::placing::plan(tally, shape);
     classes(tally, shape, k);
     let plan = second::plan::plan(shape);
-    let cells = at_most(plan.fourth, 512);
+    let cells = at_most(plan.figures[3], CELLS as u64);
     if cells == 0 {
         cases(tally, shape, 7, 1, k);
     } else {
-        cases(tally, shape, cells, at_most(plan.third, 80), k);
+        cases(
+            tally,
+            shape,
+            cells,
+            at_most(plan.figures[2], CELLS as u64),
+            k,
+        );
     }
 }
 

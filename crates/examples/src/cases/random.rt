@@ -1,5 +1,7 @@
 // A fixed generator (xorshift).
 ghost use Prim.Native.Nat.{_<_, _≤_};
+use crate::answer::Buffer;
+use crate::answer::CELLS;
 
 pub(crate) fn next(x: u64) -> u64 {
     let a = x ^ (x << 13);
@@ -21,15 +23,17 @@ pub(crate) fn below(x: u64, end: u64) -> u64
     (x >> 24) % end
 }
 
-// Fills a buffer with numbers below `end`.
-pub(crate) fn fill(buffer: &mut [u8], x: u64, end: u64)
+// A buffer of numbers below `end`.
+pub(crate) fn buffer(x: u64, end: u64) -> Buffer
     requires { ⌜ (0 < end) × (end ≤ 256) ⌝ }
 {
+    let mut buffer = [0u8; CELLS];
     let mut state = x;
     let mut i = 0;
-    while i < buffer.len() {
+    while i < CELLS {
         state = next(state);
         buffer[i] = below(state, end) as u8;
         i += 1;
     }
+    buffer
 }

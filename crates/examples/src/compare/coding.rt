@@ -1,198 +1,106 @@
 // Writing, reading and mending.
 ghost use Prim.Native.Nat.{_≤_};
-ghost use lib.ListN.{length};
-use crate::answer;
 use crate::answer::Answer;
-use crate::print;
+use crate::answer::Buffer;
+use crate::answer::CELLS;
+use crate::compare::inputs;
+use crate::given;
 use crate::second;
-use crate::second::layout::Field;
-use crate::second::write::Payload;
 use crate::tally;
 use crate::tally::Tally;
-use codec::correct::CorrectAnswer;
-use codec::decode::DecodeAnswer;
-use codec::encode::EncodeAnswer;
 use lattice::shape::Shape;
 
-fn same_bytes(a: &[u8], b: &[u8]) -> bool {
-    let mut i = 0;
-    while i < a.len() {
-        if b.len() <= i {
-            return false;
-        }
-        if a[i] != b[i] {
-            return false;
-        }
-        i += 1;
-    }
-    true
-}
-
-fn same_fields(a: &Field, b: &Field) -> bool {
-    same_bytes(a, b)
-}
-
-fn same_payloads(a: &Payload, b: &Payload) -> bool {
-    same_bytes(a, b)
-}
-
-fn lengths(shape: Shape, cells: usize, bytes: usize) {
-    print::shape(shape);
-    print::labelled(b", cells ", cells as u64);
-    print::labelled(b", bytes ", bytes as u64);
-    print::text(b"\n");
-}
-
-pub(crate) fn of_encode(given: EncodeAnswer) -> Answer {
-    match given {
-        EncodeAnswer::Encoded => answer::number(0),
-        EncodeAnswer::BadSize => answer::number(1),
-        EncodeAnswer::BadStrength => answer::number(2),
-        EncodeAnswer::PayloadLength => answer::number(3),
-        EncodeAnswer::FieldLength => answer::number(4),
-    }
-}
-
-fn encode_slices(
+// The first `bytes` of a payload are written into the first `cells` of a field.
+pub(crate) fn encode(
     shape: Shape,
-    payload: &[u8],
+    payload: Buffer,
     bytes: usize,
-    field: &mut [u8],
+    field: Buffer,
     cells: usize,
 ) -> Answer
-    requires { ⌜ (bytes ≤ length (now payload)) × (cells ≤ length (now field)) ⌝ }
+    requires { do ⌜ (cells ≤ (← ⟦CELLS⟧)) × (bytes ≤ (← ⟦CELLS⟧)) ⌝ }
 {
-    of_encode(codec::encode::encode(shape, &payload[..bytes], &mut field[..cells]))
+    let mut lent = field;
+    let given = codec::encode::encode(shape, &payload[..bytes], &mut lent[..cells]);
+    given::of_encode(given).leaving(lent)
 }
 
-fn encode_first(
-    shape: Shape,
-    payload: &Payload,
-    bytes: usize,
-    field: &mut Field,
-    cells: usize,
-) -> Answer
-    requires { ⌜ (bytes ≤ 80) × (cells ≤ 512) ⌝ }
-{
-    encode_slices(shape, payload, bytes, field, cells)
-}
-
-// The first `bytes` of a payload are written into the first `cells` of a field that holds what `before` has.
 pub(crate) fn write(
     tally: &mut Tally,
     shape: Shape,
-    payload: &Payload,
+    payload: Buffer,
     bytes: usize,
-    before: &Field,
+    field: Buffer,
     cells: usize,
 )
-    requires { ⌜ (bytes ≤ 80) × (cells ≤ 512) ⌝ }
+    requires { do ⌜ (cells ≤ (← ⟦CELLS⟧)) × (bytes ≤ (← ⟦CELLS⟧)) ⌝ }
 {
-    let mut theirs = *before;
-    let mut ours = *before;
-    let given = encode_first(shape, payload, bytes, &mut theirs, cells);
-    let expected = second::write::write(shape, payload, bytes, &mut ours, cells);
-    let same = same_fields(&theirs, &ours);
-    if !tally::agree(tally, tally::WRITE, given, expected, same) {
-        tally::differ(b"write", given, expected, same);
-        lengths(shape, cells, bytes);
-    }
+    let given = encode(shape, payload, bytes, field, cells);
+    let expected = second::write::write(shape, payload, bytes, field, cells);
+    tally::compare(
+        tally,
+        tally::WRITE,
+        given,
+        expected,
+        inputs(shape, bytes, cells, 0),
+    );
 }
 
-pub(crate) fn of_decode(given: DecodeAnswer) -> Answer {
-    match given {
-        DecodeAnswer::Decoded(count) => answer::figure(count as u64),
-        DecodeAnswer::BadSize => answer::number(1),
-        DecodeAnswer::BadStrength => answer::number(2),
-        DecodeAnswer::PayloadLength => answer::number(3),
-        DecodeAnswer::FieldLength => answer::number(4),
-        DecodeAnswer::BadCell => answer::number(5),
-        DecodeAnswer::OutOfReach => answer::number(6),
-        DecodeAnswer::BadPadding => answer::number(7),
-    }
-}
-
-fn decode_slices(
+// The first `cells` of a field are read into the first `bytes` of a payload.
+pub(crate) fn decode(
     shape: Shape,
-    payload: &mut [u8],
+    payload: Buffer,
     bytes: usize,
-    field: &[u8],
+    field: Buffer,
     cells: usize,
 ) -> Answer
-    requires { ⌜ (bytes ≤ length (now payload)) × (cells ≤ length (now field)) ⌝ }
+    requires { do ⌜ (cells ≤ (← ⟦CELLS⟧)) × (bytes ≤ (← ⟦CELLS⟧)) ⌝ }
 {
-    of_decode(codec::decode::decode(shape, &mut payload[..bytes], &field[..cells]))
+    let mut lent = payload;
+    let given = codec::decode::decode(shape, &mut lent[..bytes], &field[..cells]);
+    given::of_decode(given).leaving(lent)
 }
 
-fn decode_first(
-    shape: Shape,
-    payload: &mut Payload,
-    bytes: usize,
-    field: &Field,
-    cells: usize,
-) -> Answer
-    requires { ⌜ (bytes ≤ 80) × (cells ≤ 512) ⌝ }
-{
-    decode_slices(shape, payload, bytes, field, cells)
-}
-
-// The first `cells` of a field are read into the first `bytes` of a payload that holds what `before` has.
 pub(crate) fn read(
     tally: &mut Tally,
     shape: Shape,
-    before: &Payload,
+    payload: Buffer,
     bytes: usize,
-    field: &Field,
+    field: Buffer,
     cells: usize,
 )
-    requires { ⌜ (bytes ≤ 80) × (cells ≤ 512) ⌝ }
+    requires { do ⌜ (cells ≤ (← ⟦CELLS⟧)) × (bytes ≤ (← ⟦CELLS⟧)) ⌝ }
 {
-    let mut theirs = *before;
-    let mut ours = *before;
-    let given = decode_first(shape, &mut theirs, bytes, field, cells);
-    let expected = second::read::read(shape, &mut ours, bytes, field, cells);
-    let same = same_payloads(&theirs, &ours);
-    if !tally::agree(tally, tally::READ, given, expected, same) {
-        tally::differ(b"read", given, expected, same);
-        lengths(shape, cells, bytes);
-    }
-}
-
-pub(crate) fn of_correct(given: CorrectAnswer) -> Answer {
-    match given {
-        CorrectAnswer::Corrected(count) => answer::figure(count as u64),
-        CorrectAnswer::BadSize => answer::number(1),
-        CorrectAnswer::BadStrength => answer::number(2),
-        CorrectAnswer::FieldLength => answer::number(4),
-        CorrectAnswer::BadCell => answer::number(5),
-        CorrectAnswer::OutOfReach => answer::number(6),
-        CorrectAnswer::BadPadding => answer::number(7),
-    }
-}
-
-fn correct_slice(shape: Shape, field: &mut [u8], cells: usize) -> Answer
-    requires { ⌜ cells ≤ length (now field) ⌝ }
-{
-    of_correct(codec::correct::correct(shape, &mut field[..cells]))
-}
-
-fn correct_first(shape: Shape, field: &mut Field, cells: usize) -> Answer
-    requires { ⌜ cells ≤ 512 ⌝ }
-{
-    correct_slice(shape, field, cells)
+    let given = decode(shape, payload, bytes, field, cells);
+    let expected = second::read::read(shape, payload, bytes, field, cells);
+    tally::compare(
+        tally,
+        tally::READ,
+        given,
+        expected,
+        inputs(shape, bytes, cells, 0),
+    );
 }
 
 // The first `cells` of a field are mended.
-pub(crate) fn mend(tally: &mut Tally, shape: Shape, field: &Field, cells: usize)
-    requires { ⌜ cells ≤ 512 ⌝ }
+pub(crate) fn correct(shape: Shape, field: Buffer, cells: usize) -> Answer
+    requires { do ⌜ cells ≤ (← ⟦CELLS⟧) ⌝ }
 {
-    let mut theirs = *field;
-    let mut ours = *field;
-    let given = correct_first(shape, &mut theirs, cells);
-    let expected = second::read::mend(shape, &mut ours, cells);
-    let same = same_fields(&theirs, &ours);
-    if !tally::agree(tally, tally::MEND, given, expected, same) {
-        tally::differ(b"mend", given, expected, same);
-        lengths(shape, cells, 0);
-    }
+    let mut lent = field;
+    let given = codec::correct::correct(shape, &mut lent[..cells]);
+    given::of_correct(given).leaving(lent)
+}
+
+pub(crate) fn mend(tally: &mut Tally, shape: Shape, field: Buffer, cells: usize)
+    requires { do ⌜ cells ≤ (← ⟦CELLS⟧) ⌝ }
+{
+    let given = correct(shape, field, cells);
+    let expected = second::read::mend(shape, field, cells);
+    tally::compare(
+        tally,
+        tally::MEND,
+        given,
+        expected,
+        inputs(shape, cells, 0, 0),
+    );
 }

@@ -65,6 +65,11 @@ fn divides(m: u16, b: u16, c: u16, x: Triple) -> bool
     left % (m as u64) == right % (m as u64)
 }
 
+// The figures: whether the settings hold, the triple, with 17 added to each coordinate, and how many were tried.
+fn verdict(holds: u64, x: Triple, tried: u64) -> Answer {
+    answer::of(&[holds, x.row as u64, x.plane as u64, x.column as u64, tried])
+}
+
 fn search(m: u16, b: u16, c: u16, t: u16) -> Answer
     requires { ⌜ 0 < m ⌝ }
 {
@@ -75,29 +80,19 @@ fn search(m: u16, b: u16, c: u16, t: u16) -> Answer
         if counts(x, t) {
             tried += 1;
             if divides(m, b, c, x) {
-                return Answer {
-                    number: 0,
-                    first: 0,
-                    second: x.row as u64,
-                    third: x.plane as u64,
-                    fourth: x.column as u64,
-                    fifth: tried,
-                };
+                return verdict(0, x, tried);
             }
         }
         k += 1;
     }
-    Answer {
-        number: 0,
-        first: 1,
-        second: ZERO as u64,
-        third: ZERO as u64,
-        fourth: ZERO as u64,
-        fifth: tried,
-    }
+    let none = Triple {
+        row: ZERO,
+        plane: ZERO,
+        column: ZERO,
+    };
+    verdict(1, none, tried)
 }
 
-// The figures: whether the settings hold, the triple, with 17 added to each coordinate, and how many were tried.
 pub(crate) fn gauge(m: usize, b: usize, c: usize, t: usize) -> Answer {
     if t < 1 {
         return answer::number(2);

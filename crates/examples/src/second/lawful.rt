@@ -1,10 +1,11 @@
 // The test of a class: the exclusive or of the positions of its 1 cells is 0.
 ghost use Prim.Native.Nat.{_<_, _≤_};
+use crate::answer::Buffer;
+use crate::answer::CELLS;
 use crate::second::layout::Classes;
-use crate::second::layout::Field;
 
 // A cell that no field has: nothing is turned over.
-pub(crate) const NONE: usize = 512;
+pub(crate) const NONE: usize = CELLS;
 
 pub(crate) fn turned_over(cell: u8) -> u8
     ensures { λ r. ⌜ r ≤ 1 ⌝ }
@@ -13,8 +14,8 @@ pub(crate) fn turned_over(cell: u8) -> u8
 }
 
 // What cell i, at a position of its class, adds to the exclusive or with the cell `turned` turned over: its position where it is 1.
-fn added(field: &Field, i: usize, turned: usize, position: usize) -> usize
-    requires { ⌜ i < 512 ⌝ }
+fn added(field: &Buffer, i: usize, turned: usize, position: usize) -> usize
+    requires { do ⌜ i < (← ⟦CELLS⟧) ⌝ }
 {
     let cell = if i == turned {
         turned_over(field[i])
@@ -25,8 +26,8 @@ fn added(field: &Field, i: usize, turned: usize, position: usize) -> usize
 }
 
 // Whether class a of a field is lawful with the cell `turned` turned over.
-pub(crate) fn lawful(classes: &Classes, cells: usize, a: u16, field: &Field, turned: usize) -> bool
-    requires { ⌜ cells ≤ 512 ⌝ }
+pub(crate) fn lawful(classes: &Classes, cells: usize, a: u16, field: &Buffer, turned: usize) -> bool
+    requires { do ⌜ cells ≤ (← ⟦CELLS⟧) ⌝ }
 {
     let mut position: usize = 0;
     let mut sum: usize = 0;

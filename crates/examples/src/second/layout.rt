@@ -1,32 +1,30 @@
 // Which class each cell of a small field has, and which cells hold checks.
 ghost use Prim.Native.Nat.{_<_, _≤_};
+use crate::answer::Buffer;
+use crate::answer::CELLS;
 use crate::second::settings;
-use crate::second::settings::Settings;
 use lattice::shape::Shape;
 
-// At most 512 cells: a byte, a class and a mark for each.
-pub(crate) type Field = [u8; 512];
-
-pub(crate) type Classes = [u16; 512];
-
-// A mark is 1 where the cell holds a check.
-pub(crate) type Checks = [u8; 512];
+pub(crate) type Classes = [u16; CELLS];
 
 // The class of each cell.
-pub(crate) fn place(shape: Shape, s: Settings, cells: usize, classes: &mut Classes)
-    requires { ⌜ cells ≤ 512 ⌝ }
+pub(crate) fn place(shape: Shape, cells: usize) -> Classes
+    requires { do ⌜ cells ≤ (← ⟦CELLS⟧) ⌝ }
 {
+    let s = settings::settings_of(shape);
+    let mut classes = [0u16; CELLS];
     let mut i = 0;
     while i < cells {
         classes[i] = settings::class_of_byte(shape, s, i as u16);
         i += 1;
     }
+    classes
 }
 
 // The position of a cell in its class: how many cells of the class come up to it, in byte order.
 fn position(classes: &Classes, i: usize) -> usize
-    requires { ⌜ i < 512 ⌝ }
-    ensures { λ r. ⌜ r ≤ 512 ⌝ }
+    requires { do ⌜ i < (← ⟦CELLS⟧) ⌝ }
+    ensures { λ r. do ⌜ r ≤ (← ⟦CELLS⟧ .entry) ⌝ }
 {
     let a = classes[i];
     let mut n = 0;
@@ -42,7 +40,7 @@ fn position(classes: &Classes, i: usize) -> usize
 
 // Whether p is 1, or 2, or 4, and so on.
 fn is_power_of_two(p: usize) -> bool
-    requires { ⌜ p ≤ 512 ⌝ }
+    requires { do ⌜ p ≤ (← ⟦CELLS⟧) ⌝ }
 {
     let mut power = 1;
     while power < p {
@@ -52,7 +50,7 @@ fn is_power_of_two(p: usize) -> bool
 }
 
 fn mark(classes: &Classes, i: usize) -> u8
-    requires { ⌜ i < 512 ⌝ }
+    requires { do ⌜ i < (← ⟦CELLS⟧) ⌝ }
 {
     if is_power_of_two(position(classes, i)) {
         1
@@ -61,13 +59,15 @@ fn mark(classes: &Classes, i: usize) -> u8
     }
 }
 
-// The mark of each cell.
-pub(crate) fn mark_checks(classes: &Classes, cells: usize, checks: &mut Checks)
-    requires { ⌜ cells ≤ 512 ⌝ }
+// A mark for each cell: 1 where it holds a check.
+pub(crate) fn mark_checks(classes: &Classes, cells: usize) -> Buffer
+    requires { do ⌜ cells ≤ (← ⟦CELLS⟧) ⌝ }
 {
+    let mut checks = [0u8; CELLS];
     let mut i = 0;
     while i < cells {
         checks[i] = mark(classes, i);
         i += 1;
     }
+    checks
 }

@@ -74,14 +74,7 @@ pub(crate) fn plan(shape: Shape) -> Answer {
     }
     let s = settings::settings_of(shape);
     let k = capacity(shape);
-    Answer {
-        number: 0,
-        first: s.m as u64,
-        second: k,
-        third: k / 8,
-        fourth: settings::cells(shape),
-        fifth: 0,
-    }
+    answer::of(&[s.m as u64, k, k / 8, settings::cells(shape)])
 }
 
 // The figure: the class.
@@ -100,5 +93,5 @@ pub(crate) fn class(shape: Shape, row: usize, plane: usize, column: usize) -> An
         return answer::number(4);
     }
     let s = settings::settings_of(shape);
-    answer::figure(settings::class(s, row as u16, plane as u16, column as u16) as u64)
+    answer::of(&[settings::class(s, row as u16, plane as u16, column as u16) as u64])
 }

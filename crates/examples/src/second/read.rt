@@ -2,26 +2,19 @@
 ghost use Prim.Native.Nat.{_≤_};
 use crate::answer;
 use crate::answer::Answer;
+use crate::answer::Buffer;
+use crate::answer::CELLS;
 use crate::second::lawful;
 use crate::second::layout;
-use crate::second::layout::Checks;
 use crate::second::layout::Classes;
-use crate::second::layout::Field;
 use crate::second::plan;
 use crate::second::settings;
-use crate::second::write::Payload;
+use crate::second::write;
 use lattice::shape::Shape;
 
-// What is found of one class, or of all of them.
-enum Found {
-    // So many cells are turned over.
-    Mended(u64),
-    OutOfReach,
-}
-
 // Whether every cell is 0 or 1.
-fn all_binary(cells: usize, field: &Field) -> bool
-    requires { ⌜ cells ≤ 512 ⌝ }
+fn all_binary(cells: usize, field: &Buffer) -> bool
+    requires { do ⌜ cells ≤ (← ⟦CELLS⟧) ⌝ }
 {
     let mut i = 0;
     while i < cells {
@@ -33,10 +26,32 @@ fn all_binary(cells: usize, field: &Field) -> bool
     true
 }
 
-// The cell of class a that makes the class lawful when it is turned over, NONE where there is none.
-fn culprit(classes: &Classes, cells: usize, a: u16, field: &Field) -> usize
-    requires { ⌜ cells ≤ 512 ⌝ }
+// The number with which a field of so many cells is declined before it is looked at class by class, 0 where it is accepted.
+fn refusal(shape: Shape, field: &Buffer, cells: usize) -> usize
+    requires { do ⌜ cells ≤ (← ⟦CELLS⟧) ⌝ }
 {
+    let number = settings::refusal(shape);
+    if number != 0 {
+        return number;
+    }
+    if cells as u64 != settings::cells(shape) {
+        return 4;
+    }
+    if !all_binary(cells, field) {
+        return 5;
+    }
+    0
+}
+
+const OUT_OF_REACH: usize = CELLS + 1;
+
+// The cell of class a that makes the class lawful when it is turned over; NONE where the class is lawful, OUT_OF_REACH where no cell does.
+fn culprit(classes: &Classes, cells: usize, a: u16, field: &Buffer) -> usize
+    requires { do ⌜ cells ≤ (← ⟦CELLS⟧) ⌝ }
+{
+    if lawful::lawful(classes, cells, a, field, lawful::NONE) {
+        return lawful::NONE;
+    }
     let mut j = 0;
     while j < cells {
         if classes[j] == a {
@@ -46,38 +61,28 @@ fn culprit(classes: &Classes, cells: usize, a: u16, field: &Field) -> usize
         }
         j += 1;
     }
-    lawful::NONE
+    OUT_OF_REACH
 }
 
-fn mend_class(classes: &Classes, cells: usize, a: u16, field: &mut Field) -> Found
-    requires { ⌜ cells ≤ 512 ⌝ }
+// The figure: how many cells are turned over.
+fn mend_classes(classes: &Classes, cells: usize, m: u16, field: Buffer) -> Answer
+    requires { do ⌜ cells ≤ (← ⟦CELLS⟧) ⌝ }
 {
-    if lawful::lawful(classes, cells, a, field, lawful::NONE) {
-        return Found::Mended(0);
-    }
-    let j = culprit(classes, cells, a, field);
-    if j < 512 {
-        field[j] = lawful::turned_over(field[j]);
-        return Found::Mended(1);
-    }
-    Found::OutOfReach
-}
-
-fn mend_classes(classes: &Classes, cells: usize, m: u16, field: &mut Field) -> Found
-    requires { ⌜ cells ≤ 512 ⌝ }
-{
+    let mut mended = field;
     let mut count: u64 = 0;
     let mut a = 0;
     while a < m {
-        match mend_class(classes, cells, a, field) {
-            Found::OutOfReach => return Found::OutOfReach,
-            Found::Mended(n) => if n != 0 {
-                count += 1;
-            },
+        let j = culprit(classes, cells, a, &mended);
+        if j == OUT_OF_REACH {
+            return answer::number(6).leaving(field);
+        }
+        if j < CELLS {
+            mended[j] = lawful::turned_over(mended[j]);
+            count += 1;
         }
         a += 1;
     }
-    Found::Mended(count)
+    answer::of(&[count]).leaving(mended)
 }
 
 // Whether a cell, number k of those that hold no check, is filler that isn't 0, after so many bits of payload.
@@ -85,8 +90,8 @@ fn is_stray(cell: u8, k: u64, bits: u64) -> bool {
     if k < bits { false } else { cell != 0 }
 }
 
-fn filler_is_clear(checks: &Checks, cells: usize, bits: u64, field: &Field) -> bool
-    requires { ⌜ cells ≤ 512 ⌝ }
+fn filler_is_clear(checks: &Buffer, cells: usize, bits: u64, field: &Buffer) -> bool
+    requires { do ⌜ cells ≤ (← ⟦CELLS⟧) ⌝ }
 {
     let mut k: u64 = 0;
     let mut i = 0;
@@ -112,8 +117,8 @@ fn appended(byte: u8, bit: u8, belongs: bool) -> u8 {
 }
 
 // Byte q of what the cells that hold no check spell.
-fn spelt(checks: &Checks, cells: usize, field: &Field, q: usize) -> u8
-    requires { ⌜ cells ≤ 512 ⌝ }
+fn spelt(checks: &Buffer, cells: usize, field: &Buffer, q: usize) -> u8
+    requires { do ⌜ cells ≤ (← ⟦CELLS⟧) ⌝ }
 {
     let mut byte: u8 = 0;
     let mut k = 0;
@@ -128,85 +133,58 @@ fn spelt(checks: &Checks, cells: usize, field: &Field, q: usize) -> u8
     byte
 }
 
-fn spell(checks: &Checks, cells: usize, field: &Field, bytes: usize, payload: &mut Payload)
-    requires { ⌜ (cells ≤ 512) × (bytes ≤ 80) ⌝ }
+// A payload buffer with the bytes that a field spells at its start.
+fn spell(checks: &Buffer, cells: usize, field: &Buffer, bytes: usize, before: Buffer) -> Buffer
+    requires { do ⌜ (cells ≤ (← ⟦CELLS⟧)) × (bytes ≤ (← ⟦CELLS⟧)) ⌝ }
 {
+    let mut payload = before;
     let mut q = 0;
     while q < bytes {
         payload[q] = spelt(checks, cells, field, q);
         q += 1;
     }
+    payload
 }
 
-// The count for a field of an accepted shape, and the mended field in `mended`.
-fn look(
-    shape: Shape,
-    checks: &mut Checks,
-    cells: usize,
-    field: &Field,
-    mended: &mut Field,
-) -> Answer
-    requires { ⌜ cells ≤ 512 ⌝ }
+// Mends the first `cells` of a field. The figure: the count.
+pub(crate) fn mend(shape: Shape, field: Buffer, cells: usize) -> Answer
+    requires { do ⌜ cells ≤ (← ⟦CELLS⟧) ⌝ }
 {
-    if cells as u64 != settings::cells(shape) {
-        return answer::number(4);
+    let number = refusal(shape, &field, cells);
+    if number != 0 {
+        return answer::number(number).leaving(field);
     }
-    if !all_binary(cells, field) {
-        return answer::number(5);
+    let classes = layout::place(shape, cells);
+    let found = mend_classes(&classes, cells, settings::settings_of(shape).m, field);
+    if found.number == 0 {
+        let mended = found.buffer;
+        let bits = plan::capacity(shape) / 8 * 8;
+        if !filler_is_clear(&layout::mark_checks(&classes, cells), cells, bits, &mended) {
+            return answer::number(7).leaving(field);
+        }
     }
-    let s = settings::settings_of(shape);
-    let mut classes = [0u16; 512];
-    layout::place(shape, s, cells, &mut classes);
-    layout::mark_checks(&classes, cells, checks);
-    *mended = *field;
-    let Found::Mended(count) = mend_classes(&classes, cells, s.m, mended) else {
-        return answer::number(6);
-    };
-    if !filler_is_clear(checks, cells, plan::capacity(shape) / 8 * 8, mended) {
-        return answer::number(7);
-    }
-    answer::figure(count)
+    found
 }
 
 // Reads the first `cells` of a field into the first `bytes` of a payload. The figure: the count.
 pub(crate) fn read(
     shape: Shape,
-    payload: &mut Payload,
+    payload: Buffer,
     bytes: usize,
-    field: &Field,
+    field: Buffer,
     cells: usize,
 ) -> Answer
-    requires { ⌜ (cells ≤ 512) × (bytes ≤ 80) ⌝ }
+    requires { do ⌜ (cells ≤ (← ⟦CELLS⟧)) × (bytes ≤ (← ⟦CELLS⟧)) ⌝ }
 {
-    let number = settings::refusal(shape);
+    let number = write::refusal(shape, bytes);
     if number != 0 {
-        return answer::number(number);
+        return answer::number(number).leaving(payload);
     }
-    if bytes as u64 != plan::capacity(shape) / 8 {
-        return answer::number(3);
+    let found = mend(shape, field, cells);
+    if found.number != 0 {
+        return found.leaving(payload);
     }
-    let mut checks = [0u8; 512];
-    let mut mended = [0u8; 512];
-    let found = look(shape, &mut checks, cells, field, &mut mended);
-    if found.number == 0 {
-        spell(&checks, cells, &mended, bytes, payload);
-    }
-    found
-}
-
-// Mends the first `cells` of a field. The figure: the count.
-pub(crate) fn mend(shape: Shape, field: &mut Field, cells: usize) -> Answer
-    requires { ⌜ cells ≤ 512 ⌝ }
-{
-    let number = settings::refusal(shape);
-    if number != 0 {
-        return answer::number(number);
-    }
-    let mut checks = [0u8; 512];
-    let mut mended = [0u8; 512];
-    let found = look(shape, &mut checks, cells, field, &mut mended);
-    if found.number == 0 {
-        *field = mended;
-    }
-    found
+    let mended = found.buffer;
+    let checks = layout::mark_checks(&layout::place(shape, cells), cells);
+    found.leaving(spell(&checks, cells, &mended, bytes, payload))
 }

@@ -2,17 +2,14 @@
 ghost use Prim.Native.Nat.{_≤_};
 use crate::answer;
 use crate::answer::Answer;
+use crate::answer::Buffer;
+use crate::answer::CELLS;
 use crate::second::lawful;
 use crate::second::layout;
-use crate::second::layout::Checks;
 use crate::second::layout::Classes;
-use crate::second::layout::Field;
 use crate::second::plan;
 use crate::second::settings;
 use lattice::shape::Shape;
-
-// A payload of at most 80 bytes.
-pub(crate) type Payload = [u8; 80];
 
 // The value of a bit in its byte, the highest bit first.
 fn weight(bit: usize) -> u8
@@ -31,8 +28,8 @@ fn weight(bit: usize) -> u8
 }
 
 // Bit k of a payload, and past its end the filler.
-fn bit(payload: &Payload, bytes: usize, filler: u8, k: usize) -> u8
-    requires { ⌜ bytes ≤ 80 ⌝ }
+fn bit(payload: &Buffer, bytes: usize, filler: u8, k: usize) -> u8
+    requires { do ⌜ bytes ≤ (← ⟦CELLS⟧) ⌝ }
 {
     let q = k / 8;
     if q < bytes {
@@ -44,14 +41,14 @@ fn bit(payload: &Payload, bytes: usize, filler: u8, k: usize) -> u8
 
 // The cells that hold no check, in byte order; a check cell is 0 for now.
 fn lay(
-    checks: &Checks,
+    checks: &Buffer,
     cells: usize,
-    payload: &Payload,
+    payload: &Buffer,
     bytes: usize,
     filler: u8,
-    field: &mut Field,
+    field: &mut Buffer,
 )
-    requires { ⌜ (cells ≤ 512) × (bytes ≤ 80) ⌝ }
+    requires { do ⌜ (cells ≤ (← ⟦CELLS⟧)) × (bytes ≤ (← ⟦CELLS⟧)) ⌝ }
 {
     let mut k = 0;
     let mut i = 0;
@@ -67,8 +64,8 @@ fn lay(
 }
 
 // The check cells of class a, one after the other, get the binary digits of v.
-fn try_checks(classes: &Classes, checks: &Checks, cells: usize, a: u16, v: u32, field: &mut Field)
-    requires { ⌜ cells ≤ 512 ⌝ }
+fn try_checks(classes: &Classes, checks: &Buffer, cells: usize, a: u16, v: u32, field: &mut Buffer)
+    requires { do ⌜ cells ≤ (← ⟦CELLS⟧) ⌝ }
 {
     let mut left = v;
     let mut i = 0;
@@ -84,8 +81,8 @@ fn try_checks(classes: &Classes, checks: &Checks, cells: usize, a: u16, v: u32, 
 }
 
 // Tries every filling of the check cells of class a, until the class is lawful. There are at most 10 of them.
-fn settle_class(classes: &Classes, checks: &Checks, cells: usize, a: u16, field: &mut Field)
-    requires { ⌜ cells ≤ 512 ⌝ }
+fn settle_class(classes: &Classes, checks: &Buffer, cells: usize, a: u16, field: &mut Buffer)
+    requires { do ⌜ cells ≤ (← ⟦CELLS⟧) ⌝ }
 {
     let mut v = 0;
     while v < 1024 {
@@ -97,8 +94,8 @@ fn settle_class(classes: &Classes, checks: &Checks, cells: usize, a: u16, field:
     }
 }
 
-fn settle(classes: &Classes, checks: &Checks, cells: usize, m: u16, field: &mut Field)
-    requires { ⌜ cells ≤ 512 ⌝ }
+fn settle(classes: &Classes, checks: &Buffer, cells: usize, m: u16, field: &mut Buffer)
+    requires { do ⌜ cells ≤ (← ⟦CELLS⟧) ⌝ }
 {
     let mut a = 0;
     while a < m {
@@ -107,46 +104,59 @@ fn settle(classes: &Classes, checks: &Checks, cells: usize, m: u16, field: &mut 
     }
 }
 
-// The field of a payload, with cells past the payload that hold `filler`: document 01 has them 0.
+// The field of a payload, with cells past the payload that hold `filler`: document 01 has them 0. What lies behind the field stays.
 pub(crate) fn write_with(
     shape: Shape,
-    cells: usize,
-    payload: &Payload,
+    payload: Buffer,
     bytes: usize,
     filler: u8,
-    field: &mut Field,
-)
-    requires { ⌜ (cells ≤ 512) × (bytes ≤ 80) ⌝ }
+    before: Buffer,
+    cells: usize,
+) -> Buffer
+    requires { do ⌜ (cells ≤ (← ⟦CELLS⟧)) × (bytes ≤ (← ⟦CELLS⟧)) ⌝ }
 {
-    let s = settings::settings_of(shape);
-    let mut classes = [0u16; 512];
-    layout::place(shape, s, cells, &mut classes);
-    let mut checks = [0u8; 512];
-    layout::mark_checks(&classes, cells, &mut checks);
-    lay(&checks, cells, payload, bytes, filler, field);
-    settle(&classes, &checks, cells, s.m, field);
+    let classes = layout::place(shape, cells);
+    let checks = layout::mark_checks(&classes, cells);
+    let mut field = before;
+    lay(&checks, cells, &payload, bytes, filler, &mut field);
+    settle(
+        &classes,
+        &checks,
+        cells,
+        settings::settings_of(shape).m,
+        &mut field,
+    );
+    field
+}
+
+// The number with which a shape or a payload of so many bytes is declined, 0 where both are accepted.
+pub(crate) fn refusal(shape: Shape, bytes: usize) -> usize {
+    let number = settings::refusal(shape);
+    if number != 0 {
+        return number;
+    }
+    if bytes as u64 != plan::capacity(shape) / 8 {
+        return 3;
+    }
+    0
 }
 
 // Writes the first `bytes` of a payload into the first `cells` of a field, where those are the lengths of the plan.
 pub(crate) fn write(
     shape: Shape,
-    payload: &Payload,
+    payload: Buffer,
     bytes: usize,
-    field: &mut Field,
+    field: Buffer,
     cells: usize,
 ) -> Answer
-    requires { ⌜ (cells ≤ 512) × (bytes ≤ 80) ⌝ }
+    requires { do ⌜ (cells ≤ (← ⟦CELLS⟧)) × (bytes ≤ (← ⟦CELLS⟧)) ⌝ }
 {
-    let number = settings::refusal(shape);
+    let number = refusal(shape, bytes);
     if number != 0 {
-        return answer::number(number);
-    }
-    if bytes as u64 != plan::capacity(shape) / 8 {
-        return answer::number(3);
+        return answer::number(number).leaving(field);
     }
     if cells as u64 != settings::cells(shape) {
-        return answer::number(4);
+        return answer::number(4).leaving(field);
     }
-    write_with(shape, cells, payload, bytes, 0, field);
-    answer::number(0)
+    answer::number(0).leaving(write_with(shape, payload, bytes, 0, field, cells))
 }

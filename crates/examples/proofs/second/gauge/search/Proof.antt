@@ -1,4 +1,4 @@
--- `search` is safe and ends. Invariant: at most one triple is tried at each place of the cube.
+-- `search` is safe and ends. Invariant: no more triples are tried than are looked at. The measure does not name how many there are.
 use Prim.Native.Nat.{_≤_, _-_}
 use mathlib.Core.Logic.{⊎-elim}
 use borrow.Author.Needs.{needs}
@@ -6,15 +6,14 @@ use Rattle.examples.proofs.second.gauge.search.Statement.{statement}
 use Rattle.examples.proofs.second.gauge.search.Tie as tie
 
 abbrev Inv-loop : tie.InvT-loop
-Inv-loop m b c t tried₀ k₀ tried k = (k ≤ 42875) × (tried ≤ k)
+Inv-loop m b c t tried₀ k₀ tried k = (k ≤ 1000000) × (tried ≤ k)
 
 abbrev μ-loop : tie.MeasureT-loop
-μ-loop m b c t tried₀ k₀ tried k = 42875 - k
+μ-loop m b c t tried₀ k₀ tried k = 1000000 - k
 
 pub search-spec : {M : Type 1} → statement M
 search-spec =
     tie.close
-    (tie.spec Inv-loop μ-loop (λ c. search needs) (λ c κs. search needs) (λ c κs. search needs) (λ c. search needs) (λ c κs. search needs)
-    (λ c. search needs) (λ c. search needs) (λ c. search needs) (λ c. search needs) (λ c. search needs) (λ c. search needs)
-    (λ c. ⊎-elim (λ w. search needs) (λ w. search needs) (c .if1 .came)) (λ c. search needs) (λ c. search needs) (λ c. search needs)
-    (λ c. search needs))
+    (tie.spec Inv-loop μ-loop (λ c. search needs) (λ c κs. search needs) (λ c κs. search needs) (λ c. search needs)
+    (λ c κs. search needs) (λ c κs. search needs) (λ c. search needs) (λ c. search needs) (λ c. search needs)
+    (λ c. ⊎-elim (λ w. search needs) (λ w. search needs) (c .if1 .came)) (λ c κs. search needs) (λ c. search needs))

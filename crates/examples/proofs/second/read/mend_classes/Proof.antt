@@ -6,14 +6,15 @@ use Rattle.examples.proofs.second.read.mend_classes.Statement.{statemen
 use Rattle.examples.proofs.second.read.mend_classes.Tie as tie
 
 abbrev Inv-loop : tie.InvT-loop
-Inv-loop classes cells m field₀ count₀ a₀ field count a = (a ≤ m) × (count ≤ a)
+Inv-loop classes cells m field mended₀ count₀ a₀ mended count a = (a ≤ m) × (count ≤ a)
 
 abbrev μ-loop : tie.MeasureT-loop
-μ-loop classes cells m field₀ count₀ a₀ field count a = m - a
+μ-loop classes cells m field mended₀ count₀ a₀ mended count a = m - a
 
 pub mend-classes-spec : {M : Type 1} → statement M
 mend-classes-spec =
     tie.close
-    (tie.spec Inv-loop μ-loop (λ c. search needs) (λ c κs. search needs) (λ c. search needs) (λ c. search needs) (λ c. search needs)
-    (λ c. search needs) (λ c. search needs) (λ c. search needs) (λ c. ⊎-elim (λ w. search needs) (λ w. search needs) (c .if1 .came))
-    (λ c. search needs))
+    (tie.spec Inv-loop μ-loop (λ c. search needs) (λ c κs. search needs) (λ c κs. search needs) (λ c κs. search needs)
+    (λ c. search needs) (λ c. search needs) (λ c κs. search needs) (λ c. search needs) (λ c. search needs)
+    (λ c. search needs) (λ c. search needs) (λ c. ⊎-elim (λ w. search needs) (λ w. search needs) (c .if2 .came))
+    (λ c. search needs) (λ c κs. search needs) (λ c κs. search needs) (λ c. search needs))

@@ -1,0 +1,17 @@
+-- `same_figures` is safe and ends. The measure does not name how many figures there are.
+use Prim.Native.Nat.{_≤_, _-_}
+use borrow.Author.Needs.{needs}
+use Rattle.examples.proofs.answer.same_figures.Statement.{statement}
+use Rattle.examples.proofs.answer.same_figures.Tie as tie
+
+abbrev Inv-loop : tie.InvT-loop
+Inv-loop a b k₀ k = k ≤ 1000000
+
+abbrev μ-loop : tie.MeasureT-loop
+μ-loop a b k₀ k = 1000000 - k
+
+pub same-figures-spec : {M : Type 1} → statement M
+same-figures-spec =
+    tie.close
+    (tie.spec Inv-loop μ-loop (λ c. search needs) (λ c. search needs) (λ c. search needs) (λ c. search needs)
+    (λ c. search needs) (λ c. search needs) (λ c. search needs) (λ c. search needs) (λ c. search needs) (λ c. search needs))
