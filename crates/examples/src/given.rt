@@ -7,7 +7,8 @@ use codec::encode::EncodeAnswer;
 use codec::plan::PlanAnswer;
 use lattice::class::CellClass;
 use lattice::distance::DistanceTest;
-use lattice::distance::Triple;
+use lattice::distance::Scan;
+use lattice::refusal::Refusal;
 use lattice::shape::NewShape;
 use lattice::shape::Shape;
 
@@ -22,18 +23,33 @@ pub(crate) fn of_shape(s: Shape) -> Answer {
     )
 }
 
-pub(crate) fn of_new_shape(given: NewShape) -> Answer {
-    let number = match given {
-        NewShape::Accepted(shape) => return of_shape(shape),
-        NewShape::BadSize => 1,
-        NewShape::BadStrength => 2,
+// The number of a refusal, as document 01 lists them.
+fn of_refusal(why: Refusal) -> Answer {
+    let number = match why {
+        Refusal::BadSize => 1,
+        Refusal::BadStrength => 2,
+        Refusal::PayloadLength => 3,
+        Refusal::FieldLength => 4,
+        Refusal::OutsideShape => 4,
+        Refusal::BadCell => 5,
+        Refusal::OutOfReach => 6,
+        Refusal::BadPadding => 7,
+        Refusal::BadForm => 8,
+        Refusal::BadSettings => 9,
     };
     answer::number(number)
 }
 
+pub(crate) fn of_new_shape(given: NewShape) -> Answer {
+    match given {
+        NewShape::Accepted(shape) => of_shape(shape),
+        NewShape::Refused(why) => of_refusal(why),
+    }
+}
+
 pub(crate) fn of_plan(given: PlanAnswer) -> Answer {
-    let number = match given {
-        PlanAnswer::Planned(p) => return answer::of(
+    match given {
+        PlanAnswer::Planned(p) => answer::of(
             &[
                 p.classes as u64,
                 p.capacity as u64,
@@ -41,58 +57,36 @@ pub(crate) fn of_plan(given: PlanAnswer) -> Answer {
                 p.cells as u64,
             ],
         ),
-        PlanAnswer::BadSize => 1,
-        PlanAnswer::BadStrength => 2,
-    };
-    answer::number(number)
+        PlanAnswer::Refused(why) => of_refusal(why),
+    }
 }
 
 pub(crate) fn of_class(given: CellClass) -> Answer {
-    let number = match given {
-        CellClass::Class(a) => return answer::of(&[a as u64]),
-        CellClass::BadSize => 1,
-        CellClass::BadStrength => 2,
-        CellClass::OutsideShape => 4,
-    };
-    answer::number(number)
+    match given {
+        CellClass::Class(a) => answer::of(&[a as u64]),
+        CellClass::Refused(why) => of_refusal(why),
+    }
 }
 
 pub(crate) fn of_encode(given: EncodeAnswer) -> Answer {
-    let number = match given {
-        EncodeAnswer::Encoded => 0,
-        EncodeAnswer::BadSize => 1,
-        EncodeAnswer::BadStrength => 2,
-        EncodeAnswer::PayloadLength => 3,
-        EncodeAnswer::FieldLength => 4,
-    };
-    answer::number(number)
+    match given {
+        EncodeAnswer::Encoded => answer::number(0),
+        EncodeAnswer::Refused(why) => of_refusal(why),
+    }
 }
 
 pub(crate) fn of_decode(given: DecodeAnswer) -> Answer {
-    let number = match given {
-        DecodeAnswer::Decoded(count) => return answer::of(&[count as u64]),
-        DecodeAnswer::BadSize => 1,
-        DecodeAnswer::BadStrength => 2,
-        DecodeAnswer::PayloadLength => 3,
-        DecodeAnswer::FieldLength => 4,
-        DecodeAnswer::BadCell => 5,
-        DecodeAnswer::OutOfReach => 6,
-        DecodeAnswer::BadPadding => 7,
-    };
-    answer::number(number)
+    match given {
+        DecodeAnswer::Decoded(count) => answer::of(&[count as u64]),
+        DecodeAnswer::Refused(why) => of_refusal(why),
+    }
 }
 
 pub(crate) fn of_correct(given: CorrectAnswer) -> Answer {
-    let number = match given {
-        CorrectAnswer::Corrected(count) => return answer::of(&[count as u64]),
-        CorrectAnswer::BadSize => 1,
-        CorrectAnswer::BadStrength => 2,
-        CorrectAnswer::FieldLength => 4,
-        CorrectAnswer::BadCell => 5,
-        CorrectAnswer::OutOfReach => 6,
-        CorrectAnswer::BadPadding => 7,
-    };
-    answer::number(number)
+    match given {
+        CorrectAnswer::Corrected(count) => answer::of(&[count as u64]),
+        CorrectAnswer::Refused(why) => of_refusal(why),
+    }
 }
 
 // A coordinate from −17 to 17, with 17 added; 99 for any other.
@@ -137,29 +131,23 @@ fn shifted(z: i32) -> u64 {
     }
 }
 
-fn verdict(holds: u64, x: Triple, tried: u32) -> Answer {
+// The settings hold where no triple is found.
+fn of_scan(scan: Scan) -> Answer {
+    let x = scan.triple;
     answer::of(
         &[
-            holds,
+            if scan.found { 0 } else { 1 },
             shifted(x.row),
             shifted(x.plane),
             shifted(x.column),
-            tried as u64,
+            scan.tried as u64,
         ],
     )
 }
 
 pub(crate) fn of_distance_test(given: DistanceTest) -> Answer {
-    let none = Triple {
-        row: 0,
-        plane: 0,
-        column: 0,
-    };
-    let number = match given {
-        DistanceTest::Holds(tried) => return verdict(1, none, tried),
-        DistanceTest::Fails(x, tried) => return verdict(0, x, tried),
-        DistanceTest::BadStrength => 2,
-        DistanceTest::BadSettings => 9,
-    };
-    answer::number(number)
+    match given {
+        DistanceTest::Scanned(scan) => of_scan(scan),
+        DistanceTest::Refused(why) => of_refusal(why),
+    }
 }

@@ -9,6 +9,7 @@ use crate::second::lawful;
 use codec::plan::plan;
 use lattice::shape::NewShape;
 use lattice::shape::Shape;
+use lattice::shape::ShapeNumbers;
 
 fn refusal(number: usize) {
     print::filled(b"refusal #", &[number as u64]);
@@ -31,7 +32,13 @@ fn sizes(columns: usize, rows: usize, planes: usize, strength: usize) {
 }
 
 fn plan_of(columns: usize, rows: usize, planes: usize, strength: usize) -> Answer {
-    match Shape::new(columns, rows, planes, strength) {
+    let numbers = ShapeNumbers {
+        columns,
+        rows,
+        planes,
+        strength,
+    };
+    match Shape::new(numbers) {
         NewShape::Accepted(s) => given::of_plan(plan(s)),
         refused => given::of_new_shape(refused),
     }

@@ -7,6 +7,7 @@ use crate::second;
 use crate::tally;
 use crate::tally::Tally;
 use lattice::shape::Shape;
+use lattice::shape::ShapeNumbers;
 
 // A number of 16 bits; 65,535, which is outside every limit, stands for the larger ones.
 fn narrow(x: usize) -> u16 {
@@ -35,7 +36,13 @@ pub(crate) fn shape(
     planes: usize,
     strength: usize,
 ) {
-    let given = given::of_new_shape(Shape::new(columns, rows, planes, strength));
+    let numbers = ShapeNumbers {
+        columns,
+        rows,
+        planes,
+        strength,
+    };
+    let given = given::of_new_shape(Shape::new(numbers));
     let expected = expected_shape(columns, rows, planes, strength);
     let inputs = tally::numbers(columns, rows, planes, strength);
     tally::compare(tally, tally::SHAPE, given, expected, inputs);
