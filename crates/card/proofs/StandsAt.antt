@@ -47,9 +47,6 @@ pub stands-part : (before text rest : List ℕ) → StandsAt text (before ++ (te
 stands-part before text rest j l =
     getD-append-add before (text ++ rest) j 0 ∙ List·getD-append text rest 0 j l
 
-pub stands-first : (text rest : List ℕ) → StandsAt text (text ++ rest) 0
-stands-first text rest = stands-part [] text rest
-
 pub stands-last : (before text : List ℕ) → StandsAt text (before ++ text) (length before)
 stands-last before text j l = getD-append-add before text j 0
 

@@ -14,7 +14,6 @@ use Rattle.lattice.specs.Shape.{shapeNumber, Accepted, cellsOf}
 use Rattle.lattice.specs.Class.{classesOf, classAt}
 use Rattle.lattice.specs.Position.{capacity}
 use Rattle.lattice.proofs.Answers.{beside-zero, refused}
-use Rattle.lattice.proofs.Figure.{figure-given}
 use Rattle.lattice.proofs.NewShapes.{new-accepted, new-shape}
 use Rattle.codec.specs.Payload.{Bytes}
 use Rattle.codec.specs.Plan.{planClasses, planCapacity, planBytes}
@@ -41,7 +40,7 @@ module _ (h : Header) (r : NewShape) (x : IsNewShape (h .numbers) r) where
     cells-given n p =
         p
         ∙ ap (λ (t : Shape). figure (shapeNumber t) (cellsOf t)) (new-shape _ _ x s e)
-        ∙ figure-given _ (cellsOf (shapeOf h)) (new-accepted _ _ x s e)
+        ∙ beside-zero _ (cellsOf (shapeOf h)) 0 (new-accepted _ _ x s e)
 
     pub new-many : (n : ℕ) → n ≡ figure (shapeNumber s) (cellsOf s) → 16384 < n → 16384 < cellsOf (shapeOf h)
     new-many n p l = rw (cells-given n p) at l
@@ -55,7 +54,7 @@ module _ (h : Header) (s : Shape) (x : CardShape h s) where
   accepted = rw (x .shape) (x .card .accepted)
 
   pub cells-are : (n : ℕ) → n ≡ figure (shapeNumber s) (cellsOf s) → n ≡ cellsOf s
-  cells-are n e = e ∙ figure-given (shapeNumber s) (cellsOf s) accepted
+  cells-are n e = e ∙ beside-zero (shapeNumber s) (cellsOf s) 0 accepted
 
   pub cells-fit : (n : ℕ) → n ≡ figure (shapeNumber s) (cellsOf s) → n ≤ 16384
   cells-fit n e = rw (cells-are n e, x .shape) (x .card .cells)

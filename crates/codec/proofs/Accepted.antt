@@ -8,7 +8,7 @@ use Rattle.lattice.specs.declared.shape.Shape.{Shape}
 use Rattle.lattice.specs.Shape.{Accepted, cellsOf}
 use Rattle.lattice.specs.Cell.{cellAt}
 use Rattle.lattice.specs.Class.{classesOf, classAt}
-use Rattle.lattice.proofs.Figure.{figure-given}
+use Rattle.lattice.proofs.Answers.{beside-zero}
 use Rattle.lattice.proofs.ClassBelow.{class-below}
 use Rattle.codec.specs.Payload.{payloadBytes}
 use Rattle.codec.specs.Plan.{planNumber, planClasses, planCapacity, planBytes, planCells}
@@ -20,15 +20,15 @@ module _ (s : Shape) (accepted : Accepted s) where
   -- the plan's figures are those of the shape
   pub plan-bytes : planBytes s ≡ payloadBytes (classAt s) (cellsOf s)
   unfolding planBytes planCapacity payloadBytes
-  plan-bytes = ap (λ (k : ℕ). k / 8) (figure-given (planNumber s) _ accepted)
+  plan-bytes = ap (λ (k : ℕ). k / 8) (beside-zero (planNumber s) _ 0 accepted)
 
   pub plan-cells : planCells s ≡ cellsOf s
   unfolding planCells
-  plan-cells = figure-given (planNumber s) (cellsOf s) accepted
+  plan-cells = beside-zero (planNumber s) (cellsOf s) 0 accepted
 
   pub plan-classes : planClasses s ≡ classesOf s
   unfolding planClasses
-  plan-classes = figure-given (planNumber s) (classesOf s) accepted
+  plan-classes = beside-zero (planNumber s) (classesOf s) 0 accepted
 
   -- every class is below the number of classes
   pub class-at-below : (i : ℕ) → i < cellsOf s → classAt s i < classesOf s

@@ -8,10 +8,9 @@ use native.Mathlib.Omega.{arith}
 use lib.ListN.{length}
 use Rattle.lattice.specs.declared.shape.Shape.{Shape}
 use Rattle.lattice.specs.Refusal.{unless}
-use Rattle.lattice.specs.Shape.{Accepted, cellsOf}
+use Rattle.lattice.specs.Shape.{cellsOf}
 use Rattle.lattice.specs.Class.{classesOf, classAt}
 use Rattle.lattice.proofs.Answers.{beside-zero}
-use Rattle.lattice.proofs.Figure.{figure-given}
 use Rattle.codec.specs.Field.{Field, fieldOf, Cells, Same, differences, listOf}
 use Rattle.codec.specs.Hamming.{allInReach}
 use Rattle.codec.specs.Payload.{PaddingRight, paddingOk, Carries, heldPayload}
@@ -143,7 +142,7 @@ module _ (s : Shape) (payload field : List ℕ) (readable : Readable s field) (f
 
   pub decode-count : decodeNumber s payload field ≡ 0 → decodeCount s payload field ≡ correctedCount s field
   unfolding decodeCount
-  decode-count = figure-given (decodeNumber s payload field) (correctedCount s field)
+  decode-count = beside-zero (decodeNumber s payload field) (correctedCount s field) 0
 
   decoded : (g : Field) → NearestTo s field g → PaddingRight (classAt s) (cellsOf s) g → decodeNumber s payload field ≡ 0
   decoded g near padding = number ∙ number-success s field readable .1 (g, near, padding)
@@ -182,7 +181,7 @@ module _ (s : Shape) (field : List ℕ) (readable : Readable s field) where
 
   pub correct-count : correctNumber s field ≡ 0 → correctCount s field ≡ correctedCount s field
   unfolding correctCount
-  correct-count = figure-given (correctNumber s field) (correctedCount s field)
+  correct-count = beside-zero (correctNumber s field) (correctedCount s field) 0
 
   corrected : (g : Field) → NearestTo s field g → PaddingRight (classAt s) (cellsOf s) g → correctNumber s field ≡ 0
   corrected g near padding = correct-number s (readable .accepted) field (readable .long) ∙ number-success s field readable .1 (g, near, padding)

@@ -3,7 +3,7 @@ use Prim.Native.Nat.{ℕ}
 use mathlib.Core.List.{List}
 use mathlib.Core.Path.{sym, _∙_}
 use Rattle.lattice.specs.declared.shape.Shape.{Shape}
-use Rattle.lattice.specs.Shape.{Accepted, cellsOf}
+use Rattle.lattice.specs.Shape.{cellsOf}
 use Rattle.lattice.specs.Class.{classAt}
 use Rattle.codec.specs.Field.{fieldOf, Same}
 use Rattle.codec.specs.Payload.{encoded}

@@ -10,7 +10,7 @@ use Rattle.lattice.specs.Cell.{Cell, cellAt}
 use Rattle.lattice.specs.Class.{classAt}
 use Rattle.codec.specs.Field.{Field, fieldOf, flip, Same, differences}
 use Rattle.codec.specs.Payload.{Bytes, PaddingRight, encoded}
-use Rattle.codec.specs.Plan.{planNumber, planBytes}
+use Rattle.codec.specs.Plan.{planBytes}
 use Rattle.codec.specs.Encode.{encodedField}
 use Rattle.codec.specs.Decode.{correctedField, decodeNumber, decodeLeaves}
 use Rattle.codec.specs.Correct.{correctNumber, correctLeaves}

@@ -12,9 +12,8 @@ use Rattle.lattice.specs.Refusal.{refusalNumber, unless, orElse, figure}
 use Rattle.lattice.specs.Shape.{shapeNumber, Accepted, cellsOf}
 use Rattle.lattice.specs.Class.{classAt}
 use Rattle.lattice.specs.Position.{capacity, dataIn}
-use Rattle.lattice.proofs.Answers.{earlier-told, unless-zero, or-else-zero}
+use Rattle.lattice.proofs.Answers.{earlier-told, unless-zero, or-else-zero, beside-zero}
 use Rattle.lattice.proofs.CapacityGiven.{capacity-accepted}
-use Rattle.lattice.proofs.Figure.{figure-given}
 use Rattle.codec.specs.Field.{fieldOf, Received}
 use Rattle.codec.specs.Payload.{payloadBytes}
 use Rattle.codec.specs.Plan.{planCapacity, planBytes, planCells}
@@ -32,7 +31,7 @@ unfolding planBytes planCapacity
 bytes-given s sizes k a p e =
     ap
     (λ (n : ℕ). n / 8)
-    (e ∙ capacity-accepted s sizes a (p .at) ∙ sym (figure-given (shapeNumber s) (capacity (classAt s) (cellsOf s)) a))
+    (e ∙ capacity-accepted s sizes a (p .at) ∙ sym (beside-zero (shapeNumber s) (capacity (classAt s) (cellsOf s)) 0 a))
 
 pub cells-given : (s : Shape) (n : ℕ) → n ≡ figure (shapeNumber s) (cellsOf s) → n ≡ planCells s
 unfolding planCells

@@ -15,7 +15,6 @@ use Rattle.lattice.specs.Class.{classAt, classBy}
 use Rattle.lattice.specs.Position.{size, position}
 use Rattle.lattice.proofs.ClassAt.{at-class, at-below}
 use Rattle.lattice.proofs.Answers.{beside-zero}
-use Rattle.lattice.proofs.Figure.{figure-given}
 use Rattle.lattice.proofs.Limits.{legal}
 use Rattle.lattice.proofs.Positions.{size-none}
 use Rattle.lattice.proofs.Sizes.{sizes-more, sizes-most}
@@ -27,7 +26,7 @@ stored l a v h = record { own = getD-set-same l a v 0 h; others = λ b e. getD-s
 
 -- an accepted shape gives its cells, which are at most 65,536
 pub cells-are : (s : Shape) (n : ℕ) → Accepted s → n ≡ figure (shapeNumber s) (cellsOf s) → n ≡ cellsOf s
-cells-are s n a e = e ∙ figure-given (shapeNumber s) (cellsOf s) a
+cells-are s n a e = e ∙ beside-zero (shapeNumber s) (cellsOf s) 0 a
 
 module _ (s : Shape) (n : ℕ) (e : n ≡ cellsOf s) (i : ℕ) (l : i < n) where
   pub cell-below : i < cellsOf s

@@ -12,7 +12,7 @@ use Rattle.lattice.specs.Shape.{Accepted, shapeNumber, cellsOf}
 use Rattle.lattice.specs.Class.{classesOf, classAt}
 use Rattle.lattice.specs.Position.{allBelow}
 use Rattle.lattice.proofs.ClassBelow.{classes-limit}
-use Rattle.lattice.proofs.Figure.{figure-given}
+use Rattle.lattice.proofs.Answers.{beside-zero}
 use Rattle.codec.specs.Field.{fieldOf}
 use Rattle.codec.specs.Hamming.{inReach, allInReach}
 use Rattle.codec.specs.Working.{Examined}
@@ -28,7 +28,7 @@ pub all-reach : (s : Shape) (field sizes syndromes : List ℕ) (m : ℕ) (b : Bo
 unfolding allInReach inReach
 all-reach s field sizes syndromes m b a x e p =
     p
-    ∙ ap (allBelow (reaches sizes syndromes)) (e ∙ figure-given (shapeNumber s) (classesOf s) a)
+    ∙ ap (allBelow (reaches sizes syndromes)) (e ∙ beside-zero (shapeNumber s) (classesOf s) 0 a)
     ∙ all-same
     (reaches sizes syndromes)
     (inReach (classAt s) (cellsOf s) (fieldOf field))

@@ -16,7 +16,6 @@ use Rattle.lattice.proofs.CapacitySum.{capacity-by-class}
 use Rattle.lattice.proofs.ClassBelow.{class-below, classes-limit}
 use Rattle.lattice.proofs.Counting.{sum-same}
 use Rattle.lattice.proofs.Answers.{beside-zero, beside-other}
-use Rattle.lattice.proofs.Figure.{figure-given, figure-none}
 use Rattle.lattice.proofs.Positions.{size-none}
 use Rattle.lattice.proofs.Sizes.{Sizes}
 
@@ -25,8 +24,8 @@ pub classes-given : (s : Shape) → figure (shapeNumber s) (classesOf s) ≤ max
 classes-given s = go (ℕ-discrete (shapeNumber s) 0)
   where
     go : Dec (shapeNumber s ≡ 0) → figure (shapeNumber s) (classesOf s) ≤ maxClasses
-    go (yes a) = rw (figure-given (shapeNumber s) (classesOf s) a) (classes-limit s a)
-    go (no r) = rw (figure-none (shapeNumber s) (classesOf s) r) zero-le
+    go (yes a) = rw (beside-zero (shapeNumber s) (classesOf s) 0 a) (classes-limit s a)
+    go (no r) = rw (beside-other (shapeNumber s) (classesOf s) 0 r) zero-le
 
 -- where the table has an entry for the class of every cell, the data cells of the classes in the table add up to the capacity
 pub capacity-held : (cls : ℕ → ℕ) (xs : List ℕ) (n : ℕ) → ((i : ℕ) → i < n → cls i < maxClasses) → Sizes cls xs n

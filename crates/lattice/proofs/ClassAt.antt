@@ -10,7 +10,7 @@ use Rattle.lattice.specs.Class.{classWith, classOf, classAt, placementOf
 use Rattle.lattice.specs.Refusal.{figure}
 use Rattle.lattice.specs.Shape.{shapeNumber, cellsOf, Accepted, maxClasses}
 use Rattle.lattice.proofs.ClassBelow.{class-below, classes-limit}
-use Rattle.lattice.proofs.Figure.{figure-given}
+use Rattle.lattice.proofs.Answers.{beside-zero}
 use Rattle.lattice.proofs.Limits.{legal}
 use Rattle.lattice.proofs.SettingsLaws.{given-accepted}
 
@@ -33,7 +33,7 @@ placed s a x = ap (λ (k : Settings). classWith k x) (given-accepted s a)
 module _ (s : Shape) (a : Accepted s) where
   -- the number of cells that the shape gives is its own, and each cell's is below 65,536
   pub at-cells : (n : ℕ) → n ≡ figure (shapeNumber s) (cellsOf s) → n ≡ cellsOf s
-  at-cells n e = e ∙ figure-given (shapeNumber s) (cellsOf s) a
+  at-cells n e = e ∙ beside-zero (shapeNumber s) (cellsOf s) 0 a
 
   pub at-limit : (n i : ℕ) → n ≡ figure (shapeNumber s) (cellsOf s) → i < n → i < 65536
   at-limit n i e l = lt-of-lt-of-le l (rw (at-cells n e) (legal s a .product))

@@ -20,7 +20,6 @@ pub mod Differences
 pub mod Distances
 pub mod Distinct
 pub mod Due
-pub mod Figure
 pub mod FlatDistance
 pub mod FlatLattice
 pub mod InField

@@ -12,7 +12,7 @@ use Rattle.lattice.specs.Refusal.{beside, figure}
 use Rattle.lattice.specs.Shape.{shapeNumber, Accepted, maxClasses}
 use Rattle.lattice.specs.Settings.{settings, isOdd, oddSettings, evenSettings, flatSettings, stackTable, stackSettings, settingsFor, settingsOf, settingsGiven}
 use Rattle.lattice.specs.Class.{classesOf}
-use Rattle.lattice.proofs.Answers.{beside-zero, beside-other}
+use Rattle.lattice.proofs.Answers.{beside-zero}
 use Rattle.lattice.proofs.Limits.{legal, strength-stack}
 
 -- the flat rule by the parity of t
@@ -51,14 +51,10 @@ pub classes-stack : (s : Shape) → (s .planes ≡ 1 → ⊥) → classesOf s �
 unfolding classesOf
 classes-stack s stack = ap (λ (k : Settings). k .m) (settings-stack (s .planes) (s .strength) stack)
 
--- the settings that an accepted shape gives, and those of a refused one
+-- the settings that an accepted shape gives, and the classes that any shape gives
 pub given-accepted : (s : Shape) → Accepted s → settingsGiven s ≡ settingsOf s
 unfolding settingsGiven
 given-accepted s p = beside-zero _ _ _ p
-
-pub given-refused : (s : Shape) → ¬ Accepted s → settingsGiven s ≡ settings 0 0 0
-unfolding settingsGiven
-given-refused s p = beside-other _ _ _ p
 
 pub given-classes : (s : Shape) → settingsGiven s .m ≡ figure (shapeNumber s) (classesOf s)
 unfolding settingsGiven classesOf

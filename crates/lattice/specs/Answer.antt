@@ -1,6 +1,6 @@
 -- The answers: for each case of an answer enum, the papers' number and figures, and what a contract says of them.
 use Prim.Native.Nat.{ℕ}
-use mathlib.Core.Bool.{Bool, true, false, not}
+use mathlib.Core.Bool.{Bool, false, not}
 use mathlib.Core.Path.{_≡_}
 use Rattle.lattice.specs.declared.shape.Shape.{Shape}
 use Rattle.lattice.specs.declared.shape.ShapeNumbers.{ShapeNumbers}

@@ -1,10 +1,9 @@
 -- `correct_tests` meets its contract: the shape's tests, then the field's length, then its own.
-use mathlib.Core.Path.{_≡_, sym, _∙_}
+use mathlib.Core.Path.{sym, _∙_}
 use native.Mathlib.Omega.{arith}
 use borrow.Author.Needs.{needs}
 use lib.ListN.{length}
 use Rattle.lattice.specs.Shape.{Accepted}
-use Rattle.codec.specs.Plan.{planCells}
 use Rattle.codec.specs.Working.{FieldFits}
 use Rattle.lattice.proofs.Answers.{told, told-none, some-number}
 use Rattle.codec.proofs.Accepted.{plan-cells, correct-number}

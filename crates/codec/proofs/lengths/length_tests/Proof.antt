@@ -7,8 +7,8 @@ use lib.ListN.{length}
 use Rattle.lattice.specs.Shape.{Accepted, cellsOf}
 use Rattle.lattice.specs.Class.{classAt}
 use Rattle.lattice.proofs.Answers.{told, told-none, some-number}
-use Rattle.codec.specs.Plan.{planBytes, planCells}
-use Rattle.codec.specs.Working.{HoldsSizes, Fits}
+use Rattle.codec.specs.Plan.{planBytes}
+use Rattle.codec.specs.Working.{HoldsSizes}
 use Rattle.codec.proofs.Accepted.{plan-bytes, plan-cells}
 use Rattle.codec.proofs.StepNumber.{bytes-given, cells-given, length-refused, payload-number, field-number, fit-number}
 use Rattle.codec.proofs.StepPlace.{sizes-given}

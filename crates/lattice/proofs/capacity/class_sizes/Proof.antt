@@ -1,5 +1,5 @@
 -- `class_sizes` meets its contract. The loop's invariant: each entry is its class's size among the cells before i.
-use Prim.Native.Nat.{ℕ, _≤_, _<_, _-_, zero-le}
+use Prim.Native.Nat.{_≤_, _<_, _-_, zero-le}
 use mathlib.Core.Path.{_≡_, ap, _∙_}
 use native.Mathlib.Nat.{lt-trans, lt-of-le-of-lt}
 use native.Mathlib.Omega.{arith}

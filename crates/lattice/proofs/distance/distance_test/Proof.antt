@@ -1,6 +1,5 @@
 -- `distance_test` meets its contract: the tests settle the refusal, and the scan of the order the figures.
-use Prim.Native.Nat.{_≤_, _<_}
-use mathlib.Core.Path.{_≡_, refl, sym, _∙_}
+use mathlib.Core.Path.{_≡_, refl}
 use native.Mathlib.Omega.{arith}
 use borrow.Author.Needs.{needs}
 use Rattle.lattice.specs.DistanceTest.{testNumber}

@@ -1,5 +1,5 @@
 -- `DistanceTest::triple` meets its contract.
-use mathlib.Core.Path.{refl, ap, sym}
+use mathlib.Core.Path.{ap, sym}
 use borrow.Author.Needs.{needs}
 use Rattle.lattice.specs.Answer.{distanceTriple}
 use Rattle.lattice.proofs.distance.DistanceTest.triple.Statement.{statement}

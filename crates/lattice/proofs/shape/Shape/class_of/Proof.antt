@@ -1,11 +1,10 @@
 -- `Shape::class_of` meets its contract: a refusal settles the answer, and the class is that by the shape's placement.
-use mathlib.Core.Path.{_≡_, sym}
 use native.Mathlib.Nat.{le-of-lt, le-trans}
 use borrow.Author.Needs.{needs}
 use mir.Facts.{fits-below}
 use Rattle.lattice.specs.Cell.{cell}
-use Rattle.lattice.specs.Class.{classNumber, classGiven}
-use Rattle.lattice.proofs.Answers.{refused, done, told, told-none}
+use Rattle.lattice.specs.Class.{classGiven}
+use Rattle.lattice.proofs.Answers.{refused, told, told-none}
 use Rattle.lattice.proofs.ClassNumber.{Classed, classed, class-given}
 use Rattle.lattice.proofs.Limits.{legal}
 use Rattle.lattice.proofs.shape.Shape.class_of.Statement.{statement}

@@ -1,5 +1,4 @@
 -- `Shape::placement` meets its contract.
-use mathlib.Core.Path.{refl}
 use borrow.Author.Needs.{needs}
 use Rattle.lattice.specs.Class.{placementOf}
 use Rattle.lattice.proofs.shape.Shape.placement.Statement.{statement}
