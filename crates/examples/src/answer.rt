@@ -19,8 +19,8 @@ pub(crate) struct Answer {
 }
 
 impl Answer {
-    // The same, leaving this in the lent buffer.
-    pub(crate) fn leaving(self, buffer: Buffer) -> Answer {
+    // The same with this in the lent buffer.
+    pub(crate) fn with(self, buffer: Buffer) -> Answer {
         let mut answer = self;
         answer.buffer = buffer;
         answer
@@ -33,6 +33,15 @@ pub(crate) fn number(number: usize) -> Answer {
         number,
         figures: [0; FIGURES],
         buffer: [0; CELLS],
+    }
+}
+
+// A number and what is left in the lent buffer, with no figure.
+pub(crate) fn leaving(number: usize, buffer: Buffer) -> Answer {
+    Answer {
+        number,
+        figures: [0; FIGURES],
+        buffer,
     }
 }
 

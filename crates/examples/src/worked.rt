@@ -118,16 +118,17 @@ fn mend(card: Buffer) {
     show_rows(mended);
 }
 
-// A card with some of its cells turned over.
-fn turned_over(card: Buffer, at: &[usize]) -> Buffer {
+// A card with some of its cells turned over: those of the 1 digits of `at`, row by row.
+fn turned_over(card: Buffer, at: u32) -> Buffer {
     let mut turned = card;
-    let mut k = 0;
-    while k < at.len() {
-        let i = at[k];
-        if i < CARD {
+    let mut left = at;
+    let mut i = CARD;
+    while 0 < i {
+        i -= 1;
+        if left % 2 == 1 {
             turned[i] = lawful::turned_over(turned[i]);
         }
-        k += 1;
+        left = left / 2;
     }
     turned
 }
@@ -149,7 +150,7 @@ fn whole_card(card: Buffer) {
 fn damaged_card(card: Buffer) {
     read_and_mend(
         b"that card with third row 10010 and fourth 00001: read ",
-        turned_over(card, &[12, 13, 17]),
+        turned_over(card, 0b00000_00000_00110_00100_00000),
     );
 }
 
@@ -197,7 +198,7 @@ fn even_strength() {
 fn beyond_the_class(card: Buffer) {
     read_and_mend(
         b"that card with cells 2 and 4 of class 0 turned over: read ",
-        turned_over(card, &[8, 19]),
+        turned_over(card, 0b00000_00010_00000_00001_00000),
     );
 }
 
@@ -205,7 +206,7 @@ fn beyond_the_class(card: Buffer) {
 fn last_class(card: Buffer) {
     read_and_mend(
         b"that card with cells 2 and 4 of class 4 turned over: read ",
-        turned_over(card, &[7, 18]),
+        turned_over(card, 0b00000_00100_00000_00010_00000),
     );
 }
 
@@ -214,7 +215,7 @@ fn last_class(card: Buffer) {
 fn byte_order() {
     read_and_mend(
         b"a card with cells 1, 2 and 3 of class 0 alone: read ",
-        turned_over([0; CELLS], &[0, 8, 11]),
+        turned_over([0; CELLS], 0b10000_00010_01000_00000_00000),
     );
 }
 

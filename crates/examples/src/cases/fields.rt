@@ -6,6 +6,7 @@ use crate::cases::random;
 use crate::cases::shapes;
 use crate::compare;
 use crate::second;
+use crate::second::settings;
 use crate::tally::Tally;
 use lattice::shape::Shape;
 
@@ -114,22 +115,26 @@ fn classes(tally: &mut Tally, shape: Shape, k: usize) {
     }
 }
 
+// The cells of an accepted shape that is small enough, the most that are lent of a larger one, and 0 for a refused one.
+fn cells_of(shape: Shape) -> usize
+    ensures { λ r. do ⌜ r ≤ (← ⟦CELLS⟧ .entry) ⌝ }
+{
+    if settings::refusal(shape) != 0 {
+        return 0;
+    }
+    at_most(settings::cells(shape), CELLS as u64)
+}
+
 // All that is compared of one shape. Where the plan's lengths are not those of a small field, others are lent.
 fn all_of(tally: &mut Tally, shape: Shape, k: usize) {
     compare::placing::plan(tally, shape);
     classes(tally, shape, k);
-    let plan = second::plan::plan(shape);
-    let cells = at_most(plan.figures[3], CELLS as u64);
+    let cells = cells_of(shape);
     if cells == 0 {
         cases(tally, shape, 7, 1, k);
     } else {
-        cases(
-            tally,
-            shape,
-            cells,
-            at_most(plan.figures[2], CELLS as u64),
-            k,
-        );
+        let bytes = at_most(second::plan::capacity(shape) / 8, CELLS as u64);
+        cases(tally, shape, cells, bytes, k);
     }
 }
 

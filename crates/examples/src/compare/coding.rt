@@ -22,7 +22,7 @@ pub(crate) fn encode(
 {
     let mut lent = field;
     let given = codec::encode::encode(shape, &payload[..bytes], &mut lent[..cells]);
-    given::of_encode(given).leaving(lent)
+    given::of_encode(given).with(lent)
 }
 
 pub(crate) fn write(
@@ -58,7 +58,7 @@ pub(crate) fn decode(
 {
     let mut lent = payload;
     let given = codec::decode::decode(shape, &mut lent[..bytes], &field[..cells]);
-    given::of_decode(given).leaving(lent)
+    given::of_decode(given).with(lent)
 }
 
 pub(crate) fn read(
@@ -88,7 +88,7 @@ pub(crate) fn correct(shape: Shape, field: Buffer, cells: usize) -> Answer
 {
     let mut lent = field;
     let given = codec::correct::correct(shape, &mut lent[..cells]);
-    given::of_correct(given).leaving(lent)
+    given::of_correct(given).with(lent)
 }
 
 pub(crate) fn mend(tally: &mut Tally, shape: Shape, field: Buffer, cells: usize)

@@ -71,3 +71,10 @@ pub(crate) fn mark_checks(classes: &Classes, cells: usize) -> Buffer
     }
     checks
 }
+
+// The same for a shape.
+pub(crate) fn checks(shape: Shape, cells: usize) -> Buffer
+    requires { do ⌜ cells ≤ (← ⟦CELLS⟧) ⌝ }
+{
+    mark_checks(&place(shape, cells), cells)
+}

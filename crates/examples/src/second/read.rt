@@ -74,7 +74,7 @@ fn mend_classes(classes: &Classes, cells: usize, m: u16, field: Buffer) -> Answe
     while a < m {
         let j = culprit(classes, cells, a, &mended);
         if j == OUT_OF_REACH {
-            return answer::number(6).leaving(field);
+            return answer::leaving(6, field);
         }
         if j < CELLS {
             mended[j] = lawful::turned_over(mended[j]);
@@ -82,7 +82,7 @@ fn mend_classes(classes: &Classes, cells: usize, m: u16, field: Buffer) -> Answe
         }
         a += 1;
     }
-    answer::of(&[count]).leaving(mended)
+    answer::of(&[count]).with(mended)
 }
 
 // Whether a cell, number k of those that hold no check, is filler that isn't 0, after so many bits of payload.
@@ -90,9 +90,12 @@ fn is_stray(cell: u8, k: u64, bits: u64) -> bool {
     if k < bits { false } else { cell != 0 }
 }
 
-fn filler_is_clear(checks: &Buffer, cells: usize, bits: u64, field: &Buffer) -> bool
+// Whether the cells of an accepted field that hold neither payload nor check are 0.
+fn filler_is_clear(shape: Shape, field: Buffer, cells: usize) -> bool
     requires { do ⌜ cells ≤ (← ⟦CELLS⟧) ⌝ }
 {
+    let checks = layout::checks(shape, cells);
+    let bits = plan::capacity(shape) / 8 * 8;
     let mut k: u64 = 0;
     let mut i = 0;
     while i < cells {
@@ -134,13 +137,14 @@ fn spelt(checks: &Buffer, cells: usize, field: &Buffer, q: usize) -> u8
 }
 
 // A payload buffer with the bytes that a field spells at its start.
-fn spell(checks: &Buffer, cells: usize, field: &Buffer, bytes: usize, before: Buffer) -> Buffer
+fn spell(shape: Shape, field: Buffer, cells: usize, before: Buffer, bytes: usize) -> Buffer
     requires { do ⌜ (cells ≤ (← ⟦CELLS⟧)) × (bytes ≤ (← ⟦CELLS⟧)) ⌝ }
 {
+    let checks = layout::checks(shape, cells);
     let mut payload = before;
     let mut q = 0;
     while q < bytes {
-        payload[q] = spelt(checks, cells, field, q);
+        payload[q] = spelt(&checks, cells, &field, q);
         q += 1;
     }
     payload
@@ -152,18 +156,19 @@ pub(crate) fn mend(shape: Shape, field: Buffer, cells: usize) -> Answer
 {
     let number = refusal(shape, &field, cells);
     if number != 0 {
-        return answer::number(number).leaving(field);
+        return answer::leaving(number, field);
     }
-    let classes = layout::place(shape, cells);
-    let found = mend_classes(&classes, cells, settings::settings_of(shape).m, field);
-    if found.number == 0 {
-        let mended = found.buffer;
-        let bits = plan::capacity(shape) / 8 * 8;
-        if !filler_is_clear(&layout::mark_checks(&classes, cells), cells, bits, &mended) {
-            return answer::number(7).leaving(field);
-        }
+    let m = settings::settings_of(shape).m;
+    let found = mend_classes(&layout::place(shape, cells), cells, m, field);
+    if found.number != 0 {
+        return found;
     }
-    found
+    let mended = found.buffer;
+    if filler_is_clear(shape, mended, cells) {
+        found
+    } else {
+        answer::leaving(7, field)
+    }
 }
 
 // Reads the first `cells` of a field into the first `bytes` of a payload. The figure: the count.
@@ -178,13 +183,12 @@ pub(crate) fn read(
 {
     let number = write::refusal(shape, bytes);
     if number != 0 {
-        return answer::number(number).leaving(payload);
+        return answer::leaving(number, payload);
     }
     let found = mend(shape, field, cells);
     if found.number != 0 {
-        return found.leaving(payload);
+        return found.with(payload);
     }
     let mended = found.buffer;
-    let checks = layout::mark_checks(&layout::place(shape, cells), cells);
-    found.leaving(spell(&checks, cells, &mended, bytes, payload))
+    found.with(spell(shape, mended, cells, payload, bytes))
 }

@@ -153,10 +153,10 @@ pub(crate) fn write(
 {
     let number = refusal(shape, bytes);
     if number != 0 {
-        return answer::number(number).leaving(field);
+        return answer::leaving(number, field);
     }
     if cells as u64 != settings::cells(shape) {
-        return answer::number(4).leaving(field);
+        return answer::leaving(4, field);
     }
-    answer::number(0).leaving(write_with(shape, payload, bytes, 0, field, cells))
+    answer::leaving(0, write_with(shape, payload, bytes, 0, field, cells))
 }

@@ -1,4 +1,4 @@
--- `filler_is_clear` is safe and ends.
+-- `filler_is_clear` is safe and ends. Invariant: no more cells hold no check than are passed.
 use Prim.Native.Nat.{_≤_, _-_}
 use mathlib.Core.Logic.{⊎-elim}
 use borrow.Author.Needs.{needs}
@@ -6,14 +6,15 @@ use Rattle.examples.proofs.second.read.filler_is_clear.Statement.{state
 use Rattle.examples.proofs.second.read.filler_is_clear.Tie as tie
 
 abbrev Inv-loop : tie.InvT-loop
-Inv-loop checks cells bits field k₀ i₀ k i = (i ≤ cells) × (k ≤ i)
+Inv-loop cells field checks bits k₀ i₀ k i = (i ≤ cells) × (k ≤ i)
 
 abbrev μ-loop : tie.MeasureT-loop
-μ-loop checks cells bits field k₀ i₀ k i = cells - i
+μ-loop cells field checks bits k₀ i₀ k i = cells - i
 
 pub filler-is-clear-spec : {M : Type 1} → statement M
 filler-is-clear-spec =
     tie.close
-    (tie.spec Inv-loop μ-loop (λ c. search needs) (λ c. search needs) (λ c. search needs) (λ c κs. search needs) (λ c. search needs)
-    (λ c. search needs) (λ c. search needs) (λ c. search needs) (λ c. ⊎-elim (λ w. search needs) (λ w. search needs) (c .if1 .came))
+    (tie.spec Inv-loop μ-loop (λ c κs. search needs) (λ c κs. search needs) (λ c. search needs) (λ c. search needs)
+    (λ c. search needs) (λ c. search needs) (λ c κs. search needs) (λ c. search needs) (λ c. search needs)
+    (λ c. search needs) (λ c. search needs) (λ c. ⊎-elim (λ w. search needs) (λ w. search needs) (c .if1 .came))
     (λ c. search needs))

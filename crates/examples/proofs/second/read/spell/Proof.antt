@@ -5,13 +5,13 @@ use Rattle.examples.proofs.second.read.spell.Statement.{statement}
 use Rattle.examples.proofs.second.read.spell.Tie as tie
 
 abbrev Inv-loop : tie.InvT-loop
-Inv-loop checks cells field bytes payload₀ q₀ payload q = q ≤ bytes
+Inv-loop cells bytes field checks payload₀ q₀ payload q = q ≤ bytes
 
 abbrev μ-loop : tie.MeasureT-loop
-μ-loop checks cells field bytes payload₀ q₀ payload q = bytes - q
+μ-loop cells bytes field checks payload₀ q₀ payload q = bytes - q
 
 pub spell-spec : {M : Type 1} → statement M
 spell-spec =
     tie.close
-    (tie.spec Inv-loop μ-loop (λ c. search needs) (λ c κs. search needs) (λ c. search needs) (λ c. search needs) (λ c. search needs)
-    (λ c. search needs) (λ c. search needs))
+    (tie.spec Inv-loop μ-loop (λ c κs. search needs) (λ c. search needs) (λ c κs. search needs) (λ c. search needs)
+    (λ c. search needs) (λ c. search needs) (λ c. search needs) (λ c. search needs))
