@@ -28,7 +28,7 @@ use Rattle.card.specs.declared.header.HeaderAnswer.the-variants as head
 use Rattle.card.specs.Card.{maxInput, shapeOf, FieldCells, CardHeader}
 use Rattle.card.specs.Parse.{headerOf, payloadOf}
 use Rattle.card.specs.Program.{blankField, blankPayload, cellsIn, operationNumber, numberAfter, programNumber}
-use Rattle.card.specs.Form.{NoHeader, headerRefusals, TooManyCells, NoBody, operationRefusals, programRefusals, ProgramRefused}
+use Rattle.card.specs.Form.{NoHeader, headerRefusals, TooManyCells, NoBody, operationRefusals, laterRefusals, programRefusals, ProgramRefused}
 use Rattle.card.proofs.ProgramParts.{
   blank-field,
   blank-payload,
@@ -73,10 +73,6 @@ unfolding fieldNumber
 decode-cells h card cells each =
     decode-number (shapeOf h) (card .accepted) (blankPayload h) cells (blank-payload h) (each .long)
     ∙ rw (received-ok (fieldOf cells) (cellsOf (shapeOf h)) (each .each))
-
--- the refusals after the first lines
-abbrev laterRefusals : List ℕ → List Listed
-laterRefusals s = headerRefusals shapeConditions s ++ (listed 8 (TooManyCells s) ∷ listed 8 (NoBody s) ∷ operationRefusals s)
 
 module _ (s : List ℕ) (h : Header) (next : ℕ) (found : headerOf s ≡ head.Found h next) where
   -- the operation's own number

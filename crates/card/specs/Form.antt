@@ -6,7 +6,7 @@ use mathlib.Core.Logic.{_≢_}
 use mathlib.Core.Path.{_≡_}
 use lib.ListN.{length, drop}
 use Rattle.lattice.specs.declared.shape.Shape.{Shape}
-use Rattle.lattice.specs.Refusal.{Listed, listed, Condition, Settled}
+use Rattle.lattice.specs.Refusal.{Listed, listed, Condition, listedBy, Settled}
 use Rattle.lattice.specs.Shape.{shapeConditions, cellsOf}
 use Rattle.codec.specs.Payload.{Bytes}
 use Rattle.codec.specs.Plan.{planClasses, planBytes}
@@ -39,10 +39,9 @@ TooLong s = maxInput < length s
 abbrev pub NoHeader : List ℕ → Type 0
 NoHeader s = ¬ HeaderFirst s
 
--- the shape's refusals, of the header's shape
+-- conditions on a shape, asked of the shape of the header that the input starts with
 abbrev pub headerRefusals : List (Condition Shape) → List ℕ → List Listed
-headerRefusals [] s = []
-headerRefusals (c ∷ cs) s = listed (c .number) ((x : HeaderFirst s) × c .holds (shapeOf (x .header))) ∷ headerRefusals cs s
+headerRefusals cs s = listedBy (λ P. (x : HeaderFirst s) × P (shapeOf (x .header))) cs
 
 -- 8: more than 16,384 cells
 abbrev pub TooManyCells : List ℕ → Type 0
@@ -72,12 +71,13 @@ PaddingRefused s = FieldRefused (λ h cells. WrongPadding (shapeOf h) cells) s
 abbrev pub operationRefusals : List ℕ → List Listed
 operationRefusals s = listed 3 (PayloadRefused s) ∷ listed 6 (ReachRefused s) ∷ listed 7 (PaddingRefused s) ∷ []
 
+-- the refusals after the header: those of its shape, then the card's and the operation's
+abbrev pub laterRefusals : List ℕ → List Listed
+laterRefusals s = headerRefusals shapeConditions s ++ (listed 8 (TooManyCells s) ∷ listed 8 (NoBody s) ∷ operationRefusals s)
+
 -- the program's refusals in the listed order
 abbrev pub programRefusals : List ℕ → List Listed
-programRefusals s =
-    listed 8 (TooLong s)
-    ∷ listed 8 (NoHeader s)
-    ∷ (headerRefusals shapeConditions s ++ (listed 8 (TooManyCells s) ∷ listed 8 (NoBody s) ∷ operationRefusals s))
+programRefusals s = listed 8 (TooLong s) ∷ listed 8 (NoHeader s) ∷ laterRefusals s
 
 -- Theorem (demand 1). The program's number is settled by its refusals in the listed order.
 abbrev pub ProgramRefused : Type 0

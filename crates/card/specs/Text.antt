@@ -57,18 +57,21 @@ pub record NumberLine : Type 0 where
   pub key : List ℕ
   pub number : ℕ
 
+abbrev pub line : List ℕ → ℕ → NumberLine
+line key n = record { key = key; number = n }
+
 -- the texts of lines end to end
 abbrev pub linesText : List NumberLine → List ℕ
 linesText [] = []
 linesText (l ∷ ls) = numberLine (l .key) (l .number) ++ linesText ls
 
--- the lines of these keys with these numbers
+-- the lines of a list of keys with a list of numbers, as they are read
 abbrev pub linesOf : List (List ℕ) → List ℕ → List NumberLine
 linesOf [] ns = []
 linesOf (key ∷ keys) [] = []
-linesOf (key ∷ keys) (n ∷ ns) = record { key = key; number = n } ∷ linesOf keys ns
+linesOf (key ∷ keys) (n ∷ ns) = line key n ∷ linesOf keys ns
 
--- the numbers of a header in the order of their keys, and the header of such numbers
+-- the numbers of a header in the order of its lines, and the header of such numbers
 abbrev pub headerNumbers : Header → List ℕ
 headerNumbers h = let n = h .numbers in n .columns ∷ n .rows ∷ n .planes ∷ n .strength ∷ []
 
@@ -78,7 +81,12 @@ headerFrom ns =
 
 -- the first lines, and their text
 abbrev pub headerLines : Header → List NumberLine
-headerLines h = linesOf headerKeys (headerNumbers h)
+headerLines h =
+    line columnsKey (h .numbers .columns)
+    ∷ line rowsKey (h .numbers .rows)
+    ∷ line planesKey (h .numbers .planes)
+    ∷ line strengthKey (h .numbers .strength)
+    ∷ []
 
 unfoldable pub headerText : Header → List ℕ
 headerText h = linesText (headerLines h)

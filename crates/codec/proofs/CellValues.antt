@@ -1,11 +1,13 @@
 -- The values of a cell: 0 and 1.
-use Prim.Native.Nat.{ℕ, _≤_}
+use Prim.Native.Nat.{ℕ, zero, suc, _≤_}
 use mathlib.Core.Bool.{Bool, true, false, cond}
+use mathlib.Core.Logic.{_⊎_, inl, inr, ⊎-elim, _↔_}
 use mathlib.Core.Path.{_≡_, refl}
+use native.Mathlib.Omega.{arith}
 use native.Mathlib.Nat.{le-trans}
 use lib.Dec.{lit≤}
 use borrow.Author.Tests.{le-leb, leb-true}
-use Rattle.codec.specs.Field.{Field, isCell, Cells, isReceived, Received}
+use Rattle.codec.specs.Field.{Field, isCell, Cells, isReceived, Received, CellValues}
 
 pub cell-most : (v : ℕ) → isCell v ≡ true → v ≤ 1
 unfolding isCell
@@ -37,3 +39,16 @@ cells-received f n p = p
 pub received-digit : (v : ℕ) → isReceived v ≡ true → v ≤ 9
 unfolding isReceived
 received-digit v p = le-trans (cell-most v p) (lit≤ tt)
+
+cell-values : (v : ℕ) → (isCell v ≡ true) ↔ ((v ≡ 0) ⊎ (v ≡ 1))
+cell-values v = (λ e. small v (cell-most v e), λ h. most-cell v (⊎-elim (λ z. omega arith) (λ o. omega arith) h))
+  where
+    small : (n : ℕ) → n ≤ 1 → (n ≡ 0) ⊎ (n ≡ 1)
+    small zero l = inl refl
+    small (suc zero) l = inr refl
+    small (suc (suc n)) l = absurd (omega arith)
+
+-- Theorem. A cell is 0 or 1, and so is each cell of a field that is handed in.
+pub cellValues : CellValues
+unfolding isReceived
+cellValues = record { cell = cell-values; received = cell-values }

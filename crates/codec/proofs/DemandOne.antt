@@ -21,7 +21,7 @@ use Rattle.codec.specs.Hamming.{allInReach}
 use Rattle.codec.specs.Payload.{paddingOk}
 use Rattle.codec.specs.Plan.{planNumber, planClasses, planCapacity, planBytes, planCells}
 use Rattle.codec.specs.Decode.{correctedField, fieldNumber, decodeNumber, decodeCount, decodeLeaves}
-use Rattle.codec.specs.Refused.{NoCell, NoneInReach, WrongPadding, fieldConditions, encodeConditions, decodeConditions, correctConditions, PlanRefused, EncodeRefused, DecodeRefused, CorrectRefused, RefusalsChangeNothing}
+use Rattle.codec.specs.Refused.{NotACell, NoneInReach, WrongPadding, fieldRefusals, encodeRefusals, decodeRefusals, correctRefusals, PlanRefused, EncodeRefused, DecodeRefused, CorrectRefused, RefusalsChangeNothing}
 use Rattle.codec.specs.Encode.{encodeNumber, encodeLeaves}
 use Rattle.codec.specs.Correct.{correctNumber, correctCount, correctLeaves}
 use Rattle.codec.proofs.CellValues.{received-cells}
@@ -37,7 +37,7 @@ equal-decides a b = record { fails = eqb-false a b; passes = λ e other. other (
 
 -- the tests of a field of the plan's length
 module _ (s : Shape) (field : List ℕ) (accepted : Accepted s) (long : length field ≡ cellsOf s) where
-  pub cells-decide : Decides (cellsOk (fieldOf field) (cellsOf s)) (NoCell field)
+  pub cells-decide : Decides (cellsOk (fieldOf field) (cellsOf s)) (NotACell field)
   cells-decide =
       record {
         fails = λ e. let found = not-received (fieldOf field) (cellsOf s) e in (found .0, omega (arith, found .1), found .2);
@@ -73,7 +73,7 @@ module _ (s : Shape) (field : List ℕ) (accepted : Accepted s) (long : length f
 
 -- the number that is due to a field, from its length on
 field-due : (s : Shape) (field : List ℕ) → Accepted s
-    → Due (fieldConditions s field) (unless (eqb (length field) (planCells s)) 4 (fieldNumber s field))
+    → Due (fieldRefusals s field) (unless (eqb (length field) (planCells s)) 4 (fieldNumber s field))
 unfolding fieldNumber
 field-due s field a =
     due-test 3 _ (equal-decides (length field) (planCells s))
@@ -93,7 +93,7 @@ planRefused = shapeRefused
 pub encodeRefused : EncodeRefused
 unfolding encodeNumber
 encodeRefused s payload field =
-    due-settled (encodeConditions s payload field) _
+    due-settled (encodeRefusals s payload field) _
     (due-append (shapeRefusals s) _ _ _ (shape-due s)
     (λ _. due-test 2 _ (equal-decides (length payload) (planBytes s))
     (λ _. due-test 3 _ (equal-decides (length field) (planCells s)) (λ _. due-none))))
@@ -102,7 +102,7 @@ encodeRefused s payload field =
 pub decodeRefused : DecodeRefused
 unfolding decodeNumber
 decodeRefused s payload field =
-    due-settled (decodeConditions s payload field) _
+    due-settled (decodeRefusals s payload field) _
     (due-append (shapeRefusals s) _ _ _ (shape-due s)
     (λ a. due-test 2 _ (equal-decides (length payload) (planBytes s)) (λ _. field-due s field a)))
 
@@ -110,7 +110,7 @@ decodeRefused s payload field =
 pub correctRefused : CorrectRefused
 unfolding correctNumber
 correctRefused s field =
-    due-settled (correctConditions s field) _ (due-append (shapeRefusals s) _ _ _ (shape-due s) (field-due s field))
+    due-settled (correctRefusals s field) _ (due-append (shapeRefusals s) _ _ _ (shape-due s) (field-due s field))
 
 -- Theorem. Beside any number but 0 every lent buffer keeps its bytes and every count and figure is 0.
 pub refusalsChangeNothing : RefusalsChangeNothing

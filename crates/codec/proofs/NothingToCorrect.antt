@@ -12,7 +12,7 @@ use Rattle.codec.specs.Field.{fieldOf, listOf, Same, differences}
 use Rattle.codec.specs.Payload.{Bytes, heldPayload}
 use Rattle.codec.specs.Plan.{planBytes}
 use Rattle.codec.specs.Encode.{encodedField}
-use Rattle.codec.specs.Decode.{correctedField, decodeLeaves}
+use Rattle.codec.specs.Decode.{correctedField, decodeNumber, decodeLeaves}
 use Rattle.codec.specs.Correct.{correctNumber, correctLeaves}
 use Rattle.codec.specs.Reading.{Readable, NearestTo, RightField}
 use Rattle.codec.specs.Recovery.{damaged, damagedField, Recovered, NothingToCorrect}
@@ -98,6 +98,9 @@ module _ (s : Shape) (field : List ℕ) (success : correctNumber s field ≡ 0) 
     count-none : differences (fieldOf L) (found .0) (cellsOf s) ≡ differences (fieldOf L) (fieldOf L) (cellsOf s)
     count-none = differences-zero (fieldOf L) (found .0) (cellsOf s) holds ∙ sym (differences-self (fieldOf L) (cellsOf s))
 
+    read-back : decodeNumber s buffer field ≡ 0
+    read-back = decodeMeaning s buffer field (readable s field success) fits .success .1 found
+
     mended : Recovered s (decodeLeaves s buffer field) L L buffer
     mended =
         let m = decodeMeaning s buffer L L-readable fits in
@@ -117,4 +120,9 @@ module _ (s : Shape) (field : List ℕ) (success : correctNumber s field ≡ 0) 
 -- Theorem. A field that is not damaged comes back as it is, with the count 0.
 pub nothingToCorrect : NothingToCorrect
 unfolding L
-nothingToCorrect = record { written = written; mended = mended; count = differences-self }
+nothingToCorrect =
+    record {
+      written = written;
+      mended = λ s field e buffer fits. (read-back s field e buffer fits, mended s field e buffer fits);
+      count = differences-self;
+    }

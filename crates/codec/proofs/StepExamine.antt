@@ -3,8 +3,10 @@ use Prim.Native.Nat.{ℕ}
 use mathlib.Core.Bool.{Bool, true, false}
 use mathlib.Core.List.{List}
 use mathlib.Core.Path.{_≡_, ap, _∙_}
+use native.Mathlib.Omega.{arith}
 use lib.ListN.{length}
 use Rattle.lattice.specs.declared.shape.Shape.{Shape}
+use Rattle.lattice.specs.Refusal.{unless}
 use Rattle.lattice.specs.Shape.{cellsOf}
 use Rattle.lattice.specs.Class.{classesOf, classAt}
 use Rattle.lattice.proofs.Answers.{unless-zero}
@@ -38,6 +40,19 @@ module _ (s : Shape) (field : List ℕ) where
       pub number-none : paddingOk (classAt s) (cellsOf s) (correctedField s field) ≡ true → 0 ≡ fieldNumber s field
       unfolding fieldNumber
       number-none r = rw (p, q, r)
+
+-- it is never 4
+pub field-other : (s : Shape) (field : List ℕ) → fieldNumber s field ≡ 4 → ⊥
+unfolding fieldNumber
+field-other s field e =
+    go (cellsOk (fieldOf field) (cellsOf s)) (allInReach (classAt s) (cellsOf s) (classesOf s) (fieldOf field))
+    (paddingOk (classAt s) (cellsOf s) (correctedField s field)) e
+  where
+    go : (a b c : Bool) → unless a 5 (unless b 6 (unless c 7 0)) ≡ 4 → ⊥
+    go true true true p = omega arith
+    go true true false p = omega arith
+    go true false c p = omega arith
+    go false b c p = omega arith
 
 -- beside 0 the field has nothing but cells
 pub zero-cells : (s : Shape) (field : List ℕ) → fieldNumber s field ≡ 0 → Received (fieldOf field) (cellsOf s)

@@ -1,7 +1,9 @@
 -- The answers: for each case of an answer enum, the papers' number and figures, and what a contract says of them.
 use Prim.Native.Nat.{ℕ}
 use mathlib.Core.List.{List}
+use mathlib.Core.Logic.{_≢_}
 use mathlib.Core.Path.{_≡_}
+use Rattle.lattice.specs.declared.refusal.Refusal.the-variants as why
 use Rattle.lattice.specs.declared.shape.Shape.{Shape}
 use Rattle.lattice.specs.Refusal.{refusalNumber}
 use Rattle.codec.specs.declared.plan.FieldPlan.{FieldPlan}
@@ -21,11 +23,11 @@ use Rattle.codec.specs.Correct.{correctNumber, correctCount, correctLeav
 -- the plan's answer
 abbrev pub planAnswerNumber : PlanAnswer → ℕ
 planAnswerNumber (plan.Planned p) = 0
-planAnswerNumber (plan.Refused why) = refusalNumber why
+planAnswerNumber (plan.Refused q) = refusalNumber q
 
 abbrev pub planFigures : PlanAnswer → FieldPlan
 planFigures (plan.Planned p) = p
-planFigures (plan.Refused why) = record { classes = 0; capacity = 0; bytes = 0; cells = 0 }
+planFigures (plan.Refused q) = record { classes = 0; capacity = 0; bytes = 0; cells = 0 }
 
 -- the number and the four figures, each 0 beside a refusal
 pub record IsPlan (s : Shape) (r : PlanAnswer) : Type 0 where
@@ -38,39 +40,42 @@ pub record IsPlan (s : Shape) (r : PlanAnswer) : Type 0 where
 -- encoding's answer
 abbrev pub encodeAnswerNumber : EncodeAnswer → ℕ
 encodeAnswerNumber enc.Encoded = 0
-encodeAnswerNumber (enc.Refused why) = refusalNumber why
+encodeAnswerNumber (enc.Refused q) = refusalNumber q
 
--- the number, and the bytes of the lent field at the end
+-- the number, and the bytes of the lent field at the end; of the two reasons with the number 4 it is the field's length, here and below
 pub record IsEncoded (s : Shape) (payload field last : List ℕ) (r : EncodeAnswer) : Type 0 where
   pub number : encodeAnswerNumber r ≡ encodeNumber s payload field
   pub leaves : last ≡ encodeLeaves s payload field
+  pub reason : r ≢ enc.Refused why.OutsideShape
 
 -- decoding's answer
 abbrev pub decodeAnswerNumber : DecodeAnswer → ℕ
 decodeAnswerNumber (dec.Decoded k) = 0
-decodeAnswerNumber (dec.Refused why) = refusalNumber why
+decodeAnswerNumber (dec.Refused q) = refusalNumber q
 
 abbrev pub decodeAnswerCount : DecodeAnswer → ℕ
 decodeAnswerCount (dec.Decoded k) = k
-decodeAnswerCount (dec.Refused why) = 0
+decodeAnswerCount (dec.Refused q) = 0
 
 -- the number, the count, 0 beside a refusal, and the bytes of the lent payload at the end
 pub record IsDecoded (s : Shape) (payload field last : List ℕ) (r : DecodeAnswer) : Type 0 where
   pub number : decodeAnswerNumber r ≡ decodeNumber s payload field
   pub count : decodeAnswerCount r ≡ decodeCount s payload field
   pub leaves : last ≡ decodeLeaves s payload field
+  pub reason : r ≢ dec.Refused why.OutsideShape
 
 -- correcting's answer
 abbrev pub correctAnswerNumber : CorrectAnswer → ℕ
 correctAnswerNumber (cor.Corrected k) = 0
-correctAnswerNumber (cor.Refused why) = refusalNumber why
+correctAnswerNumber (cor.Refused q) = refusalNumber q
 
 abbrev pub correctAnswerCount : CorrectAnswer → ℕ
 correctAnswerCount (cor.Corrected k) = k
-correctAnswerCount (cor.Refused why) = 0
+correctAnswerCount (cor.Refused q) = 0
 
 -- the number, the count, 0 beside a refusal, and the bytes of the lent field at the end
 pub record IsCorrected (s : Shape) (field last : List ℕ) (r : CorrectAnswer) : Type 0 where
   pub number : correctAnswerNumber r ≡ correctNumber s field
   pub count : correctAnswerCount r ≡ correctCount s field
   pub leaves : last ≡ correctLeaves s field
+  pub reason : r ≢ cor.Refused why.OutsideShape

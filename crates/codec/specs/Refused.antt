@@ -26,8 +26,8 @@ abbrev pub WrongField : Shape → List ℕ → Type 0
 WrongField s field = length field ≢ planCells s
 
 -- 5: some byte is no cell: it is above 1
-abbrev pub NoCell : List ℕ → Type 0
-NoCell field = (i : ℕ) × (i < length field) × (isReceived (getD field i 0) ≡ false)
+abbrev pub NotACell : List ℕ → Type 0
+NotACell field = (i : ℕ) × (i < length field) × (isReceived (getD field i 0) ≡ false)
 
 -- 6: for some class no codeword differs in at most one cell
 abbrev pub NoneInReach : Shape → List ℕ → Type 0
@@ -40,24 +40,24 @@ abbrev pub WrongPadding : Shape → List ℕ → Type 0
 WrongPadding s field =
     (g : Field) × Nearest (classAt s) (cellsOf s) (fieldOf field) g × (¬ PaddingRight (classAt s) (cellsOf s) g)
 
-abbrev pub fieldConditions : Shape → List ℕ → List Listed
-fieldConditions s field =
+abbrev pub fieldRefusals : Shape → List ℕ → List Listed
+fieldRefusals s field =
     listed 4 (WrongField s field)
-    ∷ listed 5 (NoCell field)
+    ∷ listed 5 (NotACell field)
     ∷ listed 6 (NoneInReach s field)
     ∷ listed 7 (WrongPadding s field)
     ∷ []
 
 -- the refusals of each operation, in the listed order
-abbrev pub encodeConditions : Shape → List ℕ → List ℕ → List Listed
-encodeConditions s payload field =
+abbrev pub encodeRefusals : Shape → List ℕ → List ℕ → List Listed
+encodeRefusals s payload field =
     shapeRefusals s ++ (listed 3 (WrongPayload s payload) ∷ listed 4 (WrongField s field) ∷ [])
 
-abbrev pub decodeConditions : Shape → List ℕ → List ℕ → List Listed
-decodeConditions s payload field = shapeRefusals s ++ (listed 3 (WrongPayload s payload) ∷ fieldConditions s field)
+abbrev pub decodeRefusals : Shape → List ℕ → List ℕ → List Listed
+decodeRefusals s payload field = shapeRefusals s ++ (listed 3 (WrongPayload s payload) ∷ fieldRefusals s field)
 
-abbrev pub correctConditions : Shape → List ℕ → List Listed
-correctConditions s field = shapeRefusals s ++ fieldConditions s field
+abbrev pub correctRefusals : Shape → List ℕ → List Listed
+correctRefusals s field = shapeRefusals s ++ fieldRefusals s field
 
 -- Theorem (demand 1). The plan's number is settled by its conditions in the listed order: 1, 2.
 abbrev pub PlanRefused : Type 0
@@ -66,16 +66,16 @@ PlanRefused = (s : Shape) → Settled (shapeRefusals s) (planNumber s)
 -- Theorem (demand 1). Encoding's number is: 1, 2, 3, 4.
 abbrev pub EncodeRefused : Type 0
 EncodeRefused =
-    (s : Shape) (payload field : List ℕ) → Settled (encodeConditions s payload field) (encodeNumber s payload field)
+    (s : Shape) (payload field : List ℕ) → Settled (encodeRefusals s payload field) (encodeNumber s payload field)
 
 -- Theorem (demand 1). Decoding's number is: 1, 2, 3, 4, 5, 6, 7.
 abbrev pub DecodeRefused : Type 0
 DecodeRefused =
-    (s : Shape) (payload field : List ℕ) → Settled (decodeConditions s payload field) (decodeNumber s payload field)
+    (s : Shape) (payload field : List ℕ) → Settled (decodeRefusals s payload field) (decodeNumber s payload field)
 
 -- Theorem (demand 1). Correcting's number is: 1, 2, 4, 5, 6, 7.
 abbrev pub CorrectRefused : Type 0
-CorrectRefused = (s : Shape) (field : List ℕ) → Settled (correctConditions s field) (correctNumber s field)
+CorrectRefused = (s : Shape) (field : List ℕ) → Settled (correctRefusals s field) (correctNumber s field)
 
 -- Theorem (demand 1). Beside any number but 0 every lent buffer keeps its bytes and every count and figure is 0.
 pub record RefusalsChangeNothing : Type 0 where

@@ -1,6 +1,6 @@
 // Correcting, the papers' mending.
 ghost use mathlib.Core.Path.{_≡_};
-ghost use Rattle.lattice.specs.Refusal.{testedNumber};
+ghost use Rattle.lattice.specs.Refusal.{testedNumber, NoOutside};
 ghost use Rattle.lattice.specs.Shape.{cellsOf};
 ghost use Rattle.lattice.specs.Class.{classAt};
 ghost use Rattle.codec.specs.Field.{fieldOf, listOf};
@@ -71,6 +71,7 @@ fn store_corrected(shape: Shape, syndromes: &[u32; Shape::MAX_CLASSES], field: &
 fn correct_tests(shape: Shape, field: &[u8], syndromes: &mut [u32; Shape::MAX_CLASSES]) -> Tested
     requires { ⌜ HoldsZeros (now syndromes) ⌝ }
     ensures { λ r. ⌜ testedNumber r ≡ correctNumber shape (now (field .entry)) ⌝ }
+    ensures { λ r. ⌜ NoOutside r ⌝ }
     ensures { λ r. ⌜ (testedNumber r ≡ 0 → HoldsSyndromes (classAt shape) (fieldOf (now (field .entry))) (now (syndromes .exit)) (cellsOf shape)) ⌝ }
 {
     let tested = shape.tests();

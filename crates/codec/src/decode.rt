@@ -2,7 +2,7 @@
 ghost use mathlib.Core.Path.{_≡_};
 ghost use Prim.Native.Nat.{ℕ};
 ghost use lib.ListN.{getD, length};
-ghost use Rattle.lattice.specs.Refusal.{testedNumber};
+ghost use Rattle.lattice.specs.Refusal.{testedNumber, NoOutside};
 ghost use Rattle.lattice.specs.Shape.{cellsOf};
 ghost use Rattle.lattice.specs.Class.{classAt};
 ghost use Rattle.codec.specs.Field.{fieldOf, Received};
@@ -115,6 +115,7 @@ fn decode_tests(
 ) -> Tested
     requires { ⌜ HoldsZeros (now syndromes) ⌝ }
     ensures { λ r. ⌜ testedNumber r ≡ decodeNumber shape (now (payload .entry)) (now (field .entry)) ⌝ }
+    ensures { λ r. ⌜ NoOutside r ⌝ }
     ensures { λ r. ⌜ (testedNumber r ≡ 0 → Examined shape (now (field .entry)) (now (sizes .exit)) (now (syndromes .exit))) ⌝ }
 {
     let tested = length_tests(shape, payload, field, sizes);

@@ -1,6 +1,6 @@
 // The tests that encoding and decoding share: the shape's, then 3 and 4 for the lengths of the payload and of the field.
 ghost use mathlib.Core.Path.{_≡_};
-ghost use Rattle.lattice.specs.Refusal.{testedNumber};
+ghost use Rattle.lattice.specs.Refusal.{testedNumber, NoOutside};
 ghost use Rattle.codec.specs.Working.{lengthNumber, Fits};
 use lattice::capacity::class_sizes;
 use lattice::capacity::data_in;
@@ -16,6 +16,7 @@ pub(crate) fn length_tests(
     sizes: &mut [u32; Shape::MAX_CLASSES],
 ) -> Tested
     ensures { λ r. ⌜ testedNumber r ≡ lengthNumber shape (now (payload .entry)) (now (field .entry)) ⌝ }
+    ensures { λ r. ⌜ NoOutside r ⌝ }
     ensures { λ r. ⌜ (testedNumber r ≡ 0 → Fits shape (now (payload .entry)) (now (field .entry)) (now (sizes .exit))) ⌝ }
 {
     let tested = shape.tests();

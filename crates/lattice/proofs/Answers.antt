@@ -45,6 +45,22 @@ told e p = sym (ap testedNumber p) ∙ e
 pub told-none : {t : Tested} {n : ℕ} → testedNumber t ≡ n → t ≡ test.Passed → n ≡ 0
 told-none e p = sym e ∙ ap testedNumber p
 
+-- tests whose number is not a reason's do not give that reason
+pub other-reason : {t : Tested} {n : ℕ} → testedNumber t ≡ n → (q : Refusal) → (n ≡ refusalNumber q → ⊥) → t ≡ test.Refused q → ⊥
+other-reason e q other p = other (sym e ∙ ap testedNumber p)
+
+pub passed-reason : (q : Refusal) → test.Passed ≡ test.Refused q → ⊥
+passed-reason q e = let z : _≡_ {A = ℕ} 0 1 = cc in omega arith
+
+pub length-outside : test.Refused why.FieldLength ≡ test.Refused why.OutsideShape → ⊥
+length-outside e = let z : _≡_ {A = ℕ} 0 1 = cc in omega arith
+
+pub outside-length : test.Refused why.OutsideShape ≡ test.Refused why.FieldLength → ⊥
+outside-length e = length-outside (sym e)
+
+pub kept-reason : {t : Tested} {r : Refusal} (q : Refusal) → t ≡ test.Refused r → (t ≡ test.Refused q → ⊥) → r ≡ q → ⊥
+kept-reason q p other e = other (p ∙ ap test.Refused e)
+
 -- an earlier refusal stands, and where there is none the later tests give the number
 pub earlier : (n later : ℕ) → (n ≡ 0 → ⊥) → orElse n later ≡ n
 earlier zero later some = absurd (some refl)

@@ -2,6 +2,7 @@
 use Prim.Native.Nat.{ℕ}
 use mathlib.Core.Bool.{true, false}
 use mathlib.Core.Path.{_≡_, sym, ap, _∙_}
+use native.Mathlib.Omega.{arith}
 use Rattle.lattice.specs.declared.refusal.Refusal.{Refusal}
 use Rattle.lattice.specs.declared.shape.Shape.{Shape}
 use Rattle.lattice.specs.declared.class.Placement.{Placement}
@@ -48,4 +49,5 @@ module _ (s : Shape) (x : Cell) where
       record {
         number = sym (c .none);
         class = done _ _ _ _ (c .none) (e ∙ ap (λ (j : Placement). classBy j x) g ∙ placed s (c .accepted) x);
+        reason = λ z. let n : _≡_ {A = ℕ} 0 1 = cc in omega arith;
       }

@@ -2,10 +2,12 @@
 use Prim.Native.Nat.{ℕ, _*_, _<_, _≤_}
 use mathlib.Core.Bool.{Bool, true, false, _&&_}
 use mathlib.Core.Path.{_≡_, refl, ap}
+use native.Mathlib.Omega.{arith}
 use borrow.Author.Tests.{le-leb, lt-leb, leb-true, eq-eqb, ne-eqb, eqb-true, eqb-false}
 use lib.Dec.{leb, eqb, lit≤}
 use native.Mathlib.Nat.{le-trans}
 use Rattle.lattice.specs.declared.shape.Shape.{Shape}
+use Rattle.lattice.specs.Refusal.{unless}
 use Rattle.lattice.specs.Shape.{maxSide, maxPlanes, maxCells, maxFlatStrength, maxStackStrength, maxStrength, inRange, sizeOk, strengthOk, shapeNumber, Accepted}
 use Rattle.lattice.proofs.Answers.{unless-zero}
 use Rattle.lattice.proofs.Bools.{and-true, and-false-left, and-left, and-right}
@@ -82,6 +84,16 @@ module _ (s : Shape) where
   unfolding shapeNumber
   strength-held p =
       unless-zero (strengthOk (s .planes) (s .strength)) 1 0 (unless-zero (sizeOk (s .columns) (s .rows) (s .planes)) 0 _ p .1) .0
+
+-- it is never 4
+pub number-other : (s : Shape) → shapeNumber s ≡ 4 → ⊥
+unfolding shapeNumber
+number-other s e = go (sizeOk (s .columns) (s .rows) (s .planes)) (strengthOk (s .planes) (s .strength)) e
+  where
+    go : (a b : Bool) → unless a 1 (unless b 2 0) ≡ 4 → ⊥
+    go true true p = omega arith
+    go true false p = omega arith
+    go false b p = omega arith
 
 -- the numbers of a shape within the limits
 pub record Legal (s : Shape) : Type 0 where

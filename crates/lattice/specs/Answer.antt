@@ -1,7 +1,9 @@
 -- The answers: for each case of an answer enum, the papers' number and figures, and what a contract says of them.
 use Prim.Native.Nat.{ℕ}
 use mathlib.Core.Bool.{Bool, false, not}
+use mathlib.Core.Logic.{_≢_}
 use mathlib.Core.Path.{_≡_}
+use Rattle.lattice.specs.declared.refusal.Refusal.the-variants as why
 use Rattle.lattice.specs.declared.shape.Shape.{Shape}
 use Rattle.lattice.specs.declared.shape.ShapeNumbers.{ShapeNumbers}
 use Rattle.lattice.specs.declared.shape.NewShape.{NewShape}
@@ -18,17 +20,18 @@ use Rattle.lattice.specs.Class.{classNumber, classGiven}
 use Rattle.lattice.specs.Order.{origin}
 use Rattle.lattice.specs.DistanceTest.{testNumber, verdict, foundTriple, triplesTried}
 
--- the constructor's answer; the numbers of the shape are 0 beside a refusal
+-- what stands for the shape beside a refusal: every number is 0
 abbrev pub noShape : Shape
 noShape = record { columns = 0; rows = 0; planes = 0; strength = 0 }
 
+-- the constructor's answer
 abbrev pub newNumber : NewShape → ℕ
 newNumber (new.Accepted s) = 0
-newNumber (new.Refused why) = refusalNumber why
+newNumber (new.Refused q) = refusalNumber q
 
 abbrev pub newShape : NewShape → Shape
 newShape (new.Accepted s) = s
-newShape (new.Refused why) = noShape
+newShape (new.Refused q) = noShape
 
 -- the number, and the shape of the numbers given, all 0 beside a refusal
 pub record IsNewShape (n : ShapeNumbers) (r : NewShape) : Type 0 where
@@ -38,33 +41,34 @@ pub record IsNewShape (n : ShapeNumbers) (r : NewShape) : Type 0 where
 -- the answer to the class of a cell
 abbrev pub cellClassNumber : CellClass → ℕ
 cellClassNumber (cls.Class a) = 0
-cellClassNumber (cls.Refused why) = refusalNumber why
+cellClassNumber (cls.Refused q) = refusalNumber q
 
 abbrev pub cellClass : CellClass → ℕ
 cellClass (cls.Class a) = a
-cellClass (cls.Refused why) = 0
+cellClass (cls.Refused q) = 0
 
--- the number, and the class, 0 beside a refusal
+-- the number, and the class, 0 beside a refusal; of the two reasons with the number 4 it is not a field's length
 pub record IsCellClass (s : Shape) (x : Cell) (r : CellClass) : Type 0 where
   pub number : cellClassNumber r ≡ classNumber s x
   pub class : cellClass r ≡ classGiven s x
+  pub reason : r ≢ cls.Refused why.FieldLength
 
 -- the distance test's answer
 abbrev pub distanceNumber : DistanceTest → ℕ
 distanceNumber (dst.Scanned s) = 0
-distanceNumber (dst.Refused why) = refusalNumber why
+distanceNumber (dst.Refused q) = refusalNumber q
 
 abbrev pub distanceVerdict : DistanceTest → Bool
 distanceVerdict (dst.Scanned s) = not (s .found)
-distanceVerdict (dst.Refused why) = false
+distanceVerdict (dst.Refused q) = false
 
 abbrev pub distanceTriple : DistanceTest → Triple
 distanceTriple (dst.Scanned s) = s .triple
-distanceTriple (dst.Refused why) = origin
+distanceTriple (dst.Refused q) = origin
 
 abbrev pub distanceTried : DistanceTest → ℕ
 distanceTried (dst.Scanned s) = s .tried
-distanceTried (dst.Refused why) = 0
+distanceTried (dst.Refused q) = 0
 
 -- the number, the verdict, the triple found or (0, 0, 0), and the counter of triples tried
 pub record IsDistanceTest (m b c t : ℕ) (r : DistanceTest) : Type 0 where

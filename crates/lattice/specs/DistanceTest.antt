@@ -63,7 +63,8 @@ BadTestSettings m b c = Outside 1 maxTestClasses m ⊎ ((m ≤ b) ⊎ (m ≤ c))
 abbrev pub testRefusals : ℕ → ℕ → ℕ → ℕ → List Listed
 testRefusals m b c t = listed 2 (BadTestStrength t) ∷ listed 9 (BadTestSettings m b c) ∷ []
 
--- the figures: the verdict is yes beside the number 0 where no triple is found; beside any other number it is no, the triple (0, 0, 0) and the counter 0
+-- the figures: the verdict is yes beside the number 0 where no triple is found; beside any other number it is no, the triple
+-- (0, 0, 0) and the counter 0
 unfoldable pub verdict : ℕ → ℕ → ℕ → ℕ → Bool
 verdict m b c t = beside (testNumber m b c t) (not (outcome m b c t .found)) false
 

@@ -1,8 +1,8 @@
--- Refusals: their numbers, the number that a list of conditions settles by the order in which they stand, and what comes beside a number.
+-- Refusals: their numbers, the number that a list of conditions settles by the order of the list, and what comes beside a number.
 use Prim.Native.Nat.{ℕ, zero, suc}
 use mathlib.Core.Bool.{Bool, true, false}
 use mathlib.Core.List.{List, [], _∷_}
-use mathlib.Core.Logic.{_⊎_, _↔_}
+use mathlib.Core.Logic.{_≢_, _⊎_, _↔_}
 use mathlib.Core.Path.{_≡_}
 use Rattle.lattice.specs.declared.refusal.Refusal.{Refusal}
 use Rattle.lattice.specs.declared.refusal.Refusal.the-variants as why
@@ -27,6 +27,13 @@ abbrev pub testedNumber : Tested → ℕ
 testedNumber test.Passed = 0
 testedNumber (test.Refused reason) = refusalNumber reason
 
+-- of the two reasons with the number 4, a cell that lies outside the shape is never given as a length, nor a length as such a cell
+abbrev pub NoLength : Tested → Type 0
+NoLength t = t ≢ test.Refused why.FieldLength
+
+abbrev pub NoOutside : Tested → Type 0
+NoOutside t = t ≢ test.Refused why.OutsideShape
+
 -- a number that an operation may give, with the condition under which it is due
 pub record Listed : Type 1 where
   pub number : ℕ
@@ -35,17 +42,21 @@ pub record Listed : Type 1 where
 abbrev pub listed : ℕ → Type 0 → Listed
 listed k P = record { number = k; condition = P }
 
--- the same with a condition on what an operation is given, and the refusals that such conditions list at x
+-- the same with a condition on what an operation is given
 pub record Condition (A : Type 0) : Type 1 where
   pub number : ℕ
   pub holds : A → Type 0
 
-abbrev pub condition : {A : Type 0} → ℕ → (A → Type 0) → Condition A
-condition k P = record { number = k; holds = P }
+abbrev pub numbered : {A : Type 0} → ℕ → (A → Type 0) → Condition A
+numbered k P = record { number = k; holds = P }
+
+-- the refusals that such conditions list, where each is asked in its own way: of x itself, for one
+abbrev pub listedBy : {A : Type 0} → ((A → Type 0) → Type 0) → List (Condition A) → List Listed
+listedBy ask [] = []
+listedBy ask (c ∷ cs) = listed (c .number) (ask (c .holds)) ∷ listedBy ask cs
 
 abbrev pub listedAt : {A : Type 0} → List (Condition A) → A → List Listed
-listedAt [] x = []
-listedAt (c ∷ cs) x = listed (c .number) (c .holds x) ∷ listedAt cs x
+listedAt cs x = listedBy (λ P. P x) cs
 
 -- none of the conditions holds
 abbrev pub NoneHolds : List Listed → Type 0
@@ -57,7 +68,8 @@ abbrev pub FirstIs : ℕ → List Listed → Type 0
 FirstIs k [] = ⊥
 FirstIs k (r ∷ rs) = (r .condition × (r .number ≡ k)) ⊎ ((¬ (r .condition)) × FirstIs k rs)
 
--- n is 0 exactly when none of the conditions holds, and another number exactly when the first that holds has it: no unlisted number is given
+-- n is 0 exactly when none of the conditions holds, and another number exactly when the first that holds has it; so no other number is
+-- given
 abbrev pub Settled : List Listed → ℕ → Type 0
 Settled rs n = ((n ≡ 0) ↔ NoneHolds rs) × ((k : ℕ) → (n ≡ suc k) ↔ FirstIs (suc k) rs)
 

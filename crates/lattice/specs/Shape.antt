@@ -5,7 +5,7 @@ use mathlib.Core.List.{List, [], _∷_}
 use mathlib.Core.Logic.{_⊎_}
 use mathlib.Core.Path.{_≡_}
 use lib.Dec.{leb, eqb}
-use Rattle.lattice.specs.Refusal.{Listed, Condition, condition, listedAt, unless, orElse}
+use Rattle.lattice.specs.Refusal.{Listed, Condition, numbered, listedAt, unless, orElse}
 use Rattle.lattice.specs.declared.shape.Shape.{Shape}
 use Rattle.lattice.specs.declared.shape.ShapeNumbers.{ShapeNumbers}
 
@@ -81,8 +81,8 @@ BadStrength d t = Outside 1 (maxStrength d) t
 -- the shape's refusals, in the listed order
 abbrev pub shapeConditions : List (Condition Shape)
 shapeConditions =
-    condition 1 (λ s. BadSize (s .columns) (s .rows) (s .planes))
-    ∷ condition 2 (λ s. BadStrength (s .planes) (s .strength))
+    numbered 1 (λ s. BadSize (s .columns) (s .rows) (s .planes))
+    ∷ numbered 2 (λ s. BadStrength (s .planes) (s .strength))
     ∷ []
 
 abbrev pub shapeRefusals : Shape → List Listed

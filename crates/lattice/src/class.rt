@@ -2,7 +2,7 @@
 ghost use mathlib.Core.Path.{_≡_};
 ghost use Prim.Native.Nat.{_/_, _%_, _<_};
 ghost use Rattle.lattice.specs.Cell.{cell, cellAt};
-ghost use Rattle.lattice.specs.Refusal.{testedNumber};
+ghost use Rattle.lattice.specs.Refusal.{testedNumber, NoLength};
 ghost use Rattle.lattice.specs.Class.{minusMod, classWith, inside, classNumber, placementOf, classBy};
 ghost use Rattle.lattice.specs.Answer.{IsCellClass, cellClassNumber, cellClass};
 use crate::refusal::Refusal;
@@ -119,6 +119,7 @@ impl Shape {
     // The tests of the class of a cell: 1, 2, 4.
     fn class_tests(self, row: usize, plane: usize, column: usize) -> Tested
         ensures { λ r. ⌜ testedNumber r ≡ classNumber self (cell row plane column) ⌝ }
+        ensures { λ r. ⌜ NoLength r ⌝ }
     {
         let tested = self.tests();
         if let Tested::Refused(why) = tested {

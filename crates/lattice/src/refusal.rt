@@ -1,6 +1,6 @@
 // Why an operation refuses, and what the tests of an operation give.
 ghost use mathlib.Core.Path.{_≡_};
-ghost use Rattle.lattice.specs.Refusal.{refusalNumber, testedNumber};
+ghost use Rattle.lattice.specs.Refusal.{refusalNumber};
 
 // A case for each reason. A field whose length is wrong and a cell outside the shape are two reasons with the number 4.
 pub enum Refusal {
@@ -40,16 +40,4 @@ impl Refusal {
 pub enum Tested {
     Passed,
     Refused(Refusal),
-}
-
-impl Tested {
-    // The papers' number: 0 where the tests pass.
-    pub fn number(self) -> usize
-        ensures { λ r. ⌜ r ≡ testedNumber self ⌝ }
-    {
-        match self {
-            Tested::Passed => 0,
-            Tested::Refused(why) => why.number(),
-        }
-    }
 }

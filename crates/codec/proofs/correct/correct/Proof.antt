@@ -1,9 +1,12 @@
 -- `correct` meets its contract: a refusal settles the answer, and else the mended field is stored.
+use Prim.Native.Nat.{ℕ}
 use mathlib.Core.Path.{_≡_, sym, ap}
+use native.Mathlib.Omega.{arith}
 use borrow.Author.Needs.{needs}
 use Rattle.codec.specs.Correct.{correctNumber, correctCount, correctLeaves}
+use Rattle.lattice.specs.declared.refusal.Refusal.the-variants as why
 use Rattle.lattice.specs.Refusal.{testedNumber}
-use Rattle.lattice.proofs.Answers.{refused, done, told, told-none}
+use Rattle.lattice.proofs.Answers.{refused, done, told, told-none, kept-reason}
 use Rattle.codec.proofs.StepNumber.{correct-taken}
 use Rattle.codec.proofs.StepPlace.{zeros}
 use Rattle.codec.proofs.correct.correct.Statement.{statement}
@@ -25,9 +28,15 @@ same-length c = search needs
 returns : tie.Need-returns
 unfolding correctCount correctLeaves
 returns c =
-    let why = c .before .tested .given .0 .0 in
-    let e = told (c .before .before .before .correct-tests .ensures .0) (c .before .tested .given .1) in
-    record { number = e; count = refused why _ _ _ e; leaves = refused why _ _ _ e }
+    let r = c .before .tested .given in
+    let t = c .before .before .before .correct-tests .ensures in
+    let e = told (t .0) (r .1) in
+    record {
+      number = e;
+      count = refused (r .0 .0) _ _ _ e;
+      leaves = refused (r .0 .0) _ _ _ e;
+      reason = λ z. let same : r .0 .0 ≡ why.OutsideShape = cc in kept-reason why.OutsideShape (r .1) (t .1 .0) same;
+    }
 
 enum-told : tie.Need-enum-told
 enum-told c = search needs
@@ -35,7 +44,7 @@ enum-told c = search needs
 store-corrected-requires : tie.Need-store-corrected-requires
 store-corrected-requires c κs =
     let e = c .before .before in
-    (correct-taken _ _ (none e) .fits, e .before .before .correct-tests .ensures .1 (ap testedNumber (e .enum-told .given .1)))
+    (correct-taken _ _ (none e) .fits, e .before .before .correct-tests .ensures .1 .1 (ap testedNumber (e .enum-told .given .1)))
 
 same-length-2 : tie.Need-same-length-2
 same-length-2 c = search needs
@@ -45,7 +54,12 @@ unfolding correctCount correctLeaves
 returns-2 c =
     let z = none (c .before .before .before .before .before) in
     let made = c .before .before .store-corrected .ensures in
-    record { number = sym z; count = done _ _ _ _ z (made .1); leaves = done _ _ _ _ z (made .0) }
+    record {
+      number = sym z;
+      count = done _ _ _ _ z (made .1);
+      leaves = done _ _ _ _ z (made .0);
+      reason = λ e. let n : _≡_ {A = ℕ} 0 1 = cc in omega arith;
+    }
 
 pub correct-spec : {M : Type 1} → statement M
 correct-spec =

@@ -3,10 +3,13 @@ use mathlib.Core.Path.{sym, _∙_}
 use native.Mathlib.Omega.{arith}
 use borrow.Author.Needs.{needs}
 use lib.ListN.{length}
+use Rattle.lattice.specs.declared.refusal.Refusal.the-variants as why
 use Rattle.lattice.specs.Shape.{Accepted}
 use Rattle.codec.specs.Working.{FieldFits}
-use Rattle.lattice.proofs.Answers.{told, told-none, some-number}
+use Rattle.lattice.proofs.Answers.{told, told-none, some-number, other-reason, length-outside}
+use Rattle.lattice.proofs.Limits.{number-other}
 use Rattle.codec.proofs.Accepted.{plan-cells, correct-number}
+use Rattle.codec.proofs.StepExamine.{field-other}
 use Rattle.codec.proofs.StepNumber.{cells-given, correct-refused, correct-length}
 use Rattle.codec.proofs.StepPlace.{sizes-given}
 use Rattle.codec.proofs.correct.correct_tests.Statement.{statement}
@@ -29,8 +32,9 @@ enum-known-tested c = search needs
 
 returns : tie.Need-returns
 returns c =
-    let why = c .before .tested .given .0 .0 in
-    (correct-refused _ _ why (told (c .before .before .before .tests .ensures) (c .before .tested .given .1)), λ z. absurd (some-number why z))
+    let r = c .before .tested .given in
+    let e = told (c .before .before .before .tests .ensures) (r .1) in
+    (correct-refused _ _ (r .0 .0) e, (other-reason e why.OutsideShape (number-other _), λ z. absurd (some-number (r .0 .0) z)))
 
 enum-told : tie.Need-enum-told
 enum-told c = search needs
@@ -41,7 +45,7 @@ cells-requires c κs = search needs
 returns-2 : tie.Need-returns-2
 returns-2 c = (
   sym (correct-length _ _ (accepted (c .before .before)) (λ e. c .if1 .taken (e ∙ sym (cells-given _ _ (c .before .cells .ensures))))),
-  λ z. absurd (omega arith),
+  (length-outside, λ z. absurd (omega arith)),
 )
 
 class-sizes-requires : tie.Need-class-sizes-requires
@@ -55,8 +59,10 @@ examine-requires c κs =
 
 returns-3 : tie.Need-returns-3
 returns-3 c =
-    let f = fits (c .before .before .before .before .before) in
-    (c .examine .ensures .0 ∙ sym (correct-number _ (f .accepted) _ (f .long)), λ z. c .examine .ensures .1 .held)
+    let f = fits (c .before .before .before .before .before) in (
+      c .examine .ensures .0 ∙ sym (correct-number _ (f .accepted) _ (f .long)),
+      (other-reason (c .examine .ensures .0) why.OutsideShape (field-other _ _), λ z. c .examine .ensures .1 .held),
+    )
 
 pub correct-tests-spec : {M : Type 1} → statement M
 correct-tests-spec =

@@ -1,9 +1,11 @@
 -- `decode_tests` meets its contract: the tests of the lengths, then the field's own.
 use mathlib.Core.Path.{_≡_, sym, ap, _∙_}
 use borrow.Author.Needs.{needs}
-use Rattle.lattice.proofs.Answers.{told, told-none, some-number, earlier-told, none-earlier}
+use Rattle.lattice.proofs.Answers.{told, told-none, some-number, other-reason, kept-reason, earlier-told, none-earlier}
+use Rattle.lattice.specs.declared.refusal.Refusal.the-variants as why
 use Rattle.lattice.specs.Refusal.{testedNumber}
 use Rattle.codec.specs.Working.{lengthNumber}
+use Rattle.codec.proofs.StepExamine.{field-other}
 use Rattle.codec.proofs.StepNumber.{decode-tests}
 use Rattle.codec.proofs.decode.decode_tests.Statement.{statement}
 use Rattle.codec.proofs.decode.decode_tests.Tie as tie
@@ -21,9 +23,13 @@ enum-known-tested c = search needs
 
 returns : tie.Need-returns
 returns c =
-    let why = c .before .tested .given .0 .0 in (
-      earlier-told why _ _ (told (c .before .before .before .length-tests .ensures .0) (c .before .tested .given .1)) ∙ decode-tests _ _ _,
-      λ z. absurd (some-number why z),
+    let r = c .before .tested .given in
+    let t = c .before .before .before .length-tests .ensures in (
+      earlier-told (r .0 .0) _ _ (told (t .0) (r .1)) ∙ decode-tests _ _ _,
+      (
+        (λ e. let same : r .0 .0 ≡ why.OutsideShape = cc in kept-reason why.OutsideShape (r .1) (t .1 .0) same),
+        λ z. absurd (some-number (r .0 .0) z),
+      ),
     )
 
 enum-told : tie.Need-enum-told
@@ -32,13 +38,13 @@ enum-told c = search needs
 examine-requires : tie.Need-examine-requires
 examine-requires c κs =
     let e = c .before .before in
-    let fits = e .before .before .length-tests .ensures .1 (ap testedNumber (e .enum-told .given .1)) in
+    let fits = e .before .before .length-tests .ensures .1 .1 (ap testedNumber (e .enum-told .given .1)) in
     (fits .of-field, (fits .of-payload .sized, c .before .before .before .before .before .before .before .before .pre))
 
 returns-2 : tie.Need-returns-2
 returns-2 c = (
   c .examine .ensures .0 ∙ sym (none-earlier _ _ (none (c .before .before .before))) ∙ decode-tests _ _ _,
-  λ z. c .examine .ensures .1,
+  (other-reason (c .examine .ensures .0) why.OutsideShape (field-other _ _), λ z. c .examine .ensures .1),
 )
 
 pub decode-tests-spec : {M : Type 1} → statement M

@@ -1,9 +1,12 @@
 -- `encode` meets its contract: a refusal settles the answer, and else the field is written.
+use Prim.Native.Nat.{ℕ}
 use mathlib.Core.Path.{_≡_, sym, ap, _∙_}
+use native.Mathlib.Omega.{arith}
 use borrow.Author.Needs.{needs}
 use Rattle.codec.specs.Encode.{encodeNumber, encodeLeaves}
+use Rattle.lattice.specs.declared.refusal.Refusal.the-variants as why
 use Rattle.lattice.specs.Refusal.{testedNumber}
-use Rattle.lattice.proofs.Answers.{refused, done, told, told-none}
+use Rattle.lattice.proofs.Answers.{refused, done, told, told-none, kept-reason}
 use Rattle.codec.proofs.StepNumber.{encode-tests}
 use Rattle.codec.proofs.encode.encode.Statement.{statement}
 use Rattle.codec.proofs.encode.encode.Tie as tie
@@ -24,9 +27,14 @@ same-length c = search needs
 returns : tie.Need-returns
 unfolding encodeLeaves
 returns c =
-    let why = c .before .tested .given .0 .0 in
-    let e = told (c .before .before .before .length-tests .ensures .0) (c .before .tested .given .1) ∙ sym (encode-tests _ _ _) in
-    record { number = e; leaves = refused why _ _ _ e }
+    let r = c .before .tested .given in
+    let t = c .before .before .before .length-tests .ensures in
+    let e = told (t .0) (r .1) ∙ sym (encode-tests _ _ _) in
+    record {
+      number = e;
+      leaves = refused (r .0 .0) _ _ _ e;
+      reason = λ z. let same : r .0 .0 ≡ why.OutsideShape = cc in kept-reason why.OutsideShape (r .1) (t .1 .0) same;
+    }
 
 enum-told : tie.Need-enum-told
 enum-told c = search needs
@@ -34,7 +42,7 @@ enum-told c = search needs
 write-field-requires : tie.Need-write-field-requires
 write-field-requires c κs =
     let e = c .before .before in
-    let fits = e .before .before .length-tests .ensures .1 (ap testedNumber (e .enum-told .given .1)) in
+    let fits = e .before .before .length-tests .ensures .1 .1 (ap testedNumber (e .enum-told .given .1)) in
     (fits .of-payload, fits .of-field .long)
 
 same-length-2 : tie.Need-same-length-2
@@ -44,7 +52,11 @@ returns-2 : tie.Need-returns-2
 unfolding encodeLeaves
 returns-2 c =
     let z = none (c .before .before .before .before .before) in
-    record { number = sym z; leaves = done _ _ _ _ z (c .before .before .write-field .ensures) }
+    record {
+      number = sym z;
+      leaves = done _ _ _ _ z (c .before .before .write-field .ensures);
+      reason = λ e. let n : _≡_ {A = ℕ} 0 1 = cc in omega arith;
+    }
 
 pub encode-spec : {M : Type 1} → statement M
 encode-spec =

@@ -1,12 +1,14 @@
 -- `length_tests` meets its contract: the shape's tests, then the lengths.
 use Prim.Native.Nat.{_/_}
-use mathlib.Core.Path.{_≡_, sym, _∙_}
+use mathlib.Core.Path.{_≡_, refl, sym, _∙_}
 use native.Mathlib.Omega.{arith}
 use borrow.Author.Needs.{needs}
 use lib.ListN.{length}
+use Rattle.lattice.specs.declared.refusal.Refusal.the-variants as why
 use Rattle.lattice.specs.Shape.{Accepted, cellsOf}
 use Rattle.lattice.specs.Class.{classAt}
-use Rattle.lattice.proofs.Answers.{told, told-none, some-number}
+use Rattle.lattice.proofs.Answers.{told, told-none, some-number, other-reason, passed-reason, length-outside}
+use Rattle.lattice.proofs.Limits.{number-other}
 use Rattle.codec.specs.Plan.{planBytes}
 use Rattle.codec.specs.Working.{HoldsSizes}
 use Rattle.codec.proofs.Accepted.{plan-bytes, plan-cells}
@@ -37,8 +39,9 @@ enum-known-tested c = search needs
 
 returns : tie.Need-returns
 returns c =
-    let why = c .before .tested .given .0 .0 in
-    (length-refused _ _ _ why (told (c .before .before .before .tests .ensures) (c .before .tested .given .1)), λ z. absurd (some-number why z))
+    let r = c .before .tested .given in
+    let e = told (c .before .before .before .tests .ensures) (r .1) in
+    (length-refused _ _ _ (r .0 .0) e, (other-reason e why.OutsideShape (number-other _), λ z. absurd (some-number (r .0 .0) z)))
 
 enum-told : tie.Need-enum-told
 enum-told c = search needs
@@ -52,7 +55,7 @@ data-in-requires c κs = search needs
 returns-2 : tie.Need-returns-2
 returns-2 c = (
   sym (payload-number _ _ _ (accepted (c .before .before .before)) (λ e. c .if1 .taken (e ∙ sym (planned (c .before))))),
-  λ z. absurd (omega arith),
+  (other-reason refl why.OutsideShape (λ e. omega arith), λ z. absurd (omega arith)),
 )
 
 cells-requires : tie.Need-cells-requires
@@ -64,7 +67,7 @@ returns-3 c =
       sym
           (field-number _ _ _ (accepted (e .before .before .before)) (bytes e)
           (λ z. c .if2 .taken (z ∙ sym (cells-given _ _ (c .before .cells .ensures))))),
-      λ z. absurd (omega arith),
+      (length-outside, λ z. absurd (omega arith)),
     )
 
 returns-4 : tie.Need-returns-4
@@ -73,10 +76,13 @@ returns-4 c =
     let k = e .before .before .before in
     let cells = c .if2 .left ∙ cells-given _ _ (c .before .cells .ensures) in (
       sym (fit-number _ _ _ (accepted k) (bytes e) cells),
-      λ z. record {
-        of-payload = record { accepted = accepted k; long = bytes e ∙ plan-bytes _ (accepted k); sized = sized k };
-        of-field = record { accepted = accepted k; long = cells ∙ plan-cells _ (accepted k) };
-      },
+      (
+        passed-reason why.OutsideShape,
+        λ z. record {
+          of-payload = record { accepted = accepted k; long = bytes e ∙ plan-bytes _ (accepted k); sized = sized k };
+          of-field = record { accepted = accepted k; long = cells ∙ plan-cells _ (accepted k) };
+        },
+      ),
     )
 
 pub length-tests-spec : {M : Type 1} → statement M

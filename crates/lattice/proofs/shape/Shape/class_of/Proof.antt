@@ -1,10 +1,12 @@
 -- `Shape::class_of` meets its contract: a refusal settles the answer, and the class is that by the shape's placement.
+use mathlib.Core.Path.{_≡_}
 use native.Mathlib.Nat.{le-of-lt, le-trans}
 use borrow.Author.Needs.{needs}
 use mir.Facts.{fits-below}
+use Rattle.lattice.specs.declared.refusal.Refusal.the-variants as why
 use Rattle.lattice.specs.Cell.{cell}
 use Rattle.lattice.specs.Class.{classGiven}
-use Rattle.lattice.proofs.Answers.{refused, told, told-none}
+use Rattle.lattice.proofs.Answers.{refused, told, told-none, kept-reason}
 use Rattle.lattice.proofs.ClassNumber.{Classed, classed, class-given}
 use Rattle.lattice.proofs.Limits.{legal}
 use Rattle.lattice.proofs.shape.Shape.class_of.Statement.{statement}
@@ -12,7 +14,7 @@ use Rattle.lattice.proofs.shape.Shape.class_of.Tie as tie
 
 module _ (c : tie.After-enum-told) where
   known : Classed (c .before .before .before .args .self) (cell (c .before .before .before .args .row) (c .before .before .before .args .plane) (c .before .before .before .args .column))
-  known = classed _ _ (told-none (c .before .before .class-tests .ensures) (c .enum-told .given .1))
+  known = classed _ _ (told-none (c .before .before .class-tests .ensures .0) (c .enum-told .given .1))
 
 class-tests-requires : tie.Need-class-tests-requires
 class-tests-requires c κs = search needs
@@ -23,8 +25,14 @@ enum-known-tested c = search needs
 returns : tie.Need-returns
 unfolding classGiven
 returns c =
-    let e = told (c .before .before .before .class-tests .ensures) (c .before .tested .given .1) in
-    record { number = e; class = refused (c .before .tested .given .0 .0) _ _ _ e }
+    let r = c .before .tested .given in
+    let t = c .before .before .before .class-tests .ensures in
+    let e = told (t .0) (r .1) in
+    record {
+      number = e;
+      class = refused (r .0 .0) _ _ _ e;
+      reason = λ z. let same : r .0 .0 ≡ why.FieldLength = cc in kept-reason why.FieldLength (r .1) (t .1) same;
+    }
 
 enum-told : tie.Need-enum-told
 enum-told c = search needs

@@ -1,10 +1,12 @@
 -- `Shape::class_tests` meets its contract: the shape's tests, then the cell's.
 use mathlib.Core.Path.{sym}
 use borrow.Author.Needs.{needs}
+use Rattle.lattice.specs.declared.refusal.Refusal.the-variants as why
 use Rattle.lattice.specs.Shape.{Accepted}
-use Rattle.lattice.proofs.Answers.{told, told-none}
+use Rattle.lattice.proofs.Answers.{told, told-none, other-reason, passed-reason, outside-length}
 use Rattle.lattice.proofs.Bools.{failed, passed}
 use Rattle.lattice.proofs.ClassNumber.{class-refused, outside-number, inside-number}
+use Rattle.lattice.proofs.Limits.{number-other}
 use Rattle.lattice.proofs.shape.Shape.class_tests.Statement.{statement}
 use Rattle.lattice.proofs.shape.Shape.class_tests.Tie as tie
 
@@ -18,7 +20,10 @@ enum-known-tested : tie.Need-enum-known-tested
 enum-known-tested c = search needs
 
 returns : tie.Need-returns
-returns c = class-refused _ _ (c .before .tested .given .0 .0) (told (c .before .before .before .tests .ensures) (c .before .tested .given .1))
+returns c =
+    let r = c .before .tested .given in
+    let e = told (c .before .before .before .tests .ensures) (r .1) in
+    (class-refused _ _ (r .0 .0) e, other-reason e why.FieldLength (number-other _))
 
 enum-told : tie.Need-enum-told
 enum-told c = search needs
@@ -27,10 +32,16 @@ contains-requires : tie.Need-contains-requires
 contains-requires c κs = search needs
 
 returns-2 : tie.Need-returns-2
-returns-2 c = sym (outside-number _ _ (accepted (c .before .before)) (failed _ _ (c .if1 .taken) (c .before .contains .ensures)))
+returns-2 c = (
+  sym (outside-number _ _ (accepted (c .before .before)) (failed _ _ (c .if1 .taken) (c .before .contains .ensures))),
+  outside-length,
+)
 
 returns-3 : tie.Need-returns-3
-returns-3 c = sym (inside-number _ _ (accepted (c .before .before)) (passed _ _ (c .if1 .left) (c .before .contains .ensures)))
+returns-3 c = (
+  sym (inside-number _ _ (accepted (c .before .before)) (passed _ _ (c .if1 .left) (c .before .contains .ensures))),
+  passed-reason why.FieldLength,
+)
 
 pub class-tests-spec : {M : Type 1} → statement M
 class-tests-spec =
