@@ -1,4 +1,4 @@
--- `position` is safe, ends and is at most 512. Invariant: a position is at most the number of cells passed.
+-- `position` is safe, ends and is at most the number of cells. Invariant: a position is at most the number of cells passed.
 use Prim.Native.Nat.{_≤_, _+_, _-_}
 use mathlib.Core.Logic.{⊎-elim}
 use borrow.Author.Needs.{needs}
