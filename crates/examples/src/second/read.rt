@@ -45,7 +45,8 @@ fn refusal(shape: Shape, field: &Buffer, cells: usize) -> usize
 
 const OUT_OF_REACH: usize = CELLS + 1;
 
-// The cell of class a that makes the class lawful when it is turned over; NONE where the class is lawful, OUT_OF_REACH where no cell does.
+// The cell of class a that makes the class lawful when it is turned over; NONE where the class is lawful, OUT_OF_REACH where no
+// cell does.
 fn culprit(classes: &Classes, cells: usize, a: u16, field: &Buffer) -> usize
     requires { do ⌜ cells ≤ (← ⟦CELLS⟧) ⌝ }
 {

@@ -106,7 +106,8 @@ pub(crate) fn settings_of(shape: Shape) -> Settings {
     stack(shape.strength)
 }
 
-// The class of a cell, by search: the first a of 0 to m − 1 of which a + b × row + c × plane and the column have the same remainder.
+// The class of a cell, by search: the first a of 0 to m − 1 of which a + b × row + c × plane and the column have the same
+// remainder.
 pub(crate) fn class(settings: Settings, row: u16, plane: u16, column: u16) -> u16 {
     let m = settings.m;
     let before = times(settings.b, row) + times(settings.c, plane);

@@ -107,7 +107,8 @@ fn settle(classes: &Classes, checks: &Buffer, cells: usize, m: u16, field: &mut 
     }
 }
 
-// The field of a payload, with cells past the payload that hold `filler`: document 01 has them 0. What lies behind the field stays.
+// The field of a payload, with cells past the payload that hold `filler`: document 01 has them 0. What lies behind the field
+// stays.
 pub(crate) fn write_with(
     shape: Shape,
     payload: Buffer,
