@@ -10,8 +10,8 @@ pub(crate) const CELLS: usize = 512;
 // A payload or a field lies at its start.
 pub(crate) type Buffer = [u8; CELLS];
 
-// The figures that an operation does not have are 0, and so is every figure on each number above 0. An operation that is lent no buffer to
-// change has zeros for it.
+// The figures that an operation does not have are 0, and so is every figure on each number above 0. An operation that is lent
+// no buffer to change has zeros for it.
 pub(crate) struct Answer {
     pub(crate) number: usize,
     pub(crate) figures: [u64; FIGURES],

@@ -1,4 +1,5 @@
 // How often each operation gave each number, and how often the two implementations differed.
+ghost use Prim.Native.Nat.{_≤_};
 use crate::answer;
 use crate::answer::Answer;
 use crate::print;
@@ -38,13 +39,23 @@ pub(crate) fn empty() -> Tally {
     [[0; NUMBERS + 1]; OPERATIONS]
 }
 
-fn add(tally: &mut Tally, operation: usize, entry: usize) {
+// Where a number is counted: one that no operation may give is a difference.
+fn entry(number: usize) -> usize
+    ensures { λ r. do ⌜ r ≤ (← ⟦DIFFERENCES⟧ .entry) ⌝ }
+{
+    if number < NUMBERS {
+        number
+    } else {
+        DIFFERENCES
+    }
+}
+
+fn add(tally: &mut Tally, operation: usize, number: usize) {
     if operation < OPERATIONS {
-        if entry <= DIFFERENCES {
-            let n = tally[operation][entry];
-            if n < MOST {
-                tally[operation][entry] = n + 1;
-            }
+        let k = entry(number);
+        let n = tally[operation][k];
+        if n < MOST {
+            tally[operation][k] = n + 1;
         }
     }
 }
@@ -60,12 +71,13 @@ pub(crate) fn numbers(a: usize, b: usize, c: usize, d: usize) -> Inputs {
     [a as u64, b as u64, c as u64, d as u64, 0, 0, 0]
 }
 
-// Says which operation gave what, what was expected, and what the operation was given.
+// Says what an operation gave, what was expected and what the operation was given. Where the two look alike, the buffers differ.
 fn differ(operation: usize, given: Answer, expected: Answer, inputs: Inputs) {
     name(operation);
     answer::show(given);
+    print::text(b", expected");
     answer::show(expected);
-    print::text(b" at");
+    print::text(b", at");
     print::numbers(&inputs);
     print::end_line();
 }

@@ -193,8 +193,8 @@ fn even_strength() {
     class(shape, 2, 0, 0);
 }
 
-// Error 3: the cell that an exclusive or above n names, in the next class. The second and the fourth cell of class 0 are turned over, so the
-// exclusive or is 6, and the class has 5 cells.
+// Error 3: the cell that an exclusive or above n names, in the next class. The second and the fourth cell of class 0 are turned
+// over, so the exclusive or is 6, and the class has 5 cells.
 fn beyond_the_class(card: Buffer) {
     read_and_mend(
         b"that card with cells 2 and 4 of class 0 turned over: read ",
@@ -210,8 +210,8 @@ fn last_class(card: Buffer) {
     );
 }
 
-// Error 5: positions counted along columns. In byte order the three cells are at positions 1, 2 and 3 of class 0, which is lawful; along
-// columns they would be at 1, 4 and 2.
+// Error 5: positions counted along columns. In byte order the three cells are at positions 1, 2 and 3 of class 0, which is
+// lawful; along columns they would be at 1, 4 and 2.
 fn byte_order() {
     read_and_mend(
         b"a card with cells 1, 2 and 3 of class 0 alone: read ",

@@ -77,12 +77,14 @@ fn case(tally: &mut Tally, shape: Shape, cells: usize, bytes: usize, case: usize
     compare::coding::mend(tally, shape, field, lent_cells);
 }
 
-// The 14 cases of a shape.
+// How often a field of a shape is written, read and mended.
+const CASES: usize = 14;
+
 fn cases(tally: &mut Tally, shape: Shape, cells: usize, bytes: usize, k: usize)
     requires { do ⌜ (0 < cells) × ((cells ≤ (← ⟦CELLS⟧)) × (bytes ≤ (← ⟦CELLS⟧))) ⌝ }
 {
     let mut v = 0;
-    while v < 14 {
+    while v < CASES {
         case(tally, shape, cells, bytes, v, random::seed(k, v));
         v += 1;
     }
@@ -99,11 +101,13 @@ fn coordinate(x: u64, side: u16) -> usize {
     random::below(x, side as u64) as usize
 }
 
-// The classes of a few cells.
+// How many cells of a shape have their classes compared.
+const CLASSES: usize = 12;
+
 fn classes(tally: &mut Tally, shape: Shape, k: usize) {
     let mut x = random::seed(k, 200);
     let mut v: usize = 0;
-    while v < 12 {
+    while v < CLASSES {
         let row = coordinate(x, shape.rows);
         x = random::next(x);
         let plane = coordinate(x, shape.planes);
@@ -140,7 +144,7 @@ fn all_of(tally: &mut Tally, shape: Shape, k: usize) {
 
 pub(crate) fn all(tally: &mut Tally) {
     let mut k = 0;
-    while k < shapes::CASES {
+    while k < shapes::SHAPES {
         all_of(tally, shapes::shape(k), k);
         k += 1;
     }

@@ -26,9 +26,16 @@ fn edge(x: u64) -> usize {
     }
 }
 
+// How many shapes are made, cells outside a shape looked up, and settings gauged.
+const SHAPES: usize = 600;
+
+const CLASSES: usize = 200;
+
+const GAUGES: usize = 400;
+
 pub(crate) fn shapes(tally: &mut Tally) {
     let mut k = 0;
-    while k < 600 {
+    while k < SHAPES {
         let x = random::seed(k, 300);
         let y = random::next(x);
         let z = random::next(y);
@@ -46,7 +53,7 @@ pub(crate) fn classes(tally: &mut Tally) {
         strength: 5,
     };
     let mut k = 0;
-    while k < 200 {
+    while k < CLASSES {
         let x = random::seed(k, 400);
         let y = random::next(x);
         compare::placing::class(tally, shape, edge(x), edge(y), edge(random::next(y)));
@@ -107,7 +114,7 @@ fn gauge(tally: &mut Tally, k: usize) {
 
 pub(crate) fn gauges(tally: &mut Tally) {
     let mut k = 0;
-    while k < 400 {
+    while k < GAUGES {
         gauge(tally, k);
         k += 1;
     }

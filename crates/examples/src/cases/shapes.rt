@@ -12,9 +12,18 @@ fn shape_of(columns: u16, rows: u16, planes: u16, strength: u16) -> Shape {
     }
 }
 
+// How many shapes of each kind there are.
+const FLAT: usize = 96;
+
+const STACKS: usize = 64;
+
+const ODD: usize = 20;
+
+pub(crate) const SHAPES: usize = FLAT + STACKS + ODD;
+
 // Case k of the flat shapes: each strength from 1 to 32, each with a small, a middling and a large field.
 fn flat(k: usize) -> Shape
-    requires { ⌜ k < 96 ⌝ }
+    requires { do ⌜ k < (← ⟦FLAT⟧) ⌝ }
 {
     let t = (k / 3 + 1) as u16;
     let x = random::seed(k, 100);
@@ -48,7 +57,7 @@ fn large(k: usize, t: u16) -> Shape {
 
 // Case k of the stacks: each strength from 1 to 8, with rows, planes and columns that all differ.
 fn stack(k: usize) -> Shape
-    requires { ⌜ k < 64 ⌝ }
+    requires { do ⌜ k < (← ⟦STACKS⟧) ⌝ }
 {
     let t = (k / 8 + 1) as u16;
     match k % 8 {
@@ -89,15 +98,13 @@ fn odd(k: usize) -> Shape {
     }
 }
 
-pub(crate) const CASES: usize = 180;
-
-// Case k of the shapes: 96 flat ones, 64 stacks, and 20 odd ones.
+// Shape k: the flat ones, the stacks, and the odd ones.
 pub(crate) fn shape(k: usize) -> Shape {
-    if k < 96 {
+    if k < FLAT {
         flat(k)
-    } else if k < 160 {
-        stack(k - 96)
+    } else if k < FLAT + STACKS {
+        stack(k - FLAT)
     } else {
-        odd(k - 160)
+        odd(k - FLAT - STACKS)
     }
 }

@@ -1,11 +1,20 @@
 // The gauge: every triple of a cube is looked at, in order, and those that do not count are passed over.
-ghost use Prim.Native.Nat.{_<_, _≤_};
+ghost use Prim.Native.Nat.{_<_};
 use crate::answer;
 use crate::answer::Answer;
 use crate::second::settings;
 
+// The largest strength that is gauged, and the most classes.
+const STRENGTH: usize = 18;
+
+const CLASSES: usize = 4096;
+
 // A coordinate of the cube is a number from −17 to 17, held with 17 added.
-pub(crate) const ZERO: u16 = 17;
+const ZERO: u16 = 17;
+
+const SIDE: u32 = 35;
+
+const TRIPLES: u32 = SIDE * SIDE * SIDE;
 
 struct Triple {
     row: u16,
@@ -15,21 +24,17 @@ struct Triple {
 
 // Triple k of the cube, in rising order of row, then plane, then column.
 fn triple_at(k: u32) -> Triple
-    requires { ⌜ k < 42875 ⌝ }
-    ensures { λ r. ⌜ (r .row < 35) × ((r .plane < 35) × (r .column < 35)) ⌝ }
+    requires { do ⌜ k < (← ⟦TRIPLES⟧) ⌝ }
 {
     Triple {
-        row: (k / 1225) as u16,
-        plane: (k / 35 % 35) as u16,
-        column: (k % 35) as u16,
+        row: (k / SIDE / SIDE) as u16,
+        plane: (k / SIDE % SIDE) as u16,
+        column: (k % SIDE) as u16,
     }
 }
 
 // The absolute value of a coordinate.
-fn size(coordinate: u16) -> u16
-    requires { ⌜ coordinate < 35 ⌝ }
-    ensures { λ r. ⌜ r ≤ 17 ⌝ }
-{
+fn size(coordinate: u16) -> u16 {
     if coordinate < ZERO {
         ZERO - coordinate
     } else {
@@ -49,11 +54,13 @@ fn is_first_positive(x: Triple) -> bool {
 }
 
 // Whether a triple is tried at strength t.
-fn counts(x: Triple, t: u16) -> bool
-    requires { ⌜ (x .row < 35) × ((x .plane < 35) × (x .column < 35)) ⌝ }
-{
-    let sum = size(x.row) + size(x.plane) + size(x.column);
-    if sum < t { is_first_positive(x) } else { false }
+fn counts(x: Triple, t: u16) -> bool {
+    let sum = size(x.row) as u32 + size(x.plane) as u32 + size(x.column) as u32;
+    if sum < t as u32 {
+        is_first_positive(x)
+    } else {
+        false
+    }
 }
 
 // Whether column − b × row − c × plane is divisible by m: the negative parts are moved to the other side.
@@ -75,7 +82,7 @@ fn search(m: u16, b: u16, c: u16, t: u16) -> Answer
 {
     let mut tried: u64 = 0;
     let mut k: u32 = 0;
-    while k < 42875 {
+    while k < TRIPLES {
         let x = triple_at(k);
         if counts(x, t) {
             tried += 1;
@@ -97,13 +104,13 @@ pub(crate) fn gauge(m: usize, b: usize, c: usize, t: usize) -> Answer {
     if t < 1 {
         return answer::number(2);
     }
-    if 18 < t {
+    if STRENGTH < t {
         return answer::number(2);
     }
     if m < 1 {
         return answer::number(9);
     }
-    if 4096 < m {
+    if CLASSES < m {
         return answer::number(9);
     }
     if m <= b {

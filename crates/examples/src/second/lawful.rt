@@ -13,7 +13,8 @@ pub(crate) fn turned_over(cell: u8) -> u8
     if cell == 0 { 1 } else { 0 }
 }
 
-// What cell i, at a position of its class, adds to the exclusive or with the cell `turned` turned over: its position where it is 1.
+// What cell i, at a position of its class, adds to the exclusive or with the cell `turned` turned over: its position where it
+// is 1.
 fn added(field: &Buffer, i: usize, turned: usize, position: usize) -> usize
     requires { do ⌜ i < (← ⟦CELLS⟧) ⌝ }
 {

@@ -6,14 +6,17 @@ use crate::second::settings;
 use crate::second::settings::Settings;
 use lattice::shape::Shape;
 
+// The most classes that a shape has.
+const CLASSES: usize = 512;
+
 // The number of cells of each class.
-type ClassSizes = [u32; 512];
+type ClassSizes = [u32; CLASSES];
 
 fn one_more(sizes: &mut ClassSizes, a: u16) {
     let k = a as usize;
-    if k < 512 {
+    if k < CLASSES {
         let n = sizes[k];
-        if n < 65536 {
+        if n < settings::MOST_CELLS as u32 {
             sizes[k] = n + 1;
         }
     }
@@ -23,7 +26,7 @@ fn count_classes(shape: Shape, s: Settings, sizes: &mut ClassSizes) {
     let cells = settings::cells(shape);
     let mut i: u64 = 0;
     while i < cells {
-        if i < 65536 {
+        if i < settings::MOST_CELLS {
             one_more(sizes, settings::class_of_byte(shape, s, i as u16));
         }
         i += 1;
@@ -52,7 +55,7 @@ fn without_checks(n: u32) -> u64
 fn sum_of_classes(sizes: &ClassSizes) -> u64 {
     let mut sum: u64 = 0;
     let mut a = 0;
-    while a < 512 {
+    while a < CLASSES {
         sum += without_checks(sizes[a]);
         a += 1;
     }
@@ -61,7 +64,7 @@ fn sum_of_classes(sizes: &ClassSizes) -> u64 {
 
 // The capacity of an accepted shape: over its classes, the cells but for as many as the bit length of their number.
 pub(crate) fn capacity(shape: Shape) -> u64 {
-    let mut sizes = [0u32; 512];
+    let mut sizes = [0u32; CLASSES];
     count_classes(shape, settings::settings_of(shape), &mut sizes);
     sum_of_classes(&sizes)
 }

@@ -45,7 +45,8 @@ fn refusal(shape: Shape, field: &Buffer, cells: usize) -> usize
 
 const OUT_OF_REACH: usize = CELLS + 1;
 
-// The cell of class a that makes the class lawful when it is turned over; NONE where the class is lawful, OUT_OF_REACH where no cell does.
+// The cell of class a that makes the class lawful when it is turned over; NONE where the class is lawful, OUT_OF_REACH where no
+// cell does.
 fn culprit(classes: &Classes, cells: usize, a: u16, field: &Buffer) -> usize
     requires { do ⌜ cells ≤ (← ⟦CELLS⟧) ⌝ }
 {
@@ -85,51 +86,50 @@ fn mend_classes(classes: &Classes, cells: usize, m: u16, field: Buffer) -> Answe
     answer::of(&[count]).with(mended)
 }
 
-// Whether a cell, number k of those that hold no check, is filler that isn't 0, after so many bits of payload.
-fn is_stray(cell: u8, k: u64, bits: u64) -> bool {
-    if k < bits { false } else { cell != 0 }
-}
-
-// Whether the cells of an accepted field that hold neither payload nor check are 0.
-fn filler_is_clear(shape: Shape, field: Buffer, cells: usize) -> bool
+// The cells that hold no check, one after the other, and then zeros.
+fn content(shape: Shape, field: Buffer, cells: usize) -> Buffer
     requires { do ⌜ cells ≤ (← ⟦CELLS⟧) ⌝ }
 {
     let checks = layout::checks(shape, cells);
-    let bits = plan::capacity(shape) / 8 * 8;
-    let mut k: u64 = 0;
+    let mut content = [0u8; CELLS];
+    let mut k = 0;
     let mut i = 0;
     while i < cells {
         if checks[i] == 0 {
-            if is_stray(field[i], k, bits) {
+            content[k] = field[i];
+            k += 1;
+        }
+        i += 1;
+    }
+    content
+}
+
+// Whether every cell from cell k on is 0.
+fn is_clear_from(k: u64, content: &Buffer) -> bool {
+    let mut i = 0;
+    while i < CELLS {
+        if k <= i as u64 {
+            if content[i] != 0 {
                 return false;
             }
-            k += 1;
         }
         i += 1;
     }
     true
 }
 
-// A byte with a bit put after its bits, where the bit belongs to it.
-fn appended(byte: u8, bit: u8, belongs: bool) -> u8 {
-    if belongs {
-        ((byte as u32 * 2 + bit as u32) % 256) as u8
-    } else {
-        byte
-    }
+// A byte with a bit put after its bits.
+fn appended(byte: u8, bit: u8) -> u8 {
+    ((byte as u32 * 2 + bit as u32) % 256) as u8
 }
 
-// Byte q of what the cells that hold no check spell.
-fn spelt(checks: &Buffer, cells: usize, field: &Buffer, q: usize) -> u8
-    requires { do ⌜ cells ≤ (← ⟦CELLS⟧) ⌝ }
-{
+// Byte q of what cells spell, eight to a byte.
+fn spelt(content: &Buffer, q: usize) -> u8 {
     let mut byte: u8 = 0;
-    let mut k = 0;
     let mut i = 0;
-    while i < cells {
-        if checks[i] == 0 {
-            byte = appended(byte, field[i], k / 8 == q);
-            k += 1;
+    while i < CELLS {
+        if i / 8 == q {
+            byte = appended(byte, content[i]);
         }
         i += 1;
     }
@@ -140,11 +140,11 @@ fn spelt(checks: &Buffer, cells: usize, field: &Buffer, q: usize) -> u8
 fn spell(shape: Shape, field: Buffer, cells: usize, before: Buffer, bytes: usize) -> Buffer
     requires { do ⌜ (cells ≤ (← ⟦CELLS⟧)) × (bytes ≤ (← ⟦CELLS⟧)) ⌝ }
 {
-    let checks = layout::checks(shape, cells);
+    let content = content(shape, field, cells);
     let mut payload = before;
     let mut q = 0;
     while q < bytes {
-        payload[q] = spelt(&checks, cells, &field, q);
+        payload[q] = spelt(&content, q);
         q += 1;
     }
     payload
@@ -164,7 +164,10 @@ pub(crate) fn mend(shape: Shape, field: Buffer, cells: usize) -> Answer
         return found;
     }
     let mended = found.buffer;
-    if filler_is_clear(shape, mended, cells) {
+    if is_clear_from(
+        plan::capacity(shape) / 8 * 8,
+        &content(shape, mended, cells),
+    ) {
         found
     } else {
         answer::leaving(7, field)

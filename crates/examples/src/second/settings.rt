@@ -29,6 +29,8 @@ fn outside(low: u16, high: u16, x: u16) -> bool {
     high < x
 }
 
+pub(crate) const MOST_CELLS: u64 = 65536;
+
 // The number with which a shape is declined, 0 where it is accepted.
 pub(crate) fn refusal(shape: Shape) -> usize
     ensures { λ r. ⌜ r ≤ 2 ⌝ }
@@ -42,7 +44,7 @@ pub(crate) fn refusal(shape: Shape) -> usize
     if outside(1, 16, shape.planes) {
         return 1;
     }
-    if 65536 < cells(shape) {
+    if MOST_CELLS < cells(shape) {
         return 1;
     }
     if shape.planes == 1 {
@@ -104,7 +106,8 @@ pub(crate) fn settings_of(shape: Shape) -> Settings {
     stack(shape.strength)
 }
 
-// The class of a cell, by search: the first a of 0 to m − 1 of which a + b × row + c × plane and the column have the same remainder.
+// The class of a cell, by search: the first a of 0 to m − 1 of which a + b × row + c × plane and the column have the same
+// remainder.
 pub(crate) fn class(settings: Settings, row: u16, plane: u16, column: u16) -> u16 {
     let m = settings.m;
     let before = times(settings.b, row) + times(settings.c, plane);

@@ -80,12 +80,15 @@ fn try_checks(classes: &Classes, checks: &Buffer, cells: usize, a: u16, v: u32, 
     }
 }
 
-// Tries every filling of the check cells of class a, until the class is lawful. There are at most 10 of them.
+// A class has at most 10 check cells, each 0 or 1.
+const FILLINGS: u32 = 1024;
+
+// Tries every filling of the check cells of class a, until the class is lawful.
 fn settle_class(classes: &Classes, checks: &Buffer, cells: usize, a: u16, field: &mut Buffer)
     requires { do ⌜ cells ≤ (← ⟦CELLS⟧) ⌝ }
 {
     let mut v = 0;
-    while v < 1024 {
+    while v < FILLINGS {
         try_checks(classes, checks, cells, a, v, field);
         if lawful::lawful(classes, cells, a, field, lawful::NONE) {
             return;
@@ -104,7 +107,8 @@ fn settle(classes: &Classes, checks: &Buffer, cells: usize, m: u16, field: &mut 
     }
 }
 
-// The field of a payload, with cells past the payload that hold `filler`: document 01 has them 0. What lies behind the field stays.
+// The field of a payload, with cells past the payload that hold `filler`: document 01 has them 0. What lies behind the field
+// stays.
 pub(crate) fn write_with(
     shape: Shape,
     payload: Buffer,

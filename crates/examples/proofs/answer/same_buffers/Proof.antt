@@ -1,14 +1,15 @@
--- `same_buffers` is safe and ends. The measure does not name how many bytes there are.
+-- `same_buffers` is safe and ends.
 use Prim.Native.Nat.{_≤_, _-_}
 use borrow.Author.Needs.{needs}
+use Rattle.examples.proofs.Turns.{turns}
 use Rattle.examples.proofs.answer.same_buffers.Statement.{statement}
 use Rattle.examples.proofs.answer.same_buffers.Tie as tie
 
 abbrev Inv-loop : tie.InvT-loop
-Inv-loop a b i₀ i = i ≤ 1000000
+Inv-loop a b i₀ i = i ≤ turns
 
 abbrev μ-loop : tie.MeasureT-loop
-μ-loop a b i₀ i = 1000000 - i
+μ-loop a b i₀ i = turns - i
 
 pub same-buffers-spec : {M : Type 1} → statement M
 same-buffers-spec =

@@ -1,14 +1,15 @@
--- `same_figures` is safe and ends. The measure does not name how many figures there are.
+-- `same_figures` is safe and ends.
 use Prim.Native.Nat.{_≤_, _-_}
 use borrow.Author.Needs.{needs}
+use Rattle.examples.proofs.Turns.{turns}
 use Rattle.examples.proofs.answer.same_figures.Statement.{statement}
 use Rattle.examples.proofs.answer.same_figures.Tie as tie
 
 abbrev Inv-loop : tie.InvT-loop
-Inv-loop a b k₀ k = k ≤ 1000000
+Inv-loop a b k₀ k = k ≤ turns
 
 abbrev μ-loop : tie.MeasureT-loop
-μ-loop a b k₀ k = 1000000 - k
+μ-loop a b k₀ k = turns - k
 
 pub same-figures-spec : {M : Type 1} → statement M
 same-figures-spec =

@@ -1,15 +1,16 @@
--- `comparisons` is safe and ends. Invariant: no count is above a million. The measure does not name how many numbers there are.
+-- `comparisons` is safe and ends. Invariant: no count is above a million.
 use Prim.Native.Nat.{_≤_, _-_, _*_}
 use mathlib.Core.Logic.{⊎-elim}
 use borrow.Author.Needs.{needs}
+use Rattle.examples.proofs.Turns.{turns}
 use Rattle.examples.proofs.tally.comparisons.Statement.{statement}
 use Rattle.examples.proofs.tally.comparisons.Tie as tie
 
 abbrev Inv-loop : tie.InvT-loop
-Inv-loop row sum₀ number₀ sum number = (number ≤ 1000000) × (sum ≤ 1000000 * number)
+Inv-loop row sum₀ number₀ sum number = (number ≤ turns) × (sum ≤ 1000000 * number)
 
 abbrev μ-loop : tie.MeasureT-loop
-μ-loop row sum₀ number₀ sum number = 1000000 - number
+μ-loop row sum₀ number₀ sum number = turns - number
 
 pub comparisons-spec : {M : Type 1} → statement M
 comparisons-spec =

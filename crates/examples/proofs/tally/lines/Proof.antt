@@ -1,14 +1,15 @@
--- `lines` is safe and ends. The measure does not name how many operations there are.
+-- `lines` is safe and ends.
 use Prim.Native.Nat.{_≤_, _-_}
 use borrow.Author.Needs.{needs}
+use Rattle.examples.proofs.Turns.{turns}
 use Rattle.examples.proofs.tally.lines.Statement.{statement}
 use Rattle.examples.proofs.tally.lines.Tie as tie
 
 abbrev Inv-loop : tie.InvT-loop
-Inv-loop tally operation₀ operation = operation ≤ 1000000
+Inv-loop tally operation₀ operation = operation ≤ turns
 
 abbrev μ-loop : tie.MeasureT-loop
-μ-loop tally operation₀ operation = 1000000 - operation
+μ-loop tally operation₀ operation = turns - operation
 
 pub lines-spec : {M : Type 1} → statement M
 lines-spec =

@@ -1,14 +1,15 @@
--- `show_rows` is safe and ends. The measure does not name how many cells there are.
+-- `show_rows` is safe and ends.
 use Prim.Native.Nat.{_≤_, _-_}
 use borrow.Author.Needs.{needs}
+use Rattle.examples.proofs.Turns.{turns}
 use Rattle.examples.proofs.worked.show_rows.Statement.{statement}
 use Rattle.examples.proofs.worked.show_rows.Tie as tie
 
 abbrev Inv-loop : tie.InvT-loop
-Inv-loop card i₀ t4 i = i ≤ 1000000
+Inv-loop card i₀ t4 i = i ≤ turns
 
 abbrev μ-loop : tie.MeasureT-loop
-μ-loop card i₀ t4 i = 1000000 - i
+μ-loop card i₀ t4 i = turns - i
 
 pub show-rows-spec : {M : Type 1} → statement M
 show-rows-spec =

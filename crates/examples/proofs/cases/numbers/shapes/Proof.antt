@@ -1,14 +1,15 @@
 -- `shapes` is safe and ends.
 use Prim.Native.Nat.{_≤_, _-_}
 use borrow.Author.Needs.{needs}
+use Rattle.examples.proofs.Turns.{turns}
 use Rattle.examples.proofs.cases.numbers.shapes.Statement.{statement}
 use Rattle.examples.proofs.cases.numbers.shapes.Tie as tie
 
 abbrev Inv-loop : tie.InvT-loop
-Inv-loop tally₀ k₀ tally k = k ≤ 600
+Inv-loop tally₀ k₀ tally k = k ≤ turns
 
 abbrev μ-loop : tie.MeasureT-loop
-μ-loop tally₀ k₀ tally k = 600 - k
+μ-loop tally₀ k₀ tally k = turns - k
 
 pub shapes-spec : {M : Type 1} → statement M
 shapes-spec =

@@ -1,15 +1,16 @@
--- `search` is safe and ends. Invariant: no more triples are tried than are looked at. The measure does not name how many there are.
+-- `search` is safe and ends. Invariant: no more triples are tried than are looked at.
 use Prim.Native.Nat.{_≤_, _-_}
 use mathlib.Core.Logic.{⊎-elim}
 use borrow.Author.Needs.{needs}
+use Rattle.examples.proofs.Turns.{turns}
 use Rattle.examples.proofs.second.gauge.search.Statement.{statement}
 use Rattle.examples.proofs.second.gauge.search.Tie as tie
 
 abbrev Inv-loop : tie.InvT-loop
-Inv-loop m b c t tried₀ k₀ tried k = (k ≤ 1000000) × (tried ≤ k)
+Inv-loop m b c t tried₀ k₀ tried k = (k ≤ turns) × (tried ≤ k)
 
 abbrev μ-loop : tie.MeasureT-loop
-μ-loop m b c t tried₀ k₀ tried k = 1000000 - k
+μ-loop m b c t tried₀ k₀ tried k = turns - k
 
 pub search-spec : {M : Type 1} → statement M
 search-spec =

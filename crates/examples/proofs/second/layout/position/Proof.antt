@@ -1,4 +1,4 @@
--- `position` is safe, ends and is at most 512. Invariant: a position is at most the number of cells passed.
+-- `position` is safe, ends and is at most the number of cells. Invariant: a position is at most the number of cells passed.
 use Prim.Native.Nat.{_≤_, _+_, _-_}
 use mathlib.Core.Logic.{⊎-elim}
 use borrow.Author.Needs.{needs}
@@ -14,6 +14,6 @@ abbrev μ-loop : tie.MeasureT-loop
 pub position-spec : {M : Type 1} → statement M
 position-spec =
     tie.close
-    (tie.spec Inv-loop μ-loop (λ c. search needs) (λ c. search needs) (λ c. search needs) (λ c. search needs) (λ c. search needs)
-    (λ c. search needs) (λ c. search needs) (λ c. search needs) (λ c. ⊎-elim (λ w. search needs) (λ w. search needs) (c .if1 .came))
-    (λ c. search needs))
+    (tie.spec Inv-loop μ-loop (λ c. search needs) (λ c. search needs) (λ c. search needs) (λ c. search needs)
+    (λ c. search needs) (λ c. search needs) (λ c. search needs) (λ c. search needs)
+    (λ c. ⊎-elim (λ w. search needs) (λ w. search needs) (c .if1 .came)) (λ c. search needs))

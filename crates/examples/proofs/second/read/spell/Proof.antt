@@ -5,10 +5,10 @@ use Rattle.examples.proofs.second.read.spell.Statement.{statement}
 use Rattle.examples.proofs.second.read.spell.Tie as tie
 
 abbrev Inv-loop : tie.InvT-loop
-Inv-loop cells bytes field checks payload₀ q₀ payload q = q ≤ bytes
+Inv-loop cells bytes content payload₀ q₀ payload q = q ≤ bytes
 
 abbrev μ-loop : tie.MeasureT-loop
-μ-loop cells bytes field checks payload₀ q₀ payload q = bytes - q
+μ-loop cells bytes content payload₀ q₀ payload q = bytes - q
 
 pub spell-spec : {M : Type 1} → statement M
 spell-spec =

@@ -1,18 +1,18 @@
 -- `spelt` is safe and ends.
 use Prim.Native.Nat.{_≤_, _-_}
-use mathlib.Core.Logic.{⊎-elim}
+use Rattle.examples.proofs.Turns.{turns}
 use borrow.Author.Needs.{needs}
 use Rattle.examples.proofs.second.read.spelt.Statement.{statement}
 use Rattle.examples.proofs.second.read.spelt.Tie as tie
 
 abbrev Inv-loop : tie.InvT-loop
-Inv-loop checks cells field q byte₀ k₀ i₀ byte k i = (i ≤ cells) × (k ≤ i)
+Inv-loop content q byte₀ i₀ byte i = i ≤ turns
 
 abbrev μ-loop : tie.MeasureT-loop
-μ-loop checks cells field q byte₀ k₀ i₀ byte k i = cells - i
+μ-loop content q byte₀ i₀ byte i = turns - i
 
 pub spelt-spec : {M : Type 1} → statement M
 spelt-spec =
     tie.close
-    (tie.spec Inv-loop μ-loop (λ c. search needs) (λ c. search needs) (λ c. search needs) (λ c κs. search needs) (λ c. search needs)
-    (λ c. search needs) (λ c. search needs) (λ c. ⊎-elim (λ w. search needs) (λ w. search needs) (c .if1 .came)) (λ c. search needs))
+    (tie.spec Inv-loop μ-loop (λ c. search needs) (λ c. search needs) (λ c κs. search needs) (λ c. search needs)
+    (λ c. search needs) (λ c. search needs) (λ c. search needs))

@@ -8,6 +8,8 @@ use Rattle.examples.proofs.second.settings.flat.Tie as tie
 pub flat-spec : {M : Type 1} → statement M
 flat-spec =
     tie.close
-    (tie.spec (λ c. omega (arith, mul-le-mul {n₁ = c .args .t} {m₁ = c .args .t} {n₂ = 32} {m₂ = 32} (omega arith) (omega arith)))
-    (λ c. omega (arith, mul-le-mul {n₁ = c .before .args .t} {m₁ = c .before .args .t} {n₂ = 32} {m₂ = 32} (omega arith) (omega arith)))
+    (tie.spec
+    (λ c. omega (arith, mul-le-mul {n₁ = c .args .t} {m₁ = c .args .t} {n₂ = 32} {m₂ = 32} (omega arith) (omega arith)))
+    (λ c.
+    omega (arith, mul-le-mul {n₁ = c .before .args .t} {m₁ = c .before .args .t} {n₂ = 32} {m₂ = 32} (omega arith) (omega arith)))
     (λ c. search needs) (λ c. search needs) (λ c. search needs))

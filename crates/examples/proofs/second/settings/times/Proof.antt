@@ -7,5 +7,6 @@ use Rattle.examples.proofs.second.settings.times.Tie as tie
 pub times-spec : {M : Type 1} → statement M
 times-spec =
     tie.close
-    (tie.spec (λ c. omega (arith, mul-le-mul {n₁ = c .args .x} {m₁ = c .args .y} {n₂ = 65535} {m₂ = 65535} (omega arith) (omega arith)))
+    (tie.spec
+    (λ c. omega (arith, mul-le-mul {n₁ = c .args .x} {m₁ = c .args .y} {n₂ = 65535} {m₂ = 65535} (omega arith) (omega arith)))
     (λ c. omega (arith, mul-le-mul {n₁ = c .args .x} {m₁ = c .args .y} {n₂ = 65535} {m₂ = 65535} (omega arith) (omega arith))))
