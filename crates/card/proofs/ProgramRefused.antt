@@ -1,13 +1,13 @@
 -- Demand 1 for the program: its number is that of the first of the listed conditions that holds.
 use Prim.Native.Nat.{ℕ}
-use mathlib.Core.List.{List, _∷_, _++_}
+use mathlib.Core.List.{List, _∷_}
 use mathlib.Core.Logic.{inl}
 use mathlib.Core.Path.{_≡_, refl, sym, _∙_, subst}
 use native.Mathlib.Omega.{arith}
 use borrow.Author.Tests.{eq-eqb, eqb-true}
 use lib.Dec.{eqb}
 use lib.ListN.{length}
-use Rattle.lattice.specs.Refusal.{Listed, listed, unless}
+use Rattle.lattice.specs.Refusal.{listed, unless}
 use Rattle.lattice.specs.Shape.{shapeConditions, cellsOf}
 use Rattle.lattice.specs.Class.{classesOf, classAt}
 use Rattle.lattice.proofs.Answers.{unless-zero}
@@ -28,7 +28,7 @@ use Rattle.card.specs.declared.header.HeaderAnswer.the-variants as head
 use Rattle.card.specs.Card.{maxInput, shapeOf, FieldCells, CardHeader}
 use Rattle.card.specs.Parse.{headerOf, payloadOf}
 use Rattle.card.specs.Program.{blankField, blankPayload, cellsIn, operationNumber, numberAfter, programNumber}
-use Rattle.card.specs.Form.{NoHeader, headerRefusals, TooManyCells, NoBody, operationRefusals, laterRefusals, programRefusals, ProgramRefused}
+use Rattle.card.specs.Form.{NoHeader, headerRefusals, operationRefusals, laterRefusals, programRefusals, ProgramRefused}
 use Rattle.card.proofs.ProgramParts.{
   blank-field,
   blank-payload,

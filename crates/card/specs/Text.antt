@@ -13,9 +13,21 @@ abbrev pub ascii : String → List ℕ
 ascii []ˢ = []
 ascii (c ∷ˢ s) = code c ∷ ascii s
 
--- the keys of the first lines, in their order
+-- the keys of the first lines, and their order
+abbrev pub columnsKey : List ℕ
+columnsKey = ascii "columns="
+
+abbrev pub rowsKey : List ℕ
+rowsKey = ascii "rows="
+
+abbrev pub planesKey : List ℕ
+planesKey = ascii "planes="
+
+abbrev pub strengthKey : List ℕ
+strengthKey = ascii "strength="
+
 abbrev pub headerKeys : List (List ℕ)
-headerKeys = ascii "columns=" ∷ ascii "rows=" ∷ ascii "planes=" ∷ ascii "strength=" ∷ []
+headerKeys = columnsKey ∷ rowsKey ∷ planesKey ∷ strengthKey ∷ []
 
 -- the keys of the other lines
 abbrev pub payloadKey : List ℕ

@@ -42,7 +42,8 @@ abbrev pub encodeAnswerNumber : EncodeAnswer → ℕ
 encodeAnswerNumber enc.Encoded = 0
 encodeAnswerNumber (enc.Refused q) = refusalNumber q
 
--- the number, and the bytes of the lent field at the end; of the two reasons with the number 4 it is the field's length, here and below
+-- the number, and the bytes of the lent field at the end; of the two reasons with the number 4 it is the field's length, here and
+-- below
 pub record IsEncoded (s : Shape) (payload field last : List ℕ) (r : EncodeAnswer) : Type 0 where
   pub number : encodeAnswerNumber r ≡ encodeNumber s payload field
   pub leaves : last ≡ encodeLeaves s payload field

@@ -16,7 +16,8 @@ use Rattle.codec.specs.Plan.{planBytes, planCells}
 abbrev pub correctedField : Shape → List ℕ → Field
 correctedField s field = corrected (classAt s) (cellsOf s) (fieldOf field)
 
--- the tests of the field itself: 5 for what is no cell, 6 for a class with no codeword in reach, 7 for wrong padding after mending
+-- the tests of the field itself: 5 for what is no cell, 6 for a class with no codeword in reach, 7 for wrong padding after
+-- mending
 unfoldable pub fieldNumber : Shape → List ℕ → ℕ
 fieldNumber s field =
     unless (cellsOk (fieldOf field) (cellsOf s)) 5

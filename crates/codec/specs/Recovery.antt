@@ -25,8 +25,8 @@ damaged f selected i = cond (selected i) (flip (f i)) (f i)
 abbrev pub damagedField : Shape → List ℕ → (Cell → Bool) → List ℕ
 damagedField s p selected = listOf (damaged (fieldOf (encodedField s p)) (λ i. selected (cellAt s i))) (cellsOf s)
 
--- from G the payload p and the field F come back: reading G into a payload buffer gives 0 and leaves exactly p; mending G gives 0 and
--- leaves exactly F; and the count of each is the number of cells where F and G differ
+-- from G the payload p and the field F come back: reading G into a payload buffer gives 0 and leaves exactly p; mending G gives 0
+-- and leaves exactly F; and the count of each is the number of cells where F and G differ
 pub record Recovered (s : Shape) (p F G buffer : List ℕ) : Type 0 where
   pub decoded-number : decodeNumber s buffer G ≡ 0
   pub decoded-payload : decodeLeaves s buffer G ≡ p
@@ -63,8 +63,8 @@ ClassesNeeded =
     (s : Shape) → s .planes ≡ 1 → 1 ≤ s .strength → s .strength ≤ s .columns → s .strength ≤ s .rows
     → (L : Cell → ℕ) → Separates s (s .strength) L → planClasses s ≤ labels s L
 
--- Theorem. A field that is not damaged comes back as it is, and no cell differs from itself: one that was written, with its payload, and
--- one that was mended, with the payload that is read from what it was before.
+-- Theorem. A field that is not damaged comes back as it is, and no cell differs from itself: one that was written, with its
+-- payload, and one that was mended, with the payload that is read from what it was before.
 pub record NothingToCorrect : Type 0 where
   pub written : (s : Shape) → Accepted s → (p : List ℕ) → length p ≡ planBytes s → Bytes p
       → (buffer : List ℕ) → length buffer ≡ planBytes s

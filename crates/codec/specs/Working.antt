@@ -92,7 +92,8 @@ pub record FieldFits (s : Shape) (field : List ℕ) : Type 0 where
   pub accepted : Accepted s
   pub long : length field ≡ cellsOf s
 
--- the tests of encoding and decoding before the field's own: the shape's, then 3 and 4 for a payload and a field whose length isn't the plan's
+-- the tests of encoding and decoding before the field's own: the shape's, then 3 and 4 for a payload and a field whose length
+-- isn't the plan's
 unfoldable pub lengthNumber : Shape → List ℕ → List ℕ → ℕ
 lengthNumber s payload field =
     afterShape s

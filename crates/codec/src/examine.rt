@@ -118,7 +118,8 @@ fn padding_ok(
     true
 }
 
-// The field's own tests in their order, 5, 6, 7, where `sizes` holds the size of each class; the syndromes of the classes are stored.
+// The field's own tests in their order, 5, 6, 7, where `sizes` holds the size of each class; the syndromes of the classes are
+// stored.
 pub(crate) fn examine(
     shape: Shape,
     field: &[u8],

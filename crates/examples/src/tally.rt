@@ -64,8 +64,11 @@ fn name(operation: usize) {
     print::name(b"shape,plan,class,write,read,mend,gauge", operation);
 }
 
+// How many numbers an operation is given at most: those of a shape and three more.
+const INPUTS: usize = 7;
+
 // The numbers that an operation was given.
-pub(crate) type Inputs = [u64; 7];
+pub(crate) type Inputs = [u64; INPUTS];
 
 pub(crate) fn numbers(a: usize, b: usize, c: usize, d: usize) -> Inputs {
     [a as u64, b as u64, c as u64, d as u64, 0, 0, 0]

@@ -52,7 +52,8 @@ OutsideShape s x = (s .rows ≤ x .row) ⊎ ((s .planes ≤ x .plane) ⊎ (s .co
 abbrev pub classRefusals : Shape → Cell → List Listed
 classRefusals s x = shapeRefusals s ++ (listed 4 (OutsideShape s x) ∷ [])
 
--- how the cells of a field are placed in classes, as one value that a pass over the cells is handed: the settings that the shape gives
+-- how the cells of a field are placed in classes, as one value that a pass over the cells is handed: the settings that the shape
+-- gives
 unfoldable pub placementOf : Shape → Placement
 placementOf s = record { settings = settingsGiven s }
 

@@ -27,7 +27,8 @@ abbrev pub testedNumber : Tested → ℕ
 testedNumber test.Passed = 0
 testedNumber (test.Refused reason) = refusalNumber reason
 
--- of the two reasons with the number 4, a cell that lies outside the shape is never given as a length, nor a length as such a cell
+-- of the two reasons with the number 4, a cell that lies outside the shape is never given as a length, nor a length as such a
+-- cell
 abbrev pub NoLength : Tested → Type 0
 NoLength t = t ≢ test.Refused why.FieldLength
 
@@ -68,8 +69,8 @@ abbrev pub FirstIs : ℕ → List Listed → Type 0
 FirstIs k [] = ⊥
 FirstIs k (r ∷ rs) = (r .condition × (r .number ≡ k)) ⊎ ((¬ (r .condition)) × FirstIs k rs)
 
--- n is 0 exactly when none of the conditions holds, and another number exactly when the first that holds has it; so no other number is
--- given
+-- n is 0 exactly when none of the conditions holds, and another number exactly when the first that holds has it; so no other
+-- number is given
 abbrev pub Settled : List Listed → ℕ → Type 0
 Settled rs n = ((n ≡ 0) ↔ NoneHolds rs) × ((k : ℕ) → (n ≡ suc k) ↔ FirstIs (suc k) rs)
 

@@ -1,4 +1,5 @@
-// The C interface: each operation on the numbers of a shape, of any size, and lent buffers. `include/varmintfoil.h` declares it for C.
+// The C interface: each operation on the numbers of a shape, of any size, and lent buffers. `include/varmintfoil.h` declares it
+// for C.
 ghost use mathlib.Core.Path.{_≡_};
 ghost use Rattle.lattice.specs.Cell.{cell};
 ghost use Rattle.lattice.specs.Shape.{shapeFrom};
