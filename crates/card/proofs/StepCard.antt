@@ -14,6 +14,7 @@ use Rattle.lattice.specs.Shape.{shapeNumber, Accepted, cellsOf}
 use Rattle.lattice.specs.Class.{classesOf, classAt}
 use Rattle.lattice.specs.Position.{capacity}
 use Rattle.lattice.proofs.Answers.{beside-zero, refused}
+use Rattle.lattice.proofs.ClassAt.{at-cells}
 use Rattle.lattice.proofs.NewShapes.{new-accepted, new-shape}
 use Rattle.codec.specs.Payload.{Bytes}
 use Rattle.codec.specs.Plan.{planClasses, planCapacity, planBytes}
@@ -38,9 +39,8 @@ module _ (h : Header) (r : NewShape) (x : IsNewShape (h .numbers) r) where
   module _ (s : Shape) (e : r ≡ new.Accepted s) where
     cells-given : (n : ℕ) → n ≡ figure (shapeNumber s) (cellsOf s) → n ≡ cellsOf (shapeOf h)
     cells-given n p =
-        p
-        ∙ ap (λ (t : Shape). figure (shapeNumber t) (cellsOf t)) (new-shape _ _ x s e)
-        ∙ beside-zero _ (cellsOf (shapeOf h)) 0 (new-accepted _ _ x s e)
+        at-cells (shapeOf h) (new-accepted _ _ x s e) n
+        (p ∙ ap (λ (t : Shape). figure (shapeNumber t) (cellsOf t)) (new-shape _ _ x s e))
 
     pub new-many : (n : ℕ) → n ≡ figure (shapeNumber s) (cellsOf s) → 16384 < n → 16384 < cellsOf (shapeOf h)
     new-many n p l = rw (cells-given n p) at l
@@ -54,7 +54,7 @@ module _ (h : Header) (s : Shape) (x : CardShape h s) where
   accepted = rw (x .shape) (x .card .accepted)
 
   pub cells-are : (n : ℕ) → n ≡ figure (shapeNumber s) (cellsOf s) → n ≡ cellsOf s
-  cells-are n e = e ∙ beside-zero (shapeNumber s) (cellsOf s) 0 accepted
+  cells-are = at-cells s accepted
 
   pub cells-fit : (n : ℕ) → n ≡ figure (shapeNumber s) (cellsOf s) → n ≤ 16384
   cells-fit n e = rw (cells-are n e, x .shape) (x .card .cells)

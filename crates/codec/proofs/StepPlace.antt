@@ -8,7 +8,7 @@ use lib.ListN.{length, getD, set, replicate, getD-replicate}
 use lib.Seq.{getD-set-same, getD-set-other}
 use Rattle.lattice.specs.declared.class.Placement.{Placement}
 use Rattle.lattice.specs.declared.shape.Shape.{Shape}
-use Rattle.lattice.specs.Refusal.{beside, figure}
+use Rattle.lattice.specs.Refusal.{beside}
 use Rattle.lattice.specs.Shape.{shapeNumber, cellsOf, maxClasses, Accepted}
 use Rattle.lattice.specs.Cell.{cellAt}
 use Rattle.lattice.specs.Class.{classAt, classBy}
@@ -24,10 +24,7 @@ use Rattle.codec.specs.Working.{HoldsZeros, HoldsSizes, Stored, AtCell, 
 pub stored : (l : List ℕ) (a v : ℕ) → a < length l → Stored l (set l a v) a v
 stored l a v h = record { own = getD-set-same l a v 0 h; others = λ b e. getD-set-other l a b v 0 e }
 
--- an accepted shape gives its cells, which are at most 65,536
-pub cells-are : (s : Shape) (n : ℕ) → Accepted s → n ≡ figure (shapeNumber s) (cellsOf s) → n ≡ cellsOf s
-cells-are s n a e = e ∙ beside-zero (shapeNumber s) (cellsOf s) 0 a
-
+-- the cells of an accepted shape are at most 65,536
 module _ (s : Shape) (n : ℕ) (e : n ≡ cellsOf s) (i : ℕ) (l : i < n) where
   pub cell-below : i < cellsOf s
   cell-below = rw (← e) l

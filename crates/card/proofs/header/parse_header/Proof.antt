@@ -1,3 +1,4 @@
+-- `parse_header` meets its contract: before each line, those before it have been read.
 use borrow.Author.Needs.{needs}
 use Prim.Native.Nat.{_-_}
 use mathlib.Core.Path.{refl, sym, ap, _∙_}

@@ -1,3 +1,4 @@
+-- `put_header` meets its contract: before each line, those before it have been written.
 use borrow.Author.Needs.{needs}
 use Prim.Native.Nat.{_-_}
 use mathlib.Core.Path.{_≡_, ap}

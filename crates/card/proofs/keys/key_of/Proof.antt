@@ -1,3 +1,4 @@
+-- `key_of` meets its contract: the key of an index lies between its start and the next.
 use borrow.Author.Needs.{needs}
 use Rattle.card.specs.Text.{headerKeys}
 use Rattle.card.proofs.KeyParts.{key-order, key-end, key-part}

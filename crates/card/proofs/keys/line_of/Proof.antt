@@ -1,3 +1,4 @@
+-- `line_of` meets its contract: the line is that of the key of the index.
 use borrow.Author.Needs.{needs}
 use Prim.Native.Nat.{ℕ}
 use mathlib.Core.List.{List}

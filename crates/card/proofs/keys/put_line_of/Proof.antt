@@ -1,3 +1,4 @@
+-- `put_line_of` meets its contract: the line is that of the key of the index.
 use borrow.Author.Needs.{needs}
 use Rattle.card.proofs.keys.put_line_of.Statement.{statement}
 use Rattle.card.proofs.keys.put_line_of.Tie as tie

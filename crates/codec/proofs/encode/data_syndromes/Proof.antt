@@ -6,10 +6,11 @@ use mir.Facts.{fits-lt, fits-lit}
 use Rattle.lattice.specs.Shape.{cellsOf}
 use Rattle.lattice.specs.Class.{classAt}
 use Rattle.lattice.specs.Position.{holdsData}
+use Rattle.lattice.proofs.ClassAt.{at-cells}
 use Rattle.codec.specs.Payload.{dataField}
 use Rattle.codec.specs.Working.{HoldsSizes, HoldsSyndromes, rankAt}
 use Rattle.codec.proofs.StepData.{data-is, rank-none, rank-more, rank-limit}
-use Rattle.codec.proofs.StepPlace.{cells-are, cell-below, cell-limit, counts-none, zeros}
+use Rattle.codec.proofs.StepPlace.{cell-below, cell-limit, counts-none, zeros}
 use Rattle.codec.proofs.StepSyndrome.{syndromes-none, syndromes-more, syndromes-all}
 use Rattle.codec.proofs.StepValue.{data-field-is}
 use Rattle.codec.proofs.encode.data_syndromes.Statement.{statement}
@@ -25,7 +26,7 @@ abbrev μ-loop : tie.MeasureT-loop
 μ-loop shape payload sizes syndromes₀ placement cells counts₀ rank₀ i₀ syndromes counts rank i = cells - i
 
 cells : (c : tie.After-cells Inv-loop μ-loop) → c .cells .result ≡ cellsOf (c .before .before .before .args .shape)
-cells c = cells-are _ _ (c .before .before .before .pre .0 .accepted) (c .cells .ensures)
+cells c = at-cells _ (c .before .before .before .pre .0 .accepted) _ (c .cells .ensures)
 
 limit : (c : tie.In-loop Inv-loop μ-loop) → c .before .loop .i < 65536
 limit c = cell-limit _ _ (cells (c .before .before)) _ (c .loop-test .taken) (c .before .before .before .before .before .pre .0 .accepted)
