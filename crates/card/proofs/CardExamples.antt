@@ -4,9 +4,9 @@ use Rattle.lattice.specs.Shape.{inRange, maxStrength, sizeOk, strengthOk, shape
 use Rattle.lattice.specs.Settings.{oddSettings, evenSettings, flatSettings, settingsFor}
 use Rattle.lattice.specs.Cell.{cellAt}
 use Rattle.lattice.specs.Class.{minusMod, classWith, classesOf, classOf}
-use Rattle.lattice.specs.Position.{size, position, isPower, isCheck, checks, holdsData, capacity}
+use Rattle.lattice.specs.Position.{sizeTo, position, isPower, isCheck, checks, holdsData, capacity}
 use Rattle.codec.specs.Field.{isCell, isReceived, cellsOk, differences}
-use Rattle.codec.specs.Hamming.{inReach, allInReach, corrected}
+use Rattle.codec.specs.Hamming.{tagsOf, isTag, inReach, allInReach, corrected}
 use Rattle.codec.specs.Payload.{payloadBytes, rank, payloadBit, padding, dataValue, dataField, encoded, paddingOk, heldPayload}
 use Rattle.codec.specs.Plan.{planClasses, planCapacity, planBytes, planCells}
 use Rattle.codec.specs.Encode.{encodeNumber, encodedField}
@@ -21,8 +21,8 @@ pub cardExamples : CardExamples
 unfolding
     inRange maxStrength sizeOk strengthOk shapeNumber
     oddSettings evenSettings flatSettings settingsFor cellAt minusMod classWith classesOf classOf
-    size position isPower isCheck checks holdsData capacity
-    isCell isReceived cellsOk differences inReach allInReach corrected
+    sizeTo position isPower isCheck checks holdsData capacity
+    isCell isReceived cellsOk differences tagsOf isTag inReach allInReach corrected
     payloadBytes rank payloadBit padding dataValue dataField encoded paddingOk heldPayload planClasses planCapacity planBytes planCells
     encodeNumber encodedField
     fieldNumber correctedCount decodeNumber decodeCount decodeLeaves

@@ -2,16 +2,16 @@
 use Prim.Native.Nat.{_*_, _<_, _≤_}
 use native.Mathlib.Nat.{mul-le-mul}
 use native.Mathlib.Omega.{arith}
-use Rattle.lattice.specs.Shape.{cellsOf}
+use Rattle.lattice.specs.Shape.{maxSide, maxPlanes, cellsOf}
 use Rattle.lattice.specs.Position.{capacity, holdsData}
-use Rattle.lattice.specs.Class.{classAt}
+use Rattle.lattice.specs.Class.{layoutOf}
 use Rattle.lattice.proofs.Counting.{count-most}
 use Rattle.lattice.proofs.Limits.{Legal, legal, strength-most}
 use Rattle.codec.specs.Payload.{payloadBytes}
 use Rattle.codec.specs.Plan.{planBytes}
 use Rattle.codec.proofs.Accepted.{plan-bytes}
 use Rattle.card.specs.declared.header.Header.{Header}
-use Rattle.card.specs.Card.{shapeOf, Small, CardHeader}
+use Rattle.card.specs.Card.{maxCardBytes, shapeOf, Small, CardHeader}
 
 -- a card's header is within the limits
 module _ (h : Header) (x : CardHeader h) where
@@ -27,12 +27,12 @@ module _ (h : Header) (x : CardHeader h) where
   pub rows-some : 0 < h .numbers .planes * h .numbers .rows
   rows-some = mul-le-mul {n₁ = 1} {m₁ = 1} (limits .planes-low) (limits .height-low)
 
-  pub rows-most : h .numbers .planes * h .numbers .rows ≤ 4096
-  rows-most = mul-le-mul {n₂ = 16} {m₂ = 256} (limits .planes-high) (limits .height-high)
+  pub rows-most : h .numbers .planes * h .numbers .rows ≤ maxPlanes * maxSide
+  rows-most = mul-le-mul {n₂ = maxPlanes} {m₂ = maxSide} (limits .planes-high) (limits .height-high)
 
   -- a payload has at most one byte for 8 cells
-  pub bytes-most : planBytes (shapeOf h) ≤ 2048
+  pub bytes-most : planBytes (shapeOf h) ≤ maxCardBytes
   unfolding payloadBytes capacity
   bytes-most =
       let n = cellsOf (shapeOf h) in
-      omega (arith, plan-bytes (shapeOf h) (x .accepted), count-most (holdsData (classAt (shapeOf h)) n) n, x .cells)
+      omega (arith, plan-bytes (shapeOf h) (x .accepted), count-most (holdsData (layoutOf (shapeOf h))) n, x .cells)

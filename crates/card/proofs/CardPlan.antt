@@ -5,13 +5,13 @@ use mathlib.Core.Logic.{_≢_}
 use mathlib.Core.Path.{_≡_, sym, _∙_}
 use lib.ListN.{length}
 use Rattle.lattice.specs.declared.shape.Shape.{Shape}
-use Rattle.lattice.specs.Shape.{Accepted, cellsOf}
-use Rattle.lattice.specs.Class.{classAt}
+use Rattle.lattice.specs.Shape.{maxClasses, Accepted, cellsOf}
+use Rattle.lattice.specs.Class.{layoutOf}
 use Rattle.lattice.specs.Refusal.{beside, figure}
 use Rattle.lattice.proofs.Counting.{count-most}
 use Rattle.lattice.proofs.CapacityGiven.{classes-given}
 use Rattle.lattice.proofs.ClassBelow.{classes-stack-most}
-use Rattle.codec.specs.Field.{differences}
+use Rattle.codec.specs.Field.{fieldOf, differences}
 use Rattle.codec.specs.Payload.{payloadBytes, heldPayload}
 use Rattle.codec.specs.Plan.{planClasses, planBytes}
 use Rattle.codec.specs.Decode.{correctedField, correctedCount, decodeNumber, decodeCount, decodeLeaves}
@@ -19,14 +19,15 @@ use Rattle.codec.proofs.Accepted.{plan-bytes, plan-classes}
 use Rattle.codec.proofs.FieldLists.{length-listOf}
 
 -- no shape has more than 512 classes, and no accepted stack more than 92
-pub classes-most : (s : Shape) → planClasses s ≤ 512
+pub classes-most : (s : Shape) → planClasses s ≤ maxClasses
 unfolding planClasses
 classes-most s = classes-given s
 
 -- no count is above the number of cells
 pub count-cells : (s : Shape) (payload field : List ℕ) → decodeCount s payload field ≤ cellsOf s
 unfolding decodeCount correctedCount differences
-count-cells s payload field = less (decodeNumber s payload field) (correctedCount s field) (cellsOf s) (count-most _ (cellsOf s))
+count-cells s payload field =
+    less (decodeNumber s payload field) (correctedCount s (fieldOf field)) (cellsOf s) (count-most _ (cellsOf s))
   where
     less : (number n m : ℕ) → n ≤ m → figure number n ≤ m
     less zero n m l = l
@@ -42,6 +43,6 @@ module _ (s : Shape) (accepted : Accepted s) where
   unfolding decodeLeaves heldPayload
   leaves-long payload field long = go (decodeNumber s payload field)
     where
-      go : (n : ℕ) → length (beside n (heldPayload (classAt s) (cellsOf s) (correctedField s field)) payload) ≡ planBytes s
-      go zero = length-listOf _ (payloadBytes (classAt s) (cellsOf s)) ∙ sym (plan-bytes s accepted)
+      go : (n : ℕ) → length (beside n (heldPayload (layoutOf s) (correctedField s (fieldOf field))) payload) ≡ planBytes s
+      go zero = length-listOf _ (payloadBytes (layoutOf s)) ∙ sym (plan-bytes s accepted)
       go (suc n) = long

@@ -9,12 +9,12 @@ use lib.Dec.{eqb}
 use lib.ListN.{length}
 use Rattle.lattice.specs.Refusal.{listed, unless}
 use Rattle.lattice.specs.Shape.{shapeConditions, cellsOf}
-use Rattle.lattice.specs.Class.{classesOf, classAt}
+use Rattle.lattice.specs.Class.{layoutOf}
 use Rattle.lattice.proofs.Answers.{unless-zero}
 use Rattle.lattice.proofs.Due.{Due, first-due, due-none, due-test, due-skip, due-append, due-settled}
 use Rattle.lattice.proofs.Refusals.{at-most, shape-due}
 use Rattle.codec.specs.Field.{fieldOf}
-use Rattle.codec.specs.Hamming.{allInReach}
+use Rattle.codec.specs.Code.{fieldInReach}
 use Rattle.codec.specs.Payload.{paddingOk}
 use Rattle.codec.specs.Plan.{planBytes, planCells}
 use Rattle.codec.specs.Encode.{encodeNumber}
@@ -67,8 +67,8 @@ encoded-long h card p e =
 -- decoding a field of 0s and 1s refuses its classes and its padding alone
 decode-cells : (h : Header) → CardHeader h → (cells : List ℕ) → FieldCells h cells
     → decodeNumber (shapeOf h) (blankPayload h) cells
-    ≡ unless (allInReach (classAt (shapeOf h)) (cellsOf (shapeOf h)) (classesOf (shapeOf h)) (fieldOf cells)) 6
-    (unless (paddingOk (classAt (shapeOf h)) (cellsOf (shapeOf h)) (correctedField (shapeOf h) cells)) 7 0)
+    ≡ unless (fieldInReach (shapeOf h) (fieldOf cells)) 6
+    (unless (paddingOk (layoutOf (shapeOf h)) (correctedField (shapeOf h) (fieldOf cells))) 7 0)
 unfolding fieldNumber
 decode-cells h card cells each =
     decode-number (shapeOf h) (card .accepted) (blankPayload h) cells (blank-payload h) (each .long)
@@ -82,8 +82,8 @@ module _ (s : List ℕ) (h : Header) (next : ℕ) (found : headerOf s ≡ head.F
       subst (Due (operationRefusals s)) (sym (operation-payload s h next e ∙ encode-length h card p))
       (due-test 2 _ (payload-condition s h next found card p bytes text)
       (λ _.
-      due-skip (no-field s h next found card p bytes text (λ g c. NoneInReach (shapeOf g) c))
-      (due-skip (no-field s h next found card p bytes text (λ g c. WrongPadding (shapeOf g) c)) due-none)))
+      due-skip (no-field s h next found card p bytes text NoneInReach)
+      (due-skip (no-field s h next found card p bytes text WrongPadding) due-none)))
   operation-due card (of-field e each text) =
       let cells = cellsIn s h next in
       subst (Due (operationRefusals s)) (sym (operation-rows s h next e ∙ decode-cells h card cells each))

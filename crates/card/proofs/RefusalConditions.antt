@@ -9,11 +9,11 @@ use lib.ListN.{length, drop}
 use Rattle.lattice.specs.declared.shape.Shape.{Shape}
 use Rattle.lattice.specs.Refusal.{Condition, listedAt}
 use Rattle.lattice.specs.Shape.{cellsOf}
-use Rattle.lattice.specs.Class.{classesOf, classAt}
+use Rattle.lattice.specs.Class.{layoutOf}
 use Rattle.lattice.proofs.Due.{Decides, decides-same, Due, SameConditions, due-same}
 use Rattle.lattice.proofs.Refusals.{at-most}
-use Rattle.codec.specs.Field.{fieldOf}
-use Rattle.codec.specs.Hamming.{allInReach}
+use Rattle.codec.specs.Field.{Field, fieldOf}
+use Rattle.codec.specs.Code.{fieldInReach}
 use Rattle.codec.specs.Payload.{Bytes, paddingOk}
 use Rattle.codec.specs.Plan.{planBytes}
 use Rattle.codec.specs.Decode.{correctedField}
@@ -97,7 +97,7 @@ module _ (s : List ℕ) (h : Header) (next : ℕ) (found : headerOf s ≡ head.F
               ∙ payload-read s h next found card p bytes text .1 in
               subst₂ (λ (g : Header) (l : List ℕ). WrongPayload (shapeOf g) l) (same-header s h next found (r .0)) same (r .4)
 
-      pub no-field : (C : Header → List ℕ → Type 0) → ¬ FieldRefused C s
+      pub no-field : (C : Shape → Field → Type 0) → ¬ FieldRefused C s
       no-field C r = let d = rows-of s h next found (r .0) (r .1) (r .2) (r .3) in one-kind p (r .1) (d .0) text (d .1)
 
     -- a field's card: no payload's length, and the conditions on its cells
@@ -106,29 +106,30 @@ module _ (s : List ℕ) (h : Header) (next : ℕ) (found : headerOf s ≡ head.F
       no-payload r =
           one-kind (r .1) cells each (text-of s h next found (r .0) (payloadText (r .1)) (r .3)) text
 
-      field-condition : (C : Header → List ℕ → Type 0) → C h cells ↔ FieldRefused C s
+      field-condition : (C : Shape → Field → Type 0) → C (shapeOf h) (fieldOf cells) ↔ FieldRefused C s
       unfolding first
       field-condition C = (there, back)
         where
-          there : C h cells → FieldRefused C s
+          there : C (shapeOf h) (fieldOf cells) → FieldRefused C s
           there c =
               let x = first s h next found in
               (x, cells, each, rest-of s h next found x (fieldText h cells) text, c)
 
-          back : FieldRefused C s → C h cells
+          back : FieldRefused C s → C (shapeOf h) (fieldOf cells)
           back r =
               let d = rows-of s h next found (r .0) (r .1) (r .2) (r .3) in
               let same : r .1 ≡ cells =
               sym (field-read s h next found card (r .1) (d .0) (d .1) .1)
               ∙ field-read s h next found card cells each text .1 in
-              subst₂ C (same-header s h next found (r .0)) same (r .4)
+              subst₂ (λ (g : Header) (c : List ℕ). C (shapeOf g) (fieldOf c)) (same-header s h next found (r .0)) same (r .4)
 
-      pub reach-condition : Decides (allInReach (classAt (shapeOf h)) (cellsOf (shapeOf h)) (classesOf (shapeOf h)) (fieldOf cells)) (ReachRefused s)
+      pub reach-condition : Decides (fieldInReach (shapeOf h) (fieldOf cells)) (ReachRefused s)
       reach-condition =
-          decides-same (field-condition (λ g c. NoneInReach (shapeOf g) c)) (reach-decides (shapeOf h) cells (card .accepted) (each .long) (received-cells _ _ (each .each)))
+          decides-same (field-condition NoneInReach)
+          (reach-decides (shapeOf h) (card .accepted) (fieldOf cells) (received-cells _ _ (each .each)))
 
-      pub padding-condition : allInReach (classAt (shapeOf h)) (cellsOf (shapeOf h)) (classesOf (shapeOf h)) (fieldOf cells) ≡ true
-          → Decides (paddingOk (classAt (shapeOf h)) (cellsOf (shapeOf h)) (correctedField (shapeOf h) cells)) (PaddingRefused s)
+      pub padding-condition : fieldInReach (shapeOf h) (fieldOf cells) ≡ true
+          → Decides (paddingOk (layoutOf (shapeOf h)) (correctedField (shapeOf h) (fieldOf cells))) (PaddingRefused s)
       padding-condition reach =
-          decides-same (field-condition (λ g c. WrongPadding (shapeOf g) c))
-          (padding-decides (shapeOf h) cells (card .accepted) (each .long) (received-cells _ _ (each .each)) reach)
+          decides-same (field-condition WrongPadding)
+          (padding-decides (shapeOf h) (card .accepted) (fieldOf cells) (received-cells _ _ (each .each)) reach)

@@ -10,8 +10,8 @@ use Rattle.lattice.specs.declared.shape.NewShape.the-variants as new
 use Rattle.lattice.specs.declared.refusal.Refusal.{Refusal}
 use Rattle.lattice.specs.Refusal.{refusalNumber, figure}
 use Rattle.lattice.specs.Answer.{IsNewShape}
-use Rattle.lattice.specs.Shape.{shapeNumber, Accepted, cellsOf}
-use Rattle.lattice.specs.Class.{classesOf, classAt}
+use Rattle.lattice.specs.Shape.{maxSide, maxPlanes, shapeNumber, Accepted, cellsOf}
+use Rattle.lattice.specs.Class.{classesOf, layoutOf}
 use Rattle.lattice.specs.Position.{capacity}
 use Rattle.lattice.proofs.Answers.{beside-zero, refused}
 use Rattle.lattice.proofs.ClassAt.{at-cells}
@@ -24,7 +24,7 @@ use Rattle.codec.proofs.Accepted.{encode-number}
 use Rattle.codec.proofs.FieldLists.{length-listOf}
 use Rattle.card.specs.declared.header.Header.{Header}
 use Rattle.card.specs.Text.{numberLine, headerText, payloadText, fieldText, refusalText, classesKey, mendedKey}
-use Rattle.card.specs.Card.{shapeOf, FieldCells}
+use Rattle.card.specs.Card.{maxCardCells, maxCardBytes, shapeOf, FieldCells}
 use Rattle.card.specs.Parse.{rowsOk, cellsAt}
 use Rattle.card.specs.Program.{blankPayload, rowsFit, cellsIn, writtenText, readText}
 use Rattle.card.specs.Working.{CardShape, headText, decodedText}
@@ -42,10 +42,10 @@ module _ (h : Header) (r : NewShape) (x : IsNewShape (h .numbers) r) where
         at-cells (shapeOf h) (new-accepted _ _ x s e) n
         (p ∙ ap (λ (t : Shape). figure (shapeNumber t) (cellsOf t)) (new-shape _ _ x s e))
 
-    pub new-many : (n : ℕ) → n ≡ figure (shapeNumber s) (cellsOf s) → 16384 < n → 16384 < cellsOf (shapeOf h)
+    pub new-many : (n : ℕ) → n ≡ figure (shapeNumber s) (cellsOf s) → maxCardCells < n → maxCardCells < cellsOf (shapeOf h)
     new-many n p l = rw (cells-given n p) at l
 
-    pub new-card : (n : ℕ) → n ≡ figure (shapeNumber s) (cellsOf s) → n ≤ 16384 → CardShape h s
+    pub new-card : (n : ℕ) → n ≡ figure (shapeNumber s) (cellsOf s) → n ≤ maxCardCells → CardShape h s
     new-card n p l = record { card = record { accepted = new-accepted _ _ x s e; cells = rw (cells-given n p) at l }; shape = new-shape _ _ x s e }
 
 -- the figures of a card's shape
@@ -56,23 +56,23 @@ module _ (h : Header) (s : Shape) (x : CardShape h s) where
   pub cells-are : (n : ℕ) → n ≡ figure (shapeNumber s) (cellsOf s) → n ≡ cellsOf s
   cells-are = at-cells s accepted
 
-  pub cells-fit : (n : ℕ) → n ≡ figure (shapeNumber s) (cellsOf s) → n ≤ 16384
+  pub cells-fit : (n : ℕ) → n ≡ figure (shapeNumber s) (cellsOf s) → n ≤ maxCardCells
   cells-fit n e = rw (cells-are n e, x .shape) (x .card .cells)
 
-  pub bytes-are : (k : ℕ) → k ≡ figure (shapeNumber s) (capacity (classAt s) (cellsOf s)) → k / 8 ≡ planBytes s
+  pub bytes-are : (k : ℕ) → k ≡ figure (shapeNumber s) (capacity (layoutOf s)) → k / 8 ≡ planBytes s
   unfolding planBytes planCapacity
   bytes-are k e = ap (λ (n : ℕ). n / 8) e
 
-  pub bytes-fit : planBytes s ≤ 2048
+  pub bytes-fit : planBytes s ≤ maxCardBytes
   bytes-fit = rw (x .shape) (bytes-most h (x .card))
 
   pub columns-some : 0 < s .columns
   columns-some = rw (x .shape) (limits h (x .card) .width-low)
 
-  pub columns-narrow : s .columns ≤ 256
+  pub columns-narrow : s .columns ≤ maxSide
   columns-narrow = rw (x .shape) (limits h (x .card) .width-high)
 
-  pub lines-most : s .planes * s .rows ≤ 4096
+  pub lines-most : s .planes * s .rows ≤ maxPlanes * maxSide
   lines-most = rw (x .shape) (rows-most h (x .card))
 
   -- encoding leaves the field written
@@ -108,7 +108,7 @@ module _ (h : Header) (s : Shape) (x : CardShape h s) where
     decoded-refused why e = let n = e ∙ same-number in ap refusalText n ∙ refused why _ _ _ n
 
     module _ (last : List ℕ) (leaves : last ≡ decodeLeaves s payload cells) where
-      pub decoded-long : length last ≤ 2048
+      pub decoded-long : length last ≤ maxCardBytes
       decoded-long =
           rw (leaves, leaves-long s accepted payload cells (ap length blank ∙ blank-payload h ∙ ap planBytes (sym (x .shape)))) bytes-fit
 

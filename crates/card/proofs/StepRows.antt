@@ -9,6 +9,7 @@ use lib.Dec.{eqb}
 use lib.ListN.{length, getD}
 use borrow.Author.Tests.{eq-eqb, ne-eqb}
 use Rattle.lattice.specs.Position.{allBelow}
+use Rattle.lattice.specs.Shape.{maxSide, maxCells}
 use Rattle.codec.proofs.StepTest.{Passed, passed-all, failed-at}
 use Rattle.card.specs.Text.{rowKey, feed}
 use Rattle.card.specs.Parse.{keyAt, isCellDigit, rowStart, rowOk, rowsOk, cellPlace, cellsAt}
@@ -87,9 +88,9 @@ module _ (s : List ℕ) (at w : ℕ) where
       p ∙ ap (λ (x : ℕ). x - 48) (e ∙ ap (λ (x : ℕ). getD s (at + i / w * x + 4 + i % w) 0) wide)
 
   -- no place is far behind
-  pub cell-far : w ≤ 256 → (i n : ℕ) → i < n → n ≤ 65536 → i / w * (w + 5) ≤ 17104896
+  pub cell-far : w ≤ maxSide → (i n : ℕ) → i < n → n ≤ maxCells → i / w * (w + 5) ≤ 17104896
   cell-far narrow i n l m =
-      let far : i / w ≤ 65536 = omega (arith, div-le-self i w) in
+      let far : i / w ≤ maxCells = omega (arith, div-le-self i w) in
       let wide : w + 5 ≤ 261 = omega arith in
       mul-le-mul far wide
 

@@ -16,6 +16,10 @@ maxInput = 65536
 abbrev pub maxCardCells : ℕ
 maxCardCells = 16384
 
+-- the most bytes of a payload that so many cells hold
+abbrev pub maxCardBytes : ℕ
+maxCardBytes = 2048
+
 -- the longest answer, that of 4 columns, 256 rows and 16 planes at strength 8
 abbrev pub maxAnswer : ℕ
 maxAnswer = 36915

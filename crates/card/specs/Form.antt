@@ -8,6 +8,7 @@ use lib.ListN.{length, drop}
 use Rattle.lattice.specs.declared.shape.Shape.{Shape}
 use Rattle.lattice.specs.Refusal.{Listed, listed, Condition, listedBy, Settled}
 use Rattle.lattice.specs.Shape.{shapeConditions, cellsOf}
+use Rattle.codec.specs.Field.{Field, fieldOf}
 use Rattle.codec.specs.Payload.{Bytes}
 use Rattle.codec.specs.Plan.{planClasses, planBytes}
 use Rattle.codec.specs.Decode.{decodeCount}
@@ -57,15 +58,16 @@ PayloadRefused s =
     (x : HeaderFirst s) × (p : List ℕ) × Bytes p × (x .rest ≡ payloadText p) × WrongPayload (shapeOf (x .header)) p
 
 -- 6, 7: of the field that the rows give
-abbrev pub FieldRefused : (Header → List ℕ → Type 0) → List ℕ → Type 0
+abbrev pub FieldRefused : (Shape → Field → Type 0) → List ℕ → Type 0
 FieldRefused C s =
-    (x : HeaderFirst s) × (cells : List ℕ) × FieldCells (x .header) cells × (x .rest ≡ fieldText (x .header) cells) × C (x .header) cells
+    (x : HeaderFirst s) × (cells : List ℕ) × FieldCells (x .header) cells × (x .rest ≡ fieldText (x .header) cells)
+    × C (shapeOf (x .header)) (fieldOf cells)
 
 abbrev pub ReachRefused : List ℕ → Type 0
-ReachRefused s = FieldRefused (λ h cells. NoneInReach (shapeOf h) cells) s
+ReachRefused s = FieldRefused NoneInReach s
 
 abbrev pub PaddingRefused : List ℕ → Type 0
-PaddingRefused s = FieldRefused (λ h cells. WrongPadding (shapeOf h) cells) s
+PaddingRefused s = FieldRefused WrongPadding s
 
 -- the operation's own refusals
 abbrev pub operationRefusals : List ℕ → List Listed

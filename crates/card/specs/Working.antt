@@ -5,6 +5,7 @@ use mathlib.Core.Path.{_≡_}
 use lib.ListN.{length, take, drop}
 use Rattle.lattice.specs.declared.shape.Shape.{Shape}
 use Rattle.lattice.specs.Refusal.{beside}
+use Rattle.lattice.specs.Shape.{maxSide, maxCells}
 use Rattle.codec.specs.Decode.{decodeNumber}
 use Rattle.card.specs.declared.header.Header.{Header}
 use Rattle.card.specs.declared.header.HeaderAnswer.the-variants as head
@@ -22,8 +23,8 @@ joined (key ∷ keys) = key ++ joined keys
 pub record CellsFit (s : List ℕ) (at w : ℕ) (field : List ℕ) : Type 0 where
   pub inside : at ≤ length s
   pub some : 0 < w
-  pub narrow : w ≤ 256
-  pub cells : length field ≤ 65536
+  pub narrow : w ≤ maxSide
+  pub cells : length field ≤ maxCells
 
 -- a text has room in a buffer from `at` on
 pub record Room (buffer : List ℕ) (at : ℕ) (text : List ℕ) : Type 0 where

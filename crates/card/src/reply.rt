@@ -5,7 +5,7 @@ ghost use Prim.Native.Nat.{_≤_};
 ghost use lib.ListN.{length};
 ghost use Rattle.lattice.specs.Refusal.{refusalNumber};
 ghost use Rattle.card.specs.Text.{classesKey, mendedKey, payloadText, fieldText, refusalText};
-ghost use Rattle.card.specs.Card.{FieldCells, CardHeader};
+ghost use Rattle.card.specs.Card.{maxCardBytes, FieldCells, CardHeader};
 ghost use Rattle.card.specs.Working.{Room, Printed, Answered, headText};
 use crate::header::Header;
 use crate::header::header_length;
@@ -68,7 +68,7 @@ pub(crate) fn reply_payload(
     payload: &[u8],
     output: &mut [u8],
 ) -> usize
-    requires { ⌜ length (now payload) ≤ 2048 ⌝ }
+    requires { ⌜ length (now payload) ≤ maxCardBytes ⌝ }
     ensures { λ r. ⌜ Answered (headText header mendedKey mended ++ payloadText (now (payload .entry))) (now (output .entry)) (now (output .exit)) r ⌝ }
 {
     let length = head_length(header, b"mended=", mended) + 9 + 2 * payload.len();

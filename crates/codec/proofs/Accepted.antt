@@ -7,7 +7,7 @@ use lib.ListN.{length}
 use Rattle.lattice.specs.declared.shape.Shape.{Shape}
 use Rattle.lattice.specs.Shape.{Accepted, cellsOf}
 use Rattle.lattice.specs.Cell.{cellAt}
-use Rattle.lattice.specs.Class.{classesOf, classAt}
+use Rattle.lattice.specs.Class.{classesOf, classAt, layoutOf}
 use Rattle.lattice.proofs.Answers.{beside-zero}
 use Rattle.lattice.proofs.ClassBelow.{class-below}
 use Rattle.codec.specs.Payload.{payloadBytes}
@@ -15,10 +15,11 @@ use Rattle.codec.specs.Plan.{planNumber, planClasses, planCapacity, plan
 use Rattle.codec.specs.Encode.{encodeNumber}
 use Rattle.codec.specs.Decode.{decodeNumber, fieldNumber}
 use Rattle.codec.specs.Correct.{correctNumber}
+use Rattle.codec.specs.Field.{fieldOf}
 
 module _ (s : Shape) (accepted : Accepted s) where
   -- the plan's figures are those of the shape
-  pub plan-bytes : planBytes s ≡ payloadBytes (classAt s) (cellsOf s)
+  pub plan-bytes : planBytes s ≡ payloadBytes (layoutOf s)
   unfolding planBytes planCapacity payloadBytes
   plan-bytes = ap (λ (k : ℕ). k / 8) (beside-zero (planNumber s) _ 0 accepted)
 
@@ -41,12 +42,12 @@ module _ (s : Shape) (accepted : Accepted s) where
       rw (accepted, eq-eqb (length payload) (planBytes s) hp, eq-eqb (length field) (planCells s) (hf ∙ sym plan-cells))
 
   pub decode-number : (payload field : List ℕ) → length payload ≡ planBytes s → length field ≡ cellsOf s
-      → decodeNumber s payload field ≡ fieldNumber s field
+      → decodeNumber s payload field ≡ fieldNumber s (fieldOf field)
   unfolding decodeNumber
   decode-number payload field hp hf =
       rw (accepted, eq-eqb (length payload) (planBytes s) hp, eq-eqb (length field) (planCells s) (hf ∙ sym plan-cells))
 
-  pub correct-number : (field : List ℕ) → length field ≡ cellsOf s → correctNumber s field ≡ fieldNumber s field
+  pub correct-number : (field : List ℕ) → length field ≡ cellsOf s → correctNumber s field ≡ fieldNumber s (fieldOf field)
   unfolding correctNumber
   correct-number field hf =
       rw (accepted, eq-eqb (length field) (planCells s) (hf ∙ sym plan-cells))

@@ -1,13 +1,14 @@
--- Damage to at most one cell of each class is mended, for any placement of n cells in classes.
+-- Damage to at most one cell of each class is mended, for any layout of cells in classes.
 use Prim.Native.Nat.{ℕ, _<_}
 use mathlib.Core.Bool.{Bool, true, false}
 use mathlib.Core.Logic.{_≢_}
 use mathlib.Core.Path.{_≡_, refl, sym, _∙_}
 use native.Mathlib.Omega.{arith}
 use Rattle.codec.specs.Field.{Field, Cells, flip, isCell}
-use Rattle.codec.specs.Hamming.{Lawful, Near, Nearest}
+use Rattle.codec.specs.Hamming.{Tags, Lawful, Near, Nearest}
 use Rattle.codec.specs.Recovery.{damaged}
 use Rattle.codec.proofs.CellValues.{most-cell}
+use Rattle.lattice.specs.Position.{Layout}
 
 module _ (f : Field) (selected : ℕ → Bool) where
   pub damaged-turned : (i : ℕ) → selected i ≡ true → damaged f selected i ≡ flip (f i)
@@ -34,16 +35,16 @@ module _ (f : Field) (selected : ℕ → Bool) where
       go false e = absurd (d (damaged-kept i e))
 
 -- at most one cell of each class is selected
-abbrev pub OneEach : (ℕ → ℕ) → ℕ → (ℕ → Bool) → Type 0
-OneEach cls n selected =
-    (i j : ℕ) → i < n → j < n → selected i ≡ true → selected j ≡ true → cls i ≡ cls j → i ≡ j
+abbrev pub OneEach : Layout → (ℕ → Bool) → Type 0
+OneEach L selected =
+    (i j : ℕ) → i < L .cells → j < L .cells → selected i ≡ true → selected j ≡ true → L .class i ≡ L .class j → i ≡ j
 
-module _ (cls : ℕ → ℕ) (n : ℕ) (f : Field) (selected : ℕ → Bool) (one : OneEach cls n selected) where
-  pub damaged-near : (a : ℕ) → Near cls n (damaged f selected) f a
+module _ (L : Layout) (tag : Tags) (f : Field) (selected : ℕ → Bool) (one : OneEach L selected) where
+  pub damaged-near : (a : ℕ) → Near L (damaged f selected) f a
   unfolding Near
   damaged-near a i j l m c d x y =
       one i j l m (damaged-selected f selected i x) (damaged-selected f selected j y) (c ∙ sym d)
 
   -- a lawful field is the nearest to it after the damage
-  pub damaged-nearest : Lawful cls n f → Nearest cls n (damaged f selected) f
+  pub damaged-nearest : Lawful L tag f → Nearest L tag (damaged f selected) f
   damaged-nearest h = record { lawful = h; near = damaged-near }

@@ -12,78 +12,80 @@ use lib.ListN.{length}
 use Rattle.lattice.specs.declared.shape.Shape.{Shape}
 use Rattle.lattice.specs.Refusal.{unless}
 use Rattle.lattice.specs.Shape.{Accepted, shapeRefusals, cellsOf}
-use Rattle.lattice.specs.Class.{classesOf, classAt}
+use Rattle.lattice.specs.Class.{classesOf, layoutOf}
 use Rattle.lattice.proofs.Answers.{beside-other}
 use Rattle.lattice.proofs.Due.{Decides, Due, due-none, due-test, due-append, due-settled}
 use Rattle.lattice.proofs.Refusals.{shape-due, shapeRefused}
-use Rattle.codec.specs.Field.{fieldOf, Cells, cellsOk}
-use Rattle.codec.specs.Hamming.{allInReach}
+use Rattle.codec.specs.Field.{Field, fieldOf, Cells, cellsOk}
 use Rattle.codec.specs.Payload.{paddingOk}
 use Rattle.codec.specs.Plan.{planNumber, planClasses, planCapacity, planBytes, planCells}
 use Rattle.codec.specs.Decode.{correctedField, fieldNumber, decodeNumber, decodeCount, decodeLeaves}
 use Rattle.codec.specs.Refused.{NotACell, NoneInReach, WrongPadding, fieldRefusals, encodeRefusals, decodeRefusals, correctRefusals, PlanRefused, EncodeRefused, DecodeRefused, CorrectRefused, RefusalsChangeNothing}
 use Rattle.codec.specs.Encode.{encodeNumber, encodeLeaves}
 use Rattle.codec.specs.Correct.{correctNumber, correctCount, correctLeaves}
+use Rattle.codec.specs.Code.{tagsAt, fieldInReach}
 use Rattle.codec.proofs.CellValues.{received-cells}
 use Rattle.codec.proofs.Accepted.{class-at-below, plan-cells}
 use Rattle.codec.proofs.FieldLists.{ok-received, not-received}
 use Rattle.codec.proofs.Correction.{nearest-corrected}
 use Rattle.codec.proofs.Reach.{some-reach, all-reach, none-in-reach, reach-nearest}
 use Rattle.codec.proofs.PaddingCells.{ok-padding, not-padding, padding-right-same}
+use Rattle.codec.proofs.Tags.{tags-tell}
 
 -- a test of two lengths decides that they differ
 pub equal-decides : (a b : ℕ) → Decides (eqb a b) (a ≢ b)
 equal-decides a b = record { fails = eqb-false a b; passes = λ e other. other (eqb-true a b e) }
 
--- the tests of a field of the plan's length
-module _ (s : Shape) (field : List ℕ) (accepted : Accepted s) (long : length field ≡ cellsOf s) where
-  pub cells-decide : Decides (cellsOk (fieldOf field) (cellsOf s)) (NotACell field)
-  cells-decide =
+-- the test of the cells of a field of the plan's length
+pub cells-decide : (s : Shape) (field : List ℕ) → length field ≡ cellsOf s
+    → Decides (cellsOk (fieldOf field) (cellsOf s)) (NotACell (fieldOf field) (length field))
+cells-decide s field long =
+    record {
+      fails = λ e. let found = not-received (fieldOf field) (cellsOf s) e in (found .0, omega (arith, found .1), found .2);
+      passes = λ e none.
+          true≢false (sym (ok-received (fieldOf field) (cellsOf s) e (none .0) (omega (arith, none .1))) ∙ none .2);
+    }
+
+-- the tests of a field of cells
+module _ (s : Shape) (accepted : Accepted s) (f : Field) (cells : Cells f (cellsOf s)) where
+  pub reach-decides : Decides (fieldInReach s f) (NoneInReach s f)
+  reach-decides =
       record {
-        fails = λ e. let found = not-received (fieldOf field) (cellsOf s) e in (found .0, omega (arith, found .1), found .2);
-        passes = λ e none. true≢false (sym (ok-received (fieldOf field) (cellsOf s) e (none .0) (omega (arith, none .1))) ∙ none .2);
+        fails = none-in-reach (layoutOf s) (tagsAt s) (classesOf s) (class-at-below s accepted) f (tags-tell (layoutOf s)) cells;
+        passes = λ e none.
+            let each = all-reach (layoutOf s) (tagsAt s) (classesOf s) (class-at-below s accepted) f e (none .0) in
+            let near = some-reach (tags-tell (layoutOf s)) f cells (none .0) each in
+            none .1 (near .0) (near .1) (near .2) (near .3);
       }
 
-  module _ (cells : Cells (fieldOf field) (cellsOf s)) where
-    pub reach-decides : Decides (allInReach (classAt s) (cellsOf s) (classesOf s) (fieldOf field)) (NoneInReach s field)
-    reach-decides =
-        record {
-          fails = none-in-reach (classAt s) (cellsOf s) (classesOf s) (class-at-below s accepted) (fieldOf field) cells;
-          passes = λ e none.
-              let near = some-reach (classAt s) (cellsOf s) (fieldOf field) cells (none .0)
-              (all-reach (classAt s) (cellsOf s) (classesOf s) (class-at-below s accepted) (fieldOf field) e (none .0)) in
-              none .1 (near .0) (near .1) (near .2) (near .3);
-        }
-
-    module _ (reach : allInReach (classAt s) (cellsOf s) (classesOf s) (fieldOf field) ≡ true) where
-      pub padding-decides : Decides (paddingOk (classAt s) (cellsOf s) (correctedField s field)) (WrongPadding s field)
-      padding-decides =
-          record {
-            fails = λ e. (
-              correctedField s field,
-              reach-nearest (classAt s) (cellsOf s) (classesOf s) (class-at-below s accepted) (fieldOf field) cells reach,
-              not-padding (classAt s) (cellsOf s) (correctedField s field) e,
-            );
-            passes = λ e wrong.
-                wrong .2
-                (padding-right-same (classAt s) (cellsOf s) (correctedField s field) (wrong .0)
-                (nearest-corrected (classAt s) (cellsOf s) (fieldOf field) cells (wrong .0) (wrong .1))
-                (ok-padding (classAt s) (cellsOf s) (correctedField s field) e));
-          }
+  pub padding-decides : fieldInReach s f ≡ true → Decides (paddingOk (layoutOf s) (correctedField s f)) (WrongPadding s f)
+  padding-decides reach =
+      record {
+        fails = λ e. (
+          correctedField s f,
+          reach-nearest (layoutOf s) (tagsAt s) (classesOf s) (class-at-below s accepted) f (tags-tell (layoutOf s)) cells reach,
+          not-padding (layoutOf s) (correctedField s f) e,
+        );
+        passes = λ e wrong.
+            wrong .2
+            (padding-right-same (layoutOf s) (correctedField s f) (wrong .0)
+            (nearest-corrected (tags-tell (layoutOf s)) f cells (wrong .0) (wrong .1))
+            (ok-padding (layoutOf s) (correctedField s f) e));
+      }
 
 -- the number that is due to a field, from its length on
 field-due : (s : Shape) (field : List ℕ) → Accepted s
-    → Due (fieldRefusals s field) (unless (eqb (length field) (planCells s)) 4 (fieldNumber s field))
+    → Due (fieldRefusals s field) (unless (eqb (length field) (planCells s)) 4 (fieldNumber s (fieldOf field)))
 unfolding fieldNumber
 field-due s field a =
     due-test 3 _ (equal-decides (length field) (planCells s))
     (λ right.
     let long = eqb-true (length field) (planCells s) right ∙ plan-cells s a in
-    due-test 4 _ (cells-decide s field a long)
+    due-test 4 _ (cells-decide s field long)
     (λ ok.
     let cells = received-cells (fieldOf field) (cellsOf s) (ok-received (fieldOf field) (cellsOf s) ok) in
-    due-test 5 _ (reach-decides s field a long cells)
-    (λ reach. due-test 6 _ (padding-decides s field a long cells reach) (λ _. due-none))))
+    due-test 5 _ (reach-decides s a (fieldOf field) cells)
+    (λ reach. due-test 6 _ (padding-decides s a (fieldOf field) cells reach) (λ _. due-none))))
 
 -- Theorem. The plan's number is settled by its conditions in the listed order: 1, 2.
 pub planRefused : PlanRefused

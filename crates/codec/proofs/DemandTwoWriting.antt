@@ -4,11 +4,12 @@ use mathlib.Core.List.{List}
 use mathlib.Core.Path.{sym, _∙_}
 use Rattle.lattice.specs.declared.shape.Shape.{Shape}
 use Rattle.lattice.specs.Shape.{cellsOf}
-use Rattle.lattice.specs.Class.{classAt}
+use Rattle.lattice.specs.Class.{layoutOf}
 use Rattle.codec.specs.Field.{fieldOf, Same}
 use Rattle.codec.specs.Payload.{encoded}
 use Rattle.codec.specs.Encode.{encodedField}
 use Rattle.codec.specs.Writing.{EncodeMeaning}
+use Rattle.codec.specs.Code.{tagsAt}
 use Rattle.codec.proofs.Accepted.{plan-bytes}
 use Rattle.codec.proofs.FieldLists.{length-listOf, getD-listOf, same-listOf}
 use Rattle.codec.proofs.Correction.{lawful-same}
@@ -16,9 +17,9 @@ use Rattle.codec.proofs.EncodedField.{encoded-lawful, encoded-carries, 
 use Rattle.codec.proofs.HeldPayload.{carries-same, encoded-different}
 
 -- the buffer of the field written holds the encoded cells
-pub written-cells : (s : Shape) (p : List ℕ) → Same (encoded (classAt s) (cellsOf s) p) (fieldOf (encodedField s p)) (cellsOf s)
+pub written-cells : (s : Shape) (p : List ℕ) → Same (encoded (layoutOf s) p) (fieldOf (encodedField s p)) (cellsOf s)
 unfolding encodedField
-written-cells s p i h = sym (getD-listOf (encoded (classAt s) (cellsOf s) p) (cellsOf s) i h)
+written-cells s p i h = sym (getD-listOf (encoded (layoutOf s) p) (cellsOf s) i h)
 
 -- Theorem. The field written has the plan's cells, is lawful, carries the payload, and is the only such field; two different payloads give two
 -- different fields.
@@ -26,16 +27,16 @@ pub encodeMeaning : EncodeMeaning
 unfolding encodedField
 encodeMeaning =
     record {
-      long = λ s p. length-listOf (encoded (classAt s) (cellsOf s) p) (cellsOf s);
+      long = λ s p. length-listOf (encoded (layoutOf s) p) (cellsOf s);
       lawful = λ s accepted p long bytes.
-          lawful-same (classAt s) (cellsOf s) (encoded (classAt s) (cellsOf s) p) (fieldOf (encodedField s p)) (written-cells s p)
-          (encoded-lawful (classAt s) (cellsOf s) p);
+          lawful-same (layoutOf s) (tagsAt s) (encoded (layoutOf s) p) (fieldOf (encodedField s p)) (written-cells s p)
+          (encoded-lawful (layoutOf s) p);
       carries = λ s accepted p long bytes.
-          carries-same (classAt s) (cellsOf s) (encoded (classAt s) (cellsOf s) p) (fieldOf (encodedField s p)) p (written-cells s p)
-          (encoded-carries (classAt s) (cellsOf s) p);
+          carries-same (layoutOf s) (encoded (layoutOf s) p) (fieldOf (encodedField s p)) p (written-cells s p)
+          (encoded-carries (layoutOf s) p);
       only = λ s accepted p long bytes f lawful carries i h.
-          encoded-only (classAt s) (cellsOf s) p f lawful carries i h ∙ written-cells s p i h;
+          encoded-only (layoutOf s) p f lawful carries i h ∙ written-cells s p i h;
       different = λ s accepted p q p-long q-long p-bytes q-bytes e.
-          encoded-different (classAt s) (cellsOf s) p q p-bytes q-bytes (p-long ∙ plan-bytes s accepted) (q-long ∙ plan-bytes s accepted)
-          (same-listOf (encoded (classAt s) (cellsOf s) p) (encoded (classAt s) (cellsOf s) q) (cellsOf s) e);
+          encoded-different (layoutOf s) p q p-bytes q-bytes (p-long ∙ plan-bytes s accepted) (q-long ∙ plan-bytes s accepted)
+          (same-listOf (encoded (layoutOf s) p) (encoded (layoutOf s) q) (cellsOf s) e);
     }

@@ -7,8 +7,9 @@ use lib.Dec.{eqb}
 use borrow.Author.Tests.{eq-eqb, ne-eqb}
 use Rattle.lattice.proofs.Counting.{count-same, count-none}
 use Rattle.codec.specs.Field.{Field, Cells, Same, differences}
-use Rattle.codec.specs.Hamming.{Nearest, corrected}
+use Rattle.codec.specs.Hamming.{Tags, Tells, Nearest, corrected}
 use Rattle.codec.proofs.Correction.{nearest-corrected}
+use Rattle.lattice.specs.Position.{Layout}
 
 -- no cells, no differences
 pub differences-none : (f g : Field) → differences f g 0 ≡ 0
@@ -38,7 +39,9 @@ differences-zero f g n p = count-none (λ i. not (eqb (f i) (g i))) n (λ i l. a
 pub differences-self : (f : Field) (n : ℕ) → differences f f n ≡ 0
 differences-self f n = differences-zero f f n (λ i l. refl)
 
-module _ (cls : ℕ → ℕ) (n : ℕ) (f : Field) where
+module _ {L : Layout} {tag : Tags} (tells : Tells L tag) (f : Field) where
   -- correction turns over as many cells as the nearest lawful field differs in
-  pub differences-nearest : Cells f n → (g : Field) → Nearest cls n f g → differences f (corrected cls n f) n ≡ differences f g n
-  differences-nearest p g h = differences-same f f (corrected cls n f) g n (λ i l. refl) (nearest-corrected cls n f p g h)
+  pub differences-nearest : Cells f (L .cells) → (g : Field) → Nearest L tag f g
+      → differences f (corrected L tag f) (L .cells) ≡ differences f g (L .cells)
+  differences-nearest p g h =
+      differences-same f f (corrected L tag f) g (L .cells) (λ i l. refl) (nearest-corrected tells f p g h)

@@ -14,6 +14,7 @@ pub mod DemandTwoWriting
 pub mod Differences
 pub mod EncodedField
 pub mod FieldLists
+pub mod FieldMeaning
 pub mod HeldByte
 pub mod HeldPayload
 pub mod NothingToCorrect
@@ -44,5 +45,6 @@ pub mod StepSyndrome
 pub mod StepTest
 pub mod StepValue
 pub mod Syndrome
+pub mod Tags
 pub mod Witnesses
 pub mod Xor

@@ -7,22 +7,23 @@ use lib.ListN.{length}
 use Rattle.lattice.specs.declared.shape.Shape.{Shape}
 use Rattle.lattice.specs.Shape.{Accepted, cellsOf}
 use Rattle.lattice.specs.Cell.{Cell}
-use Rattle.lattice.specs.Class.{classAt}
+use Rattle.lattice.specs.Class.{layoutOf}
 use Rattle.codec.specs.Field.{fieldOf, listOf, Same, differences}
 use Rattle.codec.specs.Payload.{Bytes, heldPayload}
 use Rattle.codec.specs.Plan.{planBytes}
 use Rattle.codec.specs.Encode.{encodedField}
 use Rattle.codec.specs.Decode.{correctedField, decodeNumber, decodeLeaves}
 use Rattle.codec.specs.Correct.{correctNumber, correctLeaves}
-use Rattle.codec.specs.Reading.{Readable, NearestTo, RightField}
+use Rattle.codec.specs.Reading.{Readable, RightField}
 use Rattle.codec.specs.Recovery.{damaged, damagedField, Recovered, NothingToCorrect}
+use Rattle.codec.specs.Code.{tagsAt, NearestTo}
 use Rattle.codec.proofs.Accepted.{plan-bytes}
 use Rattle.codec.proofs.CellValues.{cells-received}
 use Rattle.codec.proofs.Correction.{lawful-nearest, nearest-same}
 use Rattle.codec.proofs.Differences.{differences-self, differences-zero}
 use Rattle.codec.proofs.FieldLists.{listOf-same, list-field, listOf-fieldOf, cells-same}
 use Rattle.codec.proofs.HeldPayload.{carries-held}
-use Rattle.codec.proofs.DemandTwoReading.{nearest-mended, decodeMeaning, correctMeaning, correct-leaves}
+use Rattle.codec.proofs.DemandTwoReading.{means, decodeMeaning, correctMeaning, correct-leaves}
 use Rattle.codec.proofs.RecoveryByClass.{recoveryByClass}
 use Rattle.codec.proofs.DemandTwoWriting.{encodeMeaning}
 use Rattle.codec.proofs.StepNumber.{correct-taken}
@@ -52,74 +53,76 @@ readable s field e =
     record { accepted = t .fits .accepted; long = t .fits .long; cells = t .cells }
 
 module _ (s : Shape) (field : List ℕ) (success : correctNumber s field ≡ 0) where
-  found : RightField s field
+  found : RightField s (fieldOf field)
   found = correctMeaning s field (readable s field success) .success .0 success
 
-  L : List ℕ
-  L = correctLeaves s field
+  M : List ℕ
+  M = correctLeaves s field
 
   -- the mended buffer holds the lawful field that was found
-  holds : Same (fieldOf L) (found .0) (cellsOf s)
-  unfolding L
+  holds : Same (fieldOf M) (found .0) (cellsOf s)
+  unfolding M
   holds = correctMeaning s field (readable s field success) .leaves (found .0) (found .1) (found .2)
 
-  L-long : length L ≡ cellsOf s
-  unfolding L
-  L-long = correctMeaning s field (readable s field success) .long success
+  M-long : length M ≡ cellsOf s
+  unfolding M
+  M-long = correctMeaning s field (readable s field success) .long success
 
-  L-readable : Readable s L
-  L-readable =
+  M-readable : Readable s M
+  M-readable =
       record {
         accepted = readable s field success .accepted;
-        long = L-long;
+        long = M-long;
         cells =
-            cells-received (fieldOf L) (cellsOf s)
-            (cells-same (found .0) (fieldOf L) (cellsOf s) (λ i h. sym (holds i h)) (found .1 .lawful .cells));
+            cells-received (fieldOf M) (cellsOf s)
+            (cells-same (found .0) (fieldOf M) (cellsOf s) (λ i h. sym (holds i h)) (found .1 .lawful .cells));
       }
 
-  L-nearest : NearestTo s L (found .0)
-  L-nearest =
-      nearest-same (classAt s) (cellsOf s) (found .0) (fieldOf L) (found .0) (found .0) (λ i h. sym (holds i h)) (λ i h. refl)
-      (lawful-nearest (classAt s) (cellsOf s) (found .0) (found .1 .lawful))
+  M-nearest : NearestTo s (fieldOf M) (found .0)
+  M-nearest =
+      nearest-same (layoutOf s) (tagsAt s) (found .0) (fieldOf M) (found .0) (found .0) (λ i h. sym (holds i h)) (λ i h. refl)
+      (lawful-nearest (found .0) (found .1 .lawful))
 
-  L-success : correctNumber s L ≡ 0
-  L-success = correctMeaning s L L-readable .success .1 (found .0, L-nearest, found .2)
+  M-success : correctNumber s M ≡ 0
+  M-success = correctMeaning s M M-readable .success .1 (found .0, M-nearest, found .2)
 
   module _ (buffer : List ℕ) (fits : length buffer ≡ planBytes s) where
     -- the payload of a field in which the one that was found is nearest
-    payload-of : (G : List ℕ) → Readable s G → NearestTo s G (found .0) → heldPayload (classAt s) (cellsOf s) (found .0) ≡ decodeLeaves s buffer G
+    payload-of : (G : List ℕ) → Readable s G → NearestTo s (fieldOf G) (found .0)
+        → heldPayload (layoutOf s) (found .0) ≡ decodeLeaves s buffer G
     payload-of G r near =
         let m = decodeMeaning s buffer G r fits in
         let ok = m .success .1 (found .0, near, found .2) in
-        carries-held (classAt s) (cellsOf s) (found .0) (decodeLeaves s buffer G) (m .bytes ok)
+        carries-held (layoutOf s) (found .0) (decodeLeaves s buffer G) (m .bytes ok)
         (m .long ok ∙ plan-bytes s (r .accepted))
         (m .gives (found .0) near (found .2))
 
-    count-none : differences (fieldOf L) (found .0) (cellsOf s) ≡ differences (fieldOf L) (fieldOf L) (cellsOf s)
-    count-none = differences-zero (fieldOf L) (found .0) (cellsOf s) holds ∙ sym (differences-self (fieldOf L) (cellsOf s))
+    count-none : differences (fieldOf M) (found .0) (cellsOf s) ≡ differences (fieldOf M) (fieldOf M) (cellsOf s)
+    count-none = differences-zero (fieldOf M) (found .0) (cellsOf s) holds ∙ sym (differences-self (fieldOf M) (cellsOf s))
 
     read-back : decodeNumber s buffer field ≡ 0
     read-back = decodeMeaning s buffer field (readable s field success) fits .success .1 found
 
-    mended : Recovered s (decodeLeaves s buffer field) L L buffer
+    mended : Recovered s (decodeLeaves s buffer field) M M buffer
     mended =
-        let m = decodeMeaning s buffer L L-readable fits in
+        let m = decodeMeaning s buffer M M-readable fits in
         record {
-          decoded-number = m .success .1 (found .0, L-nearest, found .2);
-          decoded-payload = sym (payload-of L L-readable L-nearest) ∙ payload-of field (readable s field success) (found .1);
-          decoded-count = m .count (found .0) L-nearest (found .2) ∙ count-none;
-          corrected-number = L-success;
+          decoded-number = m .success .1 (found .0, M-nearest, found .2);
+          decoded-payload = sym (payload-of M M-readable M-nearest) ∙ payload-of field (readable s field success) (found .1);
+          decoded-count = m .count (found .0) M-nearest (found .2) ∙ count-none;
+          corrected-number = M-success;
           corrected-field =
-              correct-leaves s L L-readable L-success
-              ∙ listOf-same (correctedField s L) (fieldOf L) (cellsOf s) (λ i h. nearest-mended s L L-readable (found .0) L-nearest i h ∙ sym (holds i h))
-              ∙ ap (listOf (fieldOf L)) (sym L-long)
-              ∙ listOf-fieldOf L;
-          corrected-count = correctMeaning s L L-readable .count (found .0) L-nearest (found .2) ∙ count-none;
+              correct-leaves s M M-readable M-success
+              ∙ listOf-same (correctedField s (fieldOf M)) (fieldOf M) (cellsOf s)
+              (λ i h. means M-readable .mended (found .0) M-nearest i h ∙ sym (holds i h))
+              ∙ ap (listOf (fieldOf M)) (sym M-long)
+              ∙ listOf-fieldOf M;
+          corrected-count = correctMeaning s M M-readable .count (found .0) M-nearest (found .2) ∙ count-none;
         }
 
 -- Theorem. A field that is not damaged comes back as it is, with the count 0.
 pub nothingToCorrect : NothingToCorrect
-unfolding L
+unfolding M
 nothingToCorrect =
     record {
       written = written;

@@ -5,7 +5,7 @@ use mathlib.Core.List.{List}
 use mathlib.Core.Path.{_≡_, refl, sym, _∙_}
 use lib.Dec.{eqb}
 use borrow.Author.Tests.{eq-eqb, eqb-true, le-leb, leb-true}
-use Rattle.lattice.specs.Position.{holdsData}
+use Rattle.lattice.specs.Position.{Layout, holdsData}
 use Rattle.lattice.proofs.Bools.{and-true, and-left, and-right}
 use Rattle.codec.specs.Field.{Field, Same}
 use Rattle.codec.specs.Payload.{payloadBytes, rank, padding, Carries, PaddingRight, isPadding, paddingOk}
@@ -22,24 +22,24 @@ true-when true c p q = p
 true-when false c p q = absurd (false≢true q)
 
 -- a field that carries a payload has right padding
-pub carries-padding : (cls : ℕ → ℕ) (n : ℕ) (f : Field) (p : List ℕ) → Carries cls n f p → PaddingRight cls n f
-carries-padding cls n f p c i l h r = c i l h ∙ value-padding cls n p (rank cls n i) r
+pub carries-padding : (L : Layout) (f : Field) (p : List ℕ) → Carries L f p → PaddingRight L f
+carries-padding L f p c i l h r = c i l h ∙ value-padding L p (rank L i) r
 
-module _ (cls : ℕ → ℕ) (n : ℕ) where
+module _ (L : Layout) where
   -- the padding at cell i, where it is a padding cell
   paddingAt : ℕ → ℕ
-  paddingAt i = padding (rank cls n i - 8 * payloadBytes cls n)
+  paddingAt i = padding (rank L i - 8 * payloadBytes L)
 
   -- the test says whether the padding is right
-  pub padding-ok : (f : Field) → PaddingRight cls n f → paddingOk cls n f ≡ true
+  pub padding-ok : (f : Field) → PaddingRight L f → paddingOk L f ≡ true
   unfolding paddingOk paddingAt
   padding-ok f p =
       all-below
       _
-      n
+      (L .cells)
       (λ i l.
       when-true
-      (isPadding cls n i)
+      (isPadding L i)
       (eqb (f i) (paddingAt i))
       (λ h.
       eq-eqb
@@ -48,24 +48,24 @@ module _ (cls : ℕ → ℕ) (n : ℕ) where
       (p
       i
       l
-      (and-left (holdsData cls n i) _ h)
-      (leb-true (8 * payloadBytes cls n) (rank cls n i) (and-right (holdsData cls n i) _ h)))))
+      (and-left (holdsData L i) _ h)
+      (leb-true (8 * payloadBytes L) (rank L i) (and-right (holdsData L i) _ h)))))
 
-  pub ok-padding : (f : Field) → paddingOk cls n f ≡ true → PaddingRight cls n f
+  pub ok-padding : (f : Field) → paddingOk L f ≡ true → PaddingRight L f
   unfolding paddingOk paddingAt
   ok-padding f e i l h r =
       eqb-true
       (f i)
       (paddingAt i)
       (true-when
-      (isPadding cls n i)
+      (isPadding L i)
       (eqb (f i) (paddingAt i))
-      (below-all (λ i. not (isPadding cls n i) || eqb (f i) (paddingAt i)) n e i l)
-      (and-true (holdsData cls n i) _ h (le-leb (8 * payloadBytes cls n) (rank cls n i) r)))
+      (below-all (λ i. not (isPadding L i) || eqb (f i) (paddingAt i)) (L .cells) e i l)
+      (and-true (holdsData L i) _ h (le-leb (8 * payloadBytes L) (rank L i) r)))
 
-  pub not-padding : (f : Field) → paddingOk cls n f ≡ false → ¬ PaddingRight cls n f
+  pub not-padding : (f : Field) → paddingOk L f ≡ false → ¬ PaddingRight L f
   not-padding f e p = true≢false (sym (padding-ok f p) ∙ e)
 
   -- only the cells of the field matter
-  pub padding-right-same : (f g : Field) → Same f g n → PaddingRight cls n f → PaddingRight cls n g
+  pub padding-right-same : (f g : Field) → Same f g (L .cells) → PaddingRight L f → PaddingRight L g
   padding-right-same f g s p i l h r = sym (s i l) ∙ p i l h r

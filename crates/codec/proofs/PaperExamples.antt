@@ -4,11 +4,11 @@ use Rattle.lattice.specs.Shape.{inRange, maxStrength, sizeOk, strengthOk, shape
 use Rattle.lattice.specs.Settings.{oddSettings, evenSettings, flatSettings, settingsFor}
 use Rattle.lattice.specs.Cell.{cellAt}
 use Rattle.lattice.specs.Class.{minusMod, classWith, classesOf, classOf}
-use Rattle.lattice.specs.Position.{size, position, isPower, isCheck, checks, holdsData, capacity}
+use Rattle.lattice.specs.Position.{sizeTo, position, isPower, isCheck, checks, holdsData, capacity}
 use Rattle.lattice.specs.Order.{order}
 use Rattle.lattice.specs.DistanceTest.{failsAt, outcome, testStrengthOk, testSettingsOk, testNumber, verdict, foundTriple, triplesTried}
 use Rattle.codec.specs.Field.{isCell, isReceived, cellsOk, differences}
-use Rattle.codec.specs.Hamming.{inReach, allInReach, corrected}
+use Rattle.codec.specs.Hamming.{tagsOf, isTag, inReach, allInReach, corrected}
 use Rattle.codec.specs.Payload.{payloadBytes, rank, padding, paddingOk, heldPayload}
 use Rattle.codec.specs.Plan.{planCapacity, planBytes, planCells}
 use Rattle.codec.specs.Decode.{fieldNumber, correctedCount, decodeNumber, decodeCount, decodeLeaves}
@@ -20,9 +20,9 @@ unfolding
     paperExamples
     inRange maxStrength sizeOk strengthOk shapeNumber
     oddSettings evenSettings flatSettings settingsFor cellAt minusMod classWith classesOf classOf
-    size position isPower isCheck checks holdsData capacity
+    sizeTo position isPower isCheck checks holdsData capacity
     order failsAt outcome testStrengthOk testSettingsOk testNumber verdict foundTriple triplesTried
-    isCell isReceived cellsOk differences inReach allInReach corrected
+    isCell isReceived cellsOk differences tagsOf isTag inReach allInReach corrected
     payloadBytes rank padding paddingOk heldPayload planCapacity planBytes planCells
     fieldNumber correctedCount decodeNumber decodeCount decodeLeaves
 paperExamplesHold =

@@ -7,6 +7,7 @@ use native.Mathlib.Omega.{arith}
 use lib.Dec.{ltb}
 use borrow.Author.Tests.{lt-ltb, le-ltb}
 use Rattle.codec.specs.Payload.{payloadBytes, payloadBit, padding, dataValue}
+use Rattle.lattice.specs.Position.{Layout}
 
 pub payload-bit-most : (p : List ℕ) (k : ℕ) → payloadBit p k ≤ 1
 unfolding payloadBit
@@ -16,21 +17,21 @@ pub padding-most : (j : ℕ) → padding j ≤ 1
 unfolding padding
 padding-most j = zero-le
 
-module _ (cls : ℕ → ℕ) (n : ℕ) (p : List ℕ) (k : ℕ) where
+module _ (L : Layout) (p : List ℕ) (k : ℕ) where
   -- the value of data cell k is bit k of the payload, or padding behind its last bit
-  pub value-bit : k < 8 * payloadBytes cls n → dataValue cls n p k ≡ payloadBit p k
+  pub value-bit : k < 8 * payloadBytes L → dataValue L p k ≡ payloadBit p k
   unfolding dataValue
-  value-bit l = rw (lt-ltb k (8 * payloadBytes cls n) l)
+  value-bit l = rw (lt-ltb k (8 * payloadBytes L) l)
 
-  pub value-padding : 8 * payloadBytes cls n ≤ k → dataValue cls n p k ≡ padding (k - 8 * payloadBytes cls n)
+  pub value-padding : 8 * payloadBytes L ≤ k → dataValue L p k ≡ padding (k - 8 * payloadBytes L)
   unfolding dataValue
-  value-padding l = rw (le-ltb k (8 * payloadBytes cls n) l)
+  value-padding l = rw (le-ltb k (8 * payloadBytes L) l)
 
   -- it is 0 or 1
-  pub data-value-most : dataValue cls n p k ≤ 1
+  pub data-value-most : dataValue L p k ≤ 1
   unfolding dataValue
-  data-value-most = go (ltb k (8 * payloadBytes cls n))
+  data-value-most = go (ltb k (8 * payloadBytes L))
     where
-      go : (b : Bool) → cond b (payloadBit p k) (padding (k - 8 * payloadBytes cls n)) ≤ 1
+      go : (b : Bool) → cond b (payloadBit p k) (padding (k - 8 * payloadBytes L)) ≤ 1
       go true = payload-bit-most p k
-      go false = padding-most (k - 8 * payloadBytes cls n)
+      go false = padding-most (k - 8 * payloadBytes L)

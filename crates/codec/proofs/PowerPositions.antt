@@ -6,7 +6,7 @@ use mathlib.Core.Path.{_≡_, ap, subst}
 use native.Mathlib.Omega.{arith}
 use lib.Pow.{pow-pos, pow-mono}
 use borrow.Author.Tests.{not-false}
-use Rattle.lattice.specs.Position.{size, position, isPower, isCheck, checks, holdsData}
+use Rattle.lattice.specs.Position.{Layout, size, position, isPower, isCheck, checks, holdsData}
 use Rattle.lattice.proofs.Powers.{power, exponent}
 use Rattle.lattice.proofs.BitLength.{checksAreBitLength}
 use Rattle.lattice.proofs.Positions.{position-some}
@@ -27,16 +27,16 @@ check-fits (suc n) k l =
     let m : k ≤ checks (suc n) - 1 = omega arith in
     omega (arith, h .1, pow-mono m)
 
-module _ (cls : ℕ → ℕ) (n : ℕ) where
+module _ (L : Layout) where
   -- the cells that hold a check are those whose position is a power of two
-  pub check-exponent : (i : ℕ) → holdsData cls n i ≡ false → (k : ℕ) × (2 ^ k ≡ position cls i)
+  pub check-exponent : (i : ℕ) → holdsData L i ≡ false → (k : ℕ) × (2 ^ k ≡ position L i)
   unfolding holdsData isCheck
-  check-exponent i e = exponent (position cls i) (not-false (isPower (position cls i)) e)
+  check-exponent i e = exponent (position L i) (not-false (isPower (position L i)) e)
 
-  pub check-power : (i k : ℕ) → 2 ^ k ≡ position cls i → holdsData cls n i ≡ false
+  pub check-power : (i k : ℕ) → 2 ^ k ≡ position L i → holdsData L i ≡ false
   unfolding holdsData isCheck
-  check-power i k e = ap not (power-iff (position cls i) .1 (k, e))
+  check-power i k e = ap not (power-iff (position L i) .1 (k, e))
 
   -- each of the class's check positions is a cell's
-  pub check-cell : (a k : ℕ) → k < checks (size cls a n) → (i : ℕ) × (i < n) × (cls i ≡ a) × (position cls i ≡ 2 ^ k)
-  check-cell a k l = position-some cls a n (2 ^ k) (pow-pos k) (check-fits (size cls a n) k l)
+  pub check-cell : (a k : ℕ) → k < checks (size L a) → (i : ℕ) × (i < L .cells) × (L .class i ≡ a) × (position L i ≡ 2 ^ k)
+  check-cell a k l = position-some L a (L .cells) (2 ^ k) (pow-pos k) (check-fits (size L a) k l)

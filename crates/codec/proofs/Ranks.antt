@@ -1,53 +1,53 @@
--- Ranks: the cells that hold no check, numbered 0, 1, .. in byte order, for any placement of n cells.
+-- Ranks: the cells that hold no check, numbered 0, 1, .. in byte order, for any layout of cells.
 use Prim.Native.Nat.{ℕ, suc, _+_, _*_, _<_, _≤_}
 use mathlib.Core.Bool.{true, false}
 use mathlib.Core.Path.{_≡_, refl}
 use native.Mathlib.Numerals.{add-one}
 use native.Mathlib.Omega.{arith}
-use Rattle.lattice.specs.Position.{holdsData, capacity}
+use Rattle.lattice.specs.Position.{Layout, holdsData, capacity}
 use Rattle.lattice.proofs.Counting.{count-yes, count-no, count-more, count-reach}
 use Rattle.codec.specs.Payload.{rank, payloadBytes}
 
 -- eight bits of the capacity make a byte, and fewer than eight are left
-pub bytes-most : (cls : ℕ → ℕ) (n : ℕ) → 8 * payloadBytes cls n ≤ capacity cls n
+pub bytes-most : (L : Layout) → 8 * payloadBytes L ≤ capacity L
 unfolding payloadBytes
-bytes-most cls n = omega arith
+bytes-most L = omega arith
 
-pub bytes-least : (cls : ℕ → ℕ) (n : ℕ) → capacity cls n < 8 * payloadBytes cls n + 8
+pub bytes-least : (L : Layout) → capacity L < 8 * payloadBytes L + 8
 unfolding payloadBytes
-bytes-least cls n = omega arith
+bytes-least L = omega arith
 
-module _ (cls : ℕ → ℕ) (n : ℕ) where
-  pub rank-zero : rank cls n 0 ≡ 0
+module _ (L : Layout) where
+  pub rank-zero : rank L 0 ≡ 0
   unfolding rank
   rank-zero = refl
 
   -- the rank goes up by one behind each data cell, and stays behind a check
-  pub rank-data : (i : ℕ) → holdsData cls n i ≡ true → rank cls n (i + 1) ≡ rank cls n i + 1
+  pub rank-data : (i : ℕ) → holdsData L i ≡ true → rank L (i + 1) ≡ rank L i + 1
   unfolding rank
-  rank-data i e = count-yes (holdsData cls n) i e
+  rank-data i e = count-yes (holdsData L) i e
 
-  pub rank-check : (i : ℕ) → holdsData cls n i ≡ false → rank cls n (i + 1) ≡ rank cls n i
+  pub rank-check : (i : ℕ) → holdsData L i ≡ false → rank L (i + 1) ≡ rank L i
   unfolding rank
-  rank-check i e = count-no (holdsData cls n) i e
+  rank-check i e = count-no (holdsData L) i e
 
-  pub rank-data-suc : (i : ℕ) → holdsData cls n i ≡ true → rank cls n (suc i) ≡ rank cls n i + 1
+  pub rank-data-suc : (i : ℕ) → holdsData L i ≡ true → rank L (suc i) ≡ rank L i + 1
   rank-data-suc i e = rw (← (add-one i)) (rank-data i e)
 
-  pub rank-check-suc : (i : ℕ) → holdsData cls n i ≡ false → rank cls n (suc i) ≡ rank cls n i
+  pub rank-check-suc : (i : ℕ) → holdsData L i ≡ false → rank L (suc i) ≡ rank L i
   rank-check-suc i e = rw (← (add-one i)) (rank-check i e)
 
   -- a data cell has a rank below that of every later cell
-  pub rank-rises : (i j : ℕ) → i < j → holdsData cls n i ≡ true → rank cls n i < rank cls n j
+  pub rank-rises : (i j : ℕ) → i < j → holdsData L i ≡ true → rank L i < rank L j
   unfolding rank
-  rank-rises i j l e = omega (arith, count-more (holdsData cls n) i j l e)
+  rank-rises i j l e = omega (arith, count-more (holdsData L) i j l e)
 
   -- the data cells of the field are as many as its capacity
-  pub rank-all : rank cls n n ≡ capacity cls n
+  pub rank-all : rank L (L .cells) ≡ capacity L
   unfolding rank capacity
   rank-all = refl
 
   -- each number below the capacity is the rank of a data cell
-  pub rank-some : (k : ℕ) → k < capacity cls n → (i : ℕ) × (i < n) × (holdsData cls n i ≡ true) × (rank cls n i ≡ k)
+  pub rank-some : (k : ℕ) → k < capacity L → (i : ℕ) × (i < L .cells) × (holdsData L i ≡ true) × (rank L i ≡ k)
   unfolding rank capacity
-  rank-some k l = count-reach (holdsData cls n) n k l
+  rank-some k l = count-reach (holdsData L) (L .cells) k l

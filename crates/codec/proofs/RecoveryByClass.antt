@@ -7,15 +7,16 @@ use lib.ListN.{length}
 use Rattle.lattice.specs.declared.shape.Shape.{Shape}
 use Rattle.lattice.specs.Shape.{cellsOf, Accepted}
 use Rattle.lattice.specs.Cell.{Cell, cellAt}
-use Rattle.lattice.specs.Class.{classAt}
+use Rattle.lattice.specs.Class.{layoutOf}
 use Rattle.codec.specs.Field.{Field, fieldOf, flip, Same, differences}
 use Rattle.codec.specs.Payload.{Bytes, PaddingRight, encoded}
 use Rattle.codec.specs.Plan.{planBytes}
 use Rattle.codec.specs.Encode.{encodedField}
 use Rattle.codec.specs.Decode.{correctedField, decodeNumber, decodeLeaves}
 use Rattle.codec.specs.Correct.{correctNumber, correctLeaves}
-use Rattle.codec.specs.Reading.{Readable, NearestTo}
+use Rattle.codec.specs.Reading.{Readable}
 use Rattle.codec.specs.Recovery.{damaged, damagedField, Recovered, RecoveryByClass}
+use Rattle.codec.specs.Code.{tagsAt, NearestTo}
 use Rattle.codec.proofs.Accepted.{plan-bytes}
 use Rattle.codec.proofs.Correction.{nearest-same}
 use Rattle.codec.proofs.Damage.{OneEach, damaged-cells, damaged-nearest}
@@ -25,14 +26,14 @@ use Rattle.codec.proofs.FieldLists.{length-listOf, getD-listOf, listOf-
 use Rattle.codec.proofs.CellValues.{cells-received}
 use Rattle.codec.proofs.HeldPayload.{held-same, encoded-held}
 use Rattle.codec.proofs.PaddingCells.{carries-padding}
-use Rattle.codec.proofs.DemandTwoReading.{nearest-mended, decodeMeaning, correctMeaning, decode-leaves, correct-leaves}
+use Rattle.codec.proofs.DemandTwoReading.{means, decodeMeaning, correctMeaning, decode-leaves, correct-leaves}
 use Rattle.codec.proofs.DemandTwoWriting.{written-cells}
 
 module _ (s : Shape) (accepted : Accepted s) (p : List ℕ) (p-long : length p ≡ planBytes s) (p-bytes : Bytes p) (selected : Cell → Bool)
-    (one : OneEach (classAt s) (cellsOf s) (λ i. selected (cellAt s i))) (buffer : List ℕ) (fits : length buffer ≡ planBytes s) where
+    (one : OneEach (layoutOf s) (λ i. selected (cellAt s i))) (buffer : List ℕ) (fits : length buffer ≡ planBytes s) where
   -- F, cell by cell, and G as a buffer
   F : Field
-  F = encoded (classAt s) (cellsOf s) p
+  F = encoded (layoutOf s) p
 
   G : List ℕ
   G = damagedField s p selected
@@ -56,19 +57,19 @@ module _ (s : Shape) (accepted : Accepted s) (p : List ℕ) (p-long : length p �
         cells =
             cells-received (fieldOf G) (cellsOf s)
             (cells-same (damaged F chosen) (fieldOf G) (cellsOf s) damaged-same
-            (damaged-cells F chosen (cellsOf s) (encoded-cells (classAt s) (cellsOf s) p (cellsOf s))));
+            (damaged-cells F chosen (cellsOf s) (encoded-cells (layoutOf s) p (cellsOf s))));
       }
 
   -- F is the lawful field in reach of G, and its padding is right
-  nearest : NearestTo s G F
+  nearest : NearestTo s (fieldOf G) F
   unfolding F G chosen
   nearest =
-      nearest-same (classAt s) (cellsOf s) (damaged F chosen) (fieldOf G) F F damaged-same (λ i h. refl)
-      (damaged-nearest (classAt s) (cellsOf s) F chosen one (encoded-lawful (classAt s) (cellsOf s) p))
+      nearest-same (layoutOf s) (tagsAt s) (damaged F chosen) (fieldOf G) F F damaged-same (λ i h. refl)
+      (damaged-nearest (layoutOf s) (tagsAt s) F chosen one (encoded-lawful (layoutOf s) p))
 
-  padding : PaddingRight (classAt s) (cellsOf s) F
+  padding : PaddingRight (layoutOf s) F
   unfolding F
-  padding = carries-padding (classAt s) (cellsOf s) (encoded (classAt s) (cellsOf s) p) p (encoded-carries (classAt s) (cellsOf s) p)
+  padding = carries-padding (layoutOf s) (encoded (layoutOf s) p) p (encoded-carries (layoutOf s) p)
 
   counted : differences (fieldOf G) F (cellsOf s) ≡ differences (fieldOf (encodedField s p)) (fieldOf G) (cellsOf s)
   unfolding F
@@ -86,14 +87,14 @@ module _ (s : Shape) (accepted : Accepted s) (p : List ℕ) (p-long : length p �
   unfolding F
   payload-back =
       decode-leaves s buffer G readable fits read
-      ∙ held-same (classAt s) (cellsOf s) (correctedField s G) F (nearest-mended s G readable F nearest)
-      ∙ encoded-held (classAt s) (cellsOf s) p p-bytes (p-long ∙ plan-bytes s accepted)
+      ∙ held-same (layoutOf s) (correctedField s (fieldOf G)) F (means readable .mended F nearest)
+      ∙ encoded-held (layoutOf s) p p-bytes (p-long ∙ plan-bytes s accepted)
 
   field-back : correctLeaves s G ≡ encodedField s p
   unfolding F encodedField
   field-back =
       correct-leaves s G readable mend
-      ∙ listOf-same (correctedField s G) F (cellsOf s) (nearest-mended s G readable F nearest)
+      ∙ listOf-same (correctedField s (fieldOf G)) F (cellsOf s) (means readable .mended F nearest)
 
   recovered : Recovered s p (encodedField s p) (damagedField s p selected) buffer
   unfolding G

@@ -8,13 +8,13 @@ use lib.ListN.{length}
 use Rattle.lattice.specs.declared.shape.Shape.{Shape}
 use Rattle.lattice.specs.Refusal.{unless}
 use Rattle.lattice.specs.Shape.{cellsOf}
-use Rattle.lattice.specs.Class.{classesOf, classAt}
+use Rattle.lattice.specs.Class.{layoutOf}
 use Rattle.lattice.proofs.Answers.{unless-zero}
-use Rattle.codec.specs.Field.{fieldOf, Received, cellsOk}
-use Rattle.codec.specs.Hamming.{allInReach}
+use Rattle.codec.specs.Field.{Field, fieldOf, Received, cellsOk}
 use Rattle.codec.specs.Payload.{paddingOk}
 use Rattle.codec.specs.Decode.{correctedField, fieldNumber}
 use Rattle.codec.specs.Working.{FieldFits}
+use Rattle.codec.specs.Code.{fieldInReach}
 use Rattle.codec.proofs.FieldLists.{ok-received}
 
 -- the test of the cells, over a field of the plan's length
@@ -22,31 +22,31 @@ pub cells-tested : (s : Shape) (field : List ℕ) (b : Bool) → FieldFits s fie
     → b ≡ cellsOk (fieldOf field) (cellsOf s)
 cells-tested s field b fits e = e ∙ ap (cellsOk (fieldOf field)) (fits .long)
 
-module _ (s : Shape) (field : List ℕ) where
-  pub number-cell : cellsOk (fieldOf field) (cellsOf s) ≡ false → 5 ≡ fieldNumber s field
+module _ (s : Shape) (f : Field) where
+  pub number-cell : cellsOk f (cellsOf s) ≡ false → 5 ≡ fieldNumber s f
   unfolding fieldNumber
   number-cell p = rw p
 
-  module _ (p : cellsOk (fieldOf field) (cellsOf s) ≡ true) where
-    pub number-reach : allInReach (classAt s) (cellsOf s) (classesOf s) (fieldOf field) ≡ false → 6 ≡ fieldNumber s field
+  module _ (p : cellsOk f (cellsOf s) ≡ true) where
+    pub number-reach : fieldInReach s f ≡ false → 6 ≡ fieldNumber s f
     unfolding fieldNumber
     number-reach q = rw (p, q)
 
-    module _ (q : allInReach (classAt s) (cellsOf s) (classesOf s) (fieldOf field) ≡ true) where
-      pub number-padding : paddingOk (classAt s) (cellsOf s) (correctedField s field) ≡ false → 7 ≡ fieldNumber s field
+    module _ (q : fieldInReach s f ≡ true) where
+      pub number-padding : paddingOk (layoutOf s) (correctedField s f) ≡ false → 7 ≡ fieldNumber s f
       unfolding fieldNumber
       number-padding r = rw (p, q, r)
 
-      pub number-none : paddingOk (classAt s) (cellsOf s) (correctedField s field) ≡ true → 0 ≡ fieldNumber s field
+      pub number-none : paddingOk (layoutOf s) (correctedField s f) ≡ true → 0 ≡ fieldNumber s f
       unfolding fieldNumber
       number-none r = rw (p, q, r)
 
 -- it is never 4
-pub field-other : (s : Shape) (field : List ℕ) → fieldNumber s field ≡ 4 → ⊥
+pub field-other : (s : Shape) (f : Field) → fieldNumber s f ≡ 4 → ⊥
 unfolding fieldNumber
-field-other s field e =
-    go (cellsOk (fieldOf field) (cellsOf s)) (allInReach (classAt s) (cellsOf s) (classesOf s) (fieldOf field))
-    (paddingOk (classAt s) (cellsOf s) (correctedField s field)) e
+field-other s f e =
+    go (cellsOk f (cellsOf s)) (fieldInReach s f)
+    (paddingOk (layoutOf s) (correctedField s f)) e
   where
     go : (a b c : Bool) → unless a 5 (unless b 6 (unless c 7 0)) ≡ 4 → ⊥
     go true true true p = omega arith
@@ -55,7 +55,7 @@ field-other s field e =
     go false b c p = omega arith
 
 -- beside 0 the field has nothing but cells
-pub zero-cells : (s : Shape) (field : List ℕ) → fieldNumber s field ≡ 0 → Received (fieldOf field) (cellsOf s)
+pub zero-cells : (s : Shape) (f : Field) → fieldNumber s f ≡ 0 → Received f (cellsOf s)
 unfolding fieldNumber
-zero-cells s field p =
-    ok-received (fieldOf field) (cellsOf s) (unless-zero (cellsOk (fieldOf field) (cellsOf s)) 4 _ p .0)
+zero-cells s f p =
+    ok-received f (cellsOf s) (unless-zero (cellsOk f (cellsOf s)) 4 _ p .0)

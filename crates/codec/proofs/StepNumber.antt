@@ -10,7 +10,7 @@ use Rattle.lattice.specs.declared.refusal.Refusal.{Refusal}
 use Rattle.lattice.specs.declared.shape.Shape.{Shape}
 use Rattle.lattice.specs.Refusal.{refusalNumber, unless, orElse, figure}
 use Rattle.lattice.specs.Shape.{shapeNumber, Accepted, cellsOf}
-use Rattle.lattice.specs.Class.{classAt}
+use Rattle.lattice.specs.Class.{layoutOf}
 use Rattle.lattice.specs.Position.{capacity, dataIn}
 use Rattle.lattice.proofs.Answers.{earlier-told, unless-zero, or-else-zero, beside-zero}
 use Rattle.lattice.proofs.CapacityGiven.{capacity-accepted}
@@ -25,13 +25,13 @@ use Rattle.codec.proofs.Accepted.{plan-bytes, plan-cells}
 use Rattle.codec.proofs.StepExamine.{zero-cells}
 
 -- the payload's length that the sizes of the classes give is the plan's
-pub bytes-given : (s : Shape) (sizes : List ℕ) (k : ℕ) → Accepted s → HoldsSizes (classAt s) sizes (cellsOf s) → k ≡ dataIn sizes
+pub bytes-given : (s : Shape) (sizes : List ℕ) (k : ℕ) → Accepted s → HoldsSizes (layoutOf s) sizes (cellsOf s) → k ≡ dataIn sizes
     → k / 8 ≡ planBytes s
 unfolding planBytes planCapacity
 bytes-given s sizes k a p e =
     ap
     (λ (n : ℕ). n / 8)
-    (e ∙ capacity-accepted s sizes a (p .at) ∙ sym (beside-zero (shapeNumber s) (capacity (classAt s) (cellsOf s)) 0 a))
+    (e ∙ capacity-accepted s sizes a (p .at) ∙ sym (beside-zero (shapeNumber s) (capacity (layoutOf s)) 0 a))
 
 pub cells-given : (s : Shape) (n : ℕ) → n ≡ figure (shapeNumber s) (cellsOf s) → n ≡ planCells s
 unfolding planCells
@@ -62,12 +62,13 @@ module _ (s : Shape) (payload field : List ℕ) where
   unfolding encodeNumber lengthNumber
   encode-tests = refl
 
-  pub decode-tests : orElse (lengthNumber s payload field) (fieldNumber s field) ≡ decodeNumber s payload field
+  pub decode-tests : orElse (lengthNumber s payload field) (fieldNumber s (fieldOf field)) ≡ decodeNumber s payload field
   unfolding decodeNumber lengthNumber
   decode-tests = go (shapeNumber s) (eqb (length payload) (planBytes s)) (eqb (length field) (planCells s))
     where
       go : (n : ℕ) (p f : Bool)
-          → orElse (orElse n (unless p 3 (unless f 4 0))) (fieldNumber s field) ≡ orElse n (unless p 3 (unless f 4 (fieldNumber s field)))
+          → orElse (orElse n (unless p 3 (unless f 4 0))) (fieldNumber s (fieldOf field))
+          ≡ orElse n (unless p 3 (unless f 4 (fieldNumber s (fieldOf field))))
       go zero true true = refl
       go zero true false = refl
       go zero false f = refl
@@ -78,16 +79,17 @@ pub record Taken (s : Shape) (field : List ℕ) : Type 0 where
   pub fits : FieldFits s field
   pub cells : Received (fieldOf field) (cellsOf s)
 
-taken : (s : Shape) (field : List ℕ) → Accepted s → unless (eqb (length field) (planCells s)) 4 (fieldNumber s field) ≡ 0 → Taken s field
+taken : (s : Shape) (field : List ℕ) → Accepted s
+    → unless (eqb (length field) (planCells s)) 4 (fieldNumber s (fieldOf field)) ≡ 0 → Taken s field
 taken s field a e =
     let f = unless-zero (eqb (length field) (planCells s)) 3 _ e in
     record {
       fits = record { accepted = a; long = eqb-true (length field) (planCells s) (f .0) ∙ plan-cells s a };
-      cells = zero-cells s field (f .1);
+      cells = zero-cells s (fieldOf field) (f .1);
     }
 
 pub decode-taken : (s : Shape) (payload field : List ℕ) → decodeNumber s payload field ≡ 0
-    → Taken s field × (length payload ≡ payloadBytes (classAt s) (cellsOf s))
+    → Taken s field × (length payload ≡ payloadBytes (layoutOf s))
 unfolding decodeNumber
 decode-taken s payload field e =
     let a = or-else-zero (shapeNumber s) _ e in

@@ -7,7 +7,7 @@ use lib.Dec.{eqb, leb}
 use borrow.Author.Tests.{le-leb, lt-leb}
 use Rattle.lattice.specs.declared.shape.Shape.{Shape}
 use Rattle.lattice.specs.Shape.{Accepted, cellsOf}
-use Rattle.lattice.specs.Class.{classAt}
+use Rattle.lattice.specs.Class.{layoutOf}
 use Rattle.lattice.specs.Position.{holdsData, dataIn}
 use Rattle.codec.specs.Field.{Field}
 use Rattle.codec.specs.Payload.{payloadBytes, padding, isPadding, paddingOk}
@@ -47,24 +47,24 @@ module _ (d : Bool) (k bits v : ℕ) where
 -- the test of cell i
 unfoldable pub right : Shape → Field → ℕ → Bool
 right s f i =
-    not (isPadding (classAt s) (cellsOf s) i) || eqb (f i) (padding (rankAt s i - 8 * payloadBytes (classAt s) (cellsOf s)))
+    not (isPadding (layoutOf s) i) || eqb (f i) (padding (rankAt s i - 8 * payloadBytes (layoutOf s)))
 
 -- the bits of the payload, from the sizes of the classes
-pub bits-given : (s : Shape) (sizes : List ℕ) (k : ℕ) → Accepted s → HoldsSizes (classAt s) sizes (cellsOf s)
-    → k ≡ dataIn sizes → 8 * (k / 8) ≡ 8 * payloadBytes (classAt s) (cellsOf s)
+pub bits-given : (s : Shape) (sizes : List ℕ) (k : ℕ) → Accepted s → HoldsSizes (layoutOf s) sizes (cellsOf s)
+    → k ≡ dataIn sizes → 8 * (k / 8) ≡ 8 * payloadBytes (layoutOf s)
 bits-given s sizes k e p q = ap (λ (n : ℕ). 8 * n) (bytes-given s sizes k e p q ∙ plan-bytes s e)
 
-pub right-is : (s : Shape) (f : Field) (i r bits v : ℕ) (d b : Bool) → d ≡ holdsData (classAt s) (cellsOf s) i → r ≡ rankAt s i
-    → bits ≡ 8 * payloadBytes (classAt s) (cellsOf s) → v ≡ f i
+pub right-is : (s : Shape) (f : Field) (i r bits v : ℕ) (d b : Bool) → d ≡ holdsData (layoutOf s) i → r ≡ rankAt s i
+    → bits ≡ 8 * payloadBytes (layoutOf s) → v ≡ f i
     → b ≡ rightAt d r bits v → b ≡ right s f i
 unfolding rightAt right
 right-is s f i r bits v d b held ranked e value p = p ∙ rw (held, ranked, e, value)
 
 pub padding-passes : (s : Shape) (f : Field) (i n : ℕ) → n ≡ cellsOf s → Passed (right s f) i → i ≤ n → n ≤ i
-    → true ≡ paddingOk (classAt s) (cellsOf s) f
+    → true ≡ paddingOk (layoutOf s) f
 unfolding paddingOk right
 padding-passes s f i n e p l q = passed-all (right s f) i (cellsOf s) p (rw (← e) l) (rw (← e) q)
 
-pub padding-fails : (s : Shape) (f : Field) (i : ℕ) → i < cellsOf s → right s f i ≡ false → false ≡ paddingOk (classAt s) (cellsOf s) f
+pub padding-fails : (s : Shape) (f : Field) (i : ℕ) → i < cellsOf s → right s f i ≡ false → false ≡ paddingOk (layoutOf s) f
 unfolding paddingOk right
 padding-fails s f i l e = failed-at (right s f) i (cellsOf s) l e

@@ -9,10 +9,10 @@ use lib.Seq.{getD-set-same, getD-set-other}
 use Rattle.lattice.specs.declared.class.Placement.{Placement}
 use Rattle.lattice.specs.declared.shape.Shape.{Shape}
 use Rattle.lattice.specs.Refusal.{beside}
-use Rattle.lattice.specs.Shape.{shapeNumber, cellsOf, maxClasses, Accepted}
+use Rattle.lattice.specs.Shape.{maxCells, maxClasses, shapeNumber, Accepted, cellsOf}
 use Rattle.lattice.specs.Cell.{cellAt}
-use Rattle.lattice.specs.Class.{classAt, classBy}
-use Rattle.lattice.specs.Position.{size, position}
+use Rattle.lattice.specs.Class.{classAt, layoutOf, classBy}
+use Rattle.lattice.specs.Position.{sizeTo, position}
 use Rattle.lattice.proofs.ClassAt.{at-class, at-below}
 use Rattle.lattice.proofs.Answers.{beside-zero}
 use Rattle.lattice.proofs.Limits.{legal}
@@ -29,22 +29,22 @@ module _ (s : Shape) (n : ℕ) (e : n ≡ cellsOf s) (i : ℕ) (l : i < n) where
   pub cell-below : i < cellsOf s
   cell-below = rw (← e) l
 
-  pub cell-limit : Accepted s → i < 65536
+  pub cell-limit : Accepted s → i < maxCells
   cell-limit a = lt-of-lt-of-le cell-below (legal _ a .product)
 
 -- the counts before the first cell
-pub counts-none : (s : Shape) (counts : List ℕ) → HoldsZeros counts → HoldsSizes (classAt s) counts 0
-counts-none s counts p = record { at = λ a l. p .at a l ∙ sym (size-none (classAt s) a) }
+pub counts-none : (s : Shape) (counts : List ℕ) → HoldsZeros counts → HoldsSizes (layoutOf s) counts 0
+counts-none s counts p = record { at = λ a l. p .at a l ∙ sym (size-none (layoutOf s) a) }
 
 -- the sizes that an accepted shape gives
 pub sizes-given : (s : Shape) (sizes : List ℕ) (held : ℕ → ℕ) → Accepted s
-    → ((a : ℕ) → a < maxClasses → getD sizes a 0 ≡ beside (shapeNumber s) (size (classAt s) a (cellsOf s)) (held a))
-    → HoldsSizes (classAt s) sizes (cellsOf s)
+    → ((a : ℕ) → a < maxClasses → getD sizes a 0 ≡ beside (shapeNumber s) (sizeTo (layoutOf s) a (cellsOf s)) (held a))
+    → HoldsSizes (layoutOf s) sizes (cellsOf s)
 sizes-given s sizes held e p = record { at = λ a l. p a l ∙ beside-zero (shapeNumber s) _ _ e }
 
 -- an array of zeros
-pub zeros : HoldsZeros (replicate 512 0)
-zeros = record { at = λ a l. getD-replicate 512 a 0 0 l }
+pub zeros : HoldsZeros (replicate maxClasses 0)
+zeros = record { at = λ a l. getD-replicate maxClasses a 0 0 l }
 
 module _ (s : Shape) (k : Placement) (counts : List ℕ) (i : ℕ) (at : AtCell s k counts i) (a : ℕ) (e : a ≡ classBy k (cellAt s i)) where
   own : a ≡ classAt s i
@@ -58,7 +58,7 @@ module _ (s : Shape) (k : Placement) (counts : List ℕ) (i : ℕ) (at : AtCell 
   count-below =
       lt-trans
       (lt-of-le-of-lt
-      (sizes-most (classAt s) counts i a (at .counted .at) class-below)
+      (sizes-most (layoutOf s) counts i a (at .counted .at) class-below)
       (cell-limit s (cellsOf s) refl i (at .below) (at .accepted)))
       (lit< tt)
 
@@ -70,6 +70,6 @@ module _ (s : Shape) (k : Placement) (counts : List ℕ) (i : ℕ) (at : AtCell 
         class = own;
         below = class-below;
         position =
-            q ∙ ap (λ (n : ℕ). n + 1) (at .counted .at a class-below ∙ ap (λ (b : ℕ). size (classAt s) b i) own);
-        counted = record { at = sizes-more (classAt s) counts after i a (at .counted .at) own (st .own ∙ q) (st .others) };
+            q ∙ ap (λ (n : ℕ). n + 1) (at .counted .at a class-below ∙ ap (λ (b : ℕ). sizeTo (layoutOf s) b i) own);
+        counted = record { at = sizes-more (layoutOf s) counts after i a (at .counted .at) own (st .own ∙ q) (st .others) };
       }

@@ -7,8 +7,8 @@ use native.Mathlib.Nat.{add-zero, add-assoc, le-antisymm, lt-of-lt-of-le}
 use native.Mathlib.Omega.{arith}
 use lib.ListN.{length, set}
 use Rattle.lattice.specs.declared.shape.Shape.{Shape}
-use Rattle.lattice.specs.Shape.{Accepted, cellsOf}
-use Rattle.lattice.specs.Class.{classAt}
+use Rattle.lattice.specs.Shape.{maxCells, Accepted, cellsOf}
+use Rattle.lattice.specs.Class.{layoutOf}
 use Rattle.lattice.specs.Position.{holdsData}
 use Rattle.lattice.proofs.Limits.{legal}
 use Rattle.codec.specs.Payload.{encoded}
@@ -24,7 +24,7 @@ module _ (s : Shape) (counts part : List ℕ) (i r : ℕ) (at : AtPlane s counts
   pub plane-room : j < length part
   plane-room = omega (arith, at .room)
 
-  pub plane-limit : Accepted s → i + j < 65536
+  pub plane-limit : Accepted s → i + j < maxCells
   plane-limit a = lt-of-lt-of-le plane-below (legal _ a .product)
 
 pub filled-none : (s : Shape) (payload counts part : List ℕ) (i r : ℕ) → AtPlane s counts part i r → Filled s payload part part counts i r 0
@@ -41,13 +41,13 @@ module _ (s : Shape) (payload xs ys counts : List ℕ) (i r m : ℕ) (f : Filled
 
   -- one cell more
   pub filled-cell : m < length xs → (a q : ℕ) (after : List ℕ) → PlaceOf s (i + m) a q after
-      → (d : Bool) → d ≡ holdsData (classAt s) (cellsOf s) (i + m)
-      → (v x : ℕ) → v ≡ encoded (classAt s) (cellsOf s) payload (i + m) → x ≡ cond d 1 0 + r
+      → (d : Bool) → d ≡ holdsData (layoutOf s) (i + m)
+      → (v x : ℕ) → v ≡ encoded (layoutOf s) payload (i + m) → x ≡ cond d 1 0 + r
       → Filled s payload xs (set ys m v) after i x (m + 1)
   filled-cell l a q after place d held v x e n =
       record {
-        cells = filled-more (λ j. encoded (classAt s) (cellsOf s) payload (i + j)) xs m v ys l e (f .cells);
-        counted = subst (λ (k : ℕ). HoldsSizes (classAt s) after k) (add-assoc i m 1) (place .counted);
+        cells = filled-more (λ j. encoded (layoutOf s) payload (i + j)) xs m v ys l e (f .cells);
+        counted = subst (λ (k : ℕ). HoldsSizes (layoutOf s) after k) (add-assoc i m 1) (place .counted);
         ranked = rank-more s (i + m) r x d (f .ranked) held n ∙ ap (rankAt s) (add-assoc i m 1);
       }
 

@@ -8,8 +8,8 @@ use lib.ListN.{length, take, drop, length-drop, drop-of-length-le}
 use borrow.Rule.Slice.PartAt.{part-to-end}
 use borrow.Rule.Slice.PartMut.{putMid}
 use Rattle.lattice.specs.declared.shape.Shape.{Shape}
-use Rattle.lattice.specs.Shape.{Accepted, cellsOf}
-use Rattle.lattice.specs.Class.{classAt}
+use Rattle.lattice.specs.Shape.{maxCells, Accepted, cellsOf}
+use Rattle.lattice.specs.Class.{layoutOf}
 use Rattle.lattice.proofs.Limits.{legal}
 use Rattle.codec.specs.Field.{listOf}
 use Rattle.codec.specs.Payload.{encoded}
@@ -31,7 +31,7 @@ module _ (s : Shape) (m : ℕ) (e : m ≡ planeCells s) where
   plane-within : (z : ℕ) → z < s .planes → z * m + m ≤ cellsOf s
   plane-within z l = omega (arith, mul-le-mul-right m l, planes-cells)
 
-  pub plane-start : Accepted s → (z : ℕ) → z < s .planes → z * m ≤ 65536
+  pub plane-start : Accepted s → (z : ℕ) → z < s .planes → z * m ≤ maxCells
   plane-start a z l = le-trans (planes-within z (le-of-lt l)) (legal _ a .product)
 
 module _ (s : Shape) (payload xs : List ℕ) (long : length xs ≡ cellsOf s) (m : ℕ) (e : m ≡ planeCells s) where
@@ -59,7 +59,7 @@ module _ (s : Shape) (payload xs : List ℕ) (long : length xs ≡ cellsOf s) (m
               rw
               (part-to-end ys (z * m))
               (omega (arith, length-drop (z * m) ys, planes-length (omega arith), plane-within s m e z l));
-          counted = subst (λ (k : ℕ). HoldsSizes (classAt s) counts k) (zero-add (z * m)) (f .counted);
+          counted = subst (λ (k : ℕ). HoldsSizes (layoutOf s) counts k) (zero-add (z * m)) (f .counted);
           ranked = f .ranked ∙ ap (rankAt s) (zero-add (z * m));
         }
 
@@ -75,18 +75,18 @@ module _ (s : Shape) (payload xs : List ℕ) (long : length xs ≡ cellsOf s) (m
         record {
           cells =
               filled-part
-              (λ j. encoded (classAt s) (cellsOf s) payload (0 + j))
-              (λ j. encoded (classAt s) (cellsOf s) payload (z * m + j))
+              (λ j. encoded (layoutOf s) payload (0 + j))
+              (λ j. encoded (layoutOf s) payload (z * m + j))
               (z * m)
               (planeCells s)
               xs
               ys
               zs
-              (λ j. ap (encoded (classAt s) (cellsOf s) payload) (sym (zero-add (z * m + j))))
+              (λ j. ap (encoded (layoutOf s) payload) (sym (zero-add (z * m + j))))
               (omega (arith, planes-within s m e z (omega arith)))
               (f .cells)
               (g .cells);
-          counted = subst (λ (k : ℕ). HoldsSizes (classAt s) after k) (sym (zero-add (z * m + planeCells s))) (g .counted);
+          counted = subst (λ (k : ℕ). HoldsSizes (layoutOf s) after k) (sym (zero-add (z * m + planeCells s))) (g .counted);
           ranked = g .ranked ∙ ap (rankAt s) (sym (zero-add (z * m + planeCells s)));
         }
 
@@ -96,10 +96,10 @@ module _ (s : Shape) (payload xs : List ℕ) (long : length xs ≡ cellsOf s) (m
     planes-all p q =
         f .cells
         ∙ ap
-        (λ (k : ℕ). listOf (λ j. encoded (classAt s) (cellsOf s) payload (0 + j)) k ++ drop k xs)
+        (λ (k : ℕ). listOf (λ j. encoded (layoutOf s) payload (0 + j)) k ++ drop k xs)
         (ap (λ (k : ℕ). k * m) (le-antisymm p q) ∙ planes-cells s m e)
         ∙ ap₂
         (λ (a b : List ℕ). a ++ b)
-        (listOf-same _ _ (cellsOf s) (λ j l. ap (encoded (classAt s) (cellsOf s) payload) (zero-add j)))
+        (listOf-same _ _ (cellsOf s) (λ j l. ap (encoded (layoutOf s) payload) (zero-add j)))
         (drop-of-length-le xs (le-of-eq long))
         ∙ append-nil _

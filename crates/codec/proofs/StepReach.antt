@@ -8,15 +8,17 @@ use lib.Dec.{leb}
 use lib.ListN.{getD}
 use Rattle.lattice.specs.declared.shape.Shape.{Shape}
 use Rattle.lattice.specs.Refusal.{figure}
-use Rattle.lattice.specs.Shape.{Accepted, shapeNumber, cellsOf}
-use Rattle.lattice.specs.Class.{classesOf, classAt}
+use Rattle.lattice.specs.Shape.{shapeNumber, Accepted}
+use Rattle.lattice.specs.Class.{classesOf, layoutOf}
 use Rattle.lattice.specs.Position.{allBelow}
 use Rattle.lattice.proofs.ClassBelow.{classes-limit}
 use Rattle.lattice.proofs.Answers.{beside-zero}
 use Rattle.codec.specs.Field.{fieldOf}
 use Rattle.codec.specs.Hamming.{inReach, allInReach}
 use Rattle.codec.specs.Working.{Examined}
+use Rattle.codec.specs.Code.{tagsAt, fieldInReach}
 use Rattle.codec.proofs.AllBelow.{all-same}
+use Rattle.codec.proofs.Tags.{reach-is}
 
 -- the syndrome of class a is at most its size
 abbrev pub reaches : List ℕ → List ℕ → ℕ → Bool
@@ -24,17 +26,18 @@ reaches sizes syndromes a = leb (getD syndromes a 0) (getD sizes a 0)
 
 pub all-reach : (s : Shape) (field sizes syndromes : List ℕ) (m : ℕ) (b : Bool) → Accepted s → Examined s field sizes syndromes
     → m ≡ figure (shapeNumber s) (classesOf s) → b ≡ allBelow (reaches sizes syndromes) m
-    → b ≡ allInReach (classAt s) (cellsOf s) (classesOf s) (fieldOf field)
-unfolding allInReach inReach
+    → b ≡ fieldInReach s (fieldOf field)
+unfolding allInReach
 all-reach s field sizes syndromes m b a x e p =
     p
     ∙ ap (allBelow (reaches sizes syndromes)) (e ∙ beside-zero (shapeNumber s) (classesOf s) 0 a)
     ∙ all-same
     (reaches sizes syndromes)
-    (inReach (classAt s) (cellsOf s) (fieldOf field))
+    (inReach (layoutOf s) (tagsAt s) (fieldOf field))
     (classesOf s)
     (λ c l.
     ap₂
     leb
     (x .held .at c (lt-of-lt-of-le l (classes-limit s a)))
-    (x .sized .at c (lt-of-lt-of-le l (classes-limit s a))))
+    (x .sized .at c (lt-of-lt-of-le l (classes-limit s a)))
+    ∙ reach-is (layoutOf s) (fieldOf field) c)

@@ -11,19 +11,20 @@ use lib.ListN.{length}
 use Rattle.lattice.specs.Shape.{inRange, maxStrength, sizeOk, strengthOk, shapeNumber, Accepted, cellsOf}
 use Rattle.lattice.specs.Settings.{oddSettings, flatSettings, settingsFor}
 use Rattle.lattice.specs.Cell.{Cell, cellAt, cellNumber}
-use Rattle.lattice.specs.Class.{minusMod, classWith, classOf, classAt}
-use Rattle.lattice.specs.Position.{size, position, isPower, isCheck, holdsData, capacity}
+use Rattle.lattice.specs.Class.{minusMod, classWith, classOf, classAt, layoutOf}
+use Rattle.lattice.specs.Position.{Layout, sizeTo, size, position, isPower, isCheck, holdsData, capacity}
 use Rattle.lattice.proofs.Bools.{and-left, and-right}
 use Rattle.lattice.proofs.Numbering.{numbering}
 use Rattle.lattice.proofs.Witnesses.{field, corner, OfThree}
 use Rattle.codec.specs.Field.{fieldOf}
-use Rattle.codec.specs.Hamming.{syndrome, Lawful}
+use Rattle.codec.specs.Hamming.{tagsOf, syndrome}
 use Rattle.codec.specs.Payload.{Bytes, Carries, PaddingRight}
 use Rattle.codec.specs.Plan.{planNumber, planCapacity, planBytes, planCells}
 use Rattle.codec.specs.Encode.{encodeNumber, encodedField}
 use Rattle.codec.specs.Decode.{decodeNumber}
 use Rattle.codec.specs.Correct.{correctNumber}
-use Rattle.codec.specs.Reading.{Readable, NearestTo}
+use Rattle.codec.specs.Reading.{Readable}
+use Rattle.codec.specs.Code.{LawfulField, NearestTo}
 use Rattle.codec.proofs.CellValues.{cells-received}
 use Rattle.codec.proofs.Correction.{lawful-nearest}
 use Rattle.codec.proofs.NothingToCorrect.{nothingToCorrect}
@@ -42,7 +43,7 @@ payload = 165 ∷ []
 pub payload-long : length payload ≡ planBytes field
 unfolding
     planBytes planCapacity shapeNumber sizeOk strengthOk maxStrength inRange
-    capacity holdsData size position isPower isCheck cellAt classOf classWith minusMod settingsFor flatSettings oddSettings
+    capacity holdsData sizeTo position isPower isCheck cellAt classOf classWith minusMod settingsFor flatSettings oddSettings
 payload-long = refl
 
 pub payload-bytes : Bytes payload
@@ -63,13 +64,13 @@ written-readable =
           (encodeMeaning .lawful field accepted payload payload-long payload-bytes .cells);
     }
 
-pub written-nearest : NearestTo field written (fieldOf written)
+pub written-nearest : NearestTo field (fieldOf written) (fieldOf written)
 written-nearest =
-    lawful-nearest (classAt field) (cellsOf field) (fieldOf written) (encodeMeaning .lawful field accepted payload payload-long payload-bytes)
+    lawful-nearest (fieldOf written) (encodeMeaning .lawful field accepted payload payload-long payload-bytes)
 
-pub written-padding : PaddingRight (classAt field) (cellsOf field) (fieldOf written)
+pub written-padding : PaddingRight (layoutOf field) (fieldOf written)
 written-padding =
-    carries-padding (classAt field) (cellsOf field) (fieldOf written) payload
+    carries-padding (layoutOf field) (fieldOf written) payload
     (encodeMeaning .carries field accepted payload payload-long payload-bytes)
 
 -- a selection of one cell of the cluster of three
@@ -106,15 +107,18 @@ corner-one i j hi hj si sj same =
 pub written-mended : correctNumber field written ≡ 0
 written-mended = nothingToCorrect .written field accepted payload payload-long payload-bytes payload payload-long .corrected-number
 
-pub written-lawful : Lawful (classAt field) (cellsOf field) (fieldOf written)
+pub written-lawful : LawfulField field (fieldOf written)
 written-lawful = encodeMeaning .lawful field accepted payload payload-long payload-bytes
 
-pub written-carries : Carries (classAt field) (cellsOf field) (fieldOf written) payload
+pub written-carries : Carries (layoutOf field) (fieldOf written) payload
 written-carries = encodeMeaning .carries field accepted payload payload-long payload-bytes
 
 -- two black cells of a class of two: the exclusive or of their positions is above its size
-pub both-above : size (λ i. 0) 0 2 < syndrome (λ i. 0) (fieldOf (1 ∷ 1 ∷ [])) 0 2
-unfolding size position
+abbrev pub two : Layout
+two = record { class = λ i. 0; cells = 2 }
+
+pub both-above : size two 0 < syndrome two (tagsOf two) (fieldOf (1 ∷ 1 ∷ [])) 0
+unfolding sizeTo position tagsOf
 both-above = lit< tt
 
 -- a shape of 257 columns is refused
@@ -124,11 +128,15 @@ plan-refused e = omega (arith, e)
 
 -- an empty payload and an empty field are refused
 pub encode-refused : encodeNumber field [] [] ≢ 0
-unfolding encodeNumber planBytes planCapacity planCells shapeNumber sizeOk strengthOk maxStrength inRange capacity holdsData size position isPower isCheck cellAt classOf classWith minusMod settingsFor flatSettings oddSettings
+unfolding
+    encodeNumber planBytes planCapacity planCells shapeNumber sizeOk strengthOk maxStrength inRange
+    capacity holdsData sizeTo position isPower isCheck cellAt classOf classWith minusMod settingsFor flatSettings oddSettings
 encode-refused e = omega (arith, e)
 
 pub decode-refused : decodeNumber field [] [] ≢ 0
-unfolding decodeNumber planBytes planCapacity planCells shapeNumber sizeOk strengthOk maxStrength inRange capacity holdsData size position isPower isCheck cellAt classOf classWith minusMod settingsFor flatSettings oddSettings
+unfolding
+    decodeNumber planBytes planCapacity planCells shapeNumber sizeOk strengthOk maxStrength inRange
+    capacity holdsData sizeTo position isPower isCheck cellAt classOf classWith minusMod settingsFor flatSettings oddSettings
 decode-refused e = omega (arith, e)
 
 pub correct-refused : correctNumber field [] ≢ 0

@@ -6,7 +6,7 @@ use lib.ListN.{length}
 use Rattle.lattice.specs.declared.shape.Shape.{Shape}
 use Rattle.lattice.specs.Refusal.{unless, beside, figure}
 use Rattle.lattice.specs.Shape.{afterShape, cellsOf}
-use Rattle.codec.specs.Field.{listOf}
+use Rattle.codec.specs.Field.{fieldOf, listOf}
 use Rattle.codec.specs.Plan.{planCells}
 use Rattle.codec.specs.Decode.{correctedField, fieldNumber, correctedCount}
 
@@ -15,12 +15,12 @@ unfoldable pub correctNumber : Shape → List ℕ → ℕ
 correctNumber s field =
     afterShape s
     (unless (eqb (length field) (planCells s)) 4
-    (fieldNumber s field))
+    (fieldNumber s (fieldOf field)))
 
 -- the count that correcting gives
 unfoldable pub correctCount : Shape → List ℕ → ℕ
-correctCount s field = figure (correctNumber s field) (correctedCount s field)
+correctCount s field = figure (correctNumber s field) (correctedCount s (fieldOf field))
 
 -- what correcting leaves in the lent field: the mended field, or beside a refusal its bytes
 unfoldable pub correctLeaves : Shape → List ℕ → List ℕ
-correctLeaves s field = beside (correctNumber s field) (listOf (correctedField s field) (cellsOf s)) field
+correctLeaves s field = beside (correctNumber s field) (listOf (correctedField s (fieldOf field)) (cellsOf s)) field

@@ -6,7 +6,7 @@ use lib.ListN.{length}
 use Rattle.lattice.specs.declared.shape.Shape.{Shape}
 use Rattle.lattice.specs.Refusal.{unless, beside}
 use Rattle.lattice.specs.Shape.{afterShape, cellsOf}
-use Rattle.lattice.specs.Class.{classAt}
+use Rattle.lattice.specs.Class.{layoutOf}
 use Rattle.codec.specs.Field.{listOf}
 use Rattle.codec.specs.Payload.{encoded}
 use Rattle.codec.specs.Plan.{planBytes, planCells}
@@ -21,7 +21,7 @@ encodeNumber s p field =
 
 -- the field written from a payload
 unfoldable pub encodedField : Shape → List ℕ → List ℕ
-encodedField s p = listOf (encoded (classAt s) (cellsOf s) p) (cellsOf s)
+encodedField s p = listOf (encoded (layoutOf s) p) (cellsOf s)
 
 -- what encoding leaves in the lent field: the field written, or beside a refusal its bytes
 unfoldable pub encodeLeaves : Shape → List ℕ → List ℕ → List ℕ

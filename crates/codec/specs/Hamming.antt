@@ -1,49 +1,70 @@
--- The code in a class: the shortened Hamming code, for any placement of n cells in classes. `cls i` is the class of cell i.
+-- The code in a class: the shortened Hamming code, for any layout of cells in classes and any tags of the cells.
 use Prim.Native.Nat.{ℕ, zero, suc, _<_}
-use mathlib.Core.Bool.{Bool, cond, _&&_}
+use mathlib.Core.Bool.{Bool, cond, _&&_, _||_}
 use mathlib.Core.Logic.{_≢_}
 use mathlib.Core.Path.{_≡_}
 use lib.Bits.{bitXor}
-use lib.Dec.{leb, eqb}
-use Rattle.lattice.specs.Position.{size, position, allBelow}
+use lib.Dec.{eqb}
+use Rattle.lattice.specs.Position.{Layout, position, anyBelow, allBelow}
 use Rattle.codec.specs.Field.{Field, Cells, flip}
 
--- what cell i adds to the exclusive or of class a: its position, where it is a 1 cell of that class
-abbrev pub term : (ℕ → ℕ) → Field → ℕ → ℕ → ℕ
-term cls f a i = cond (eqb (cls i) a && eqb (f i) 1) (position cls i) 0
+-- a tag for each cell, by its byte number
+abbrev pub Tags : Type 0
+Tags = ℕ → ℕ
 
--- the syndrome: the exclusive or of the positions of the 1 cells of class a, among the first n cells
-abbrev pub syndrome : (ℕ → ℕ) → Field → ℕ → ℕ → ℕ
-syndrome cls f a zero = 0
-syndrome cls f a (suc n) = bitXor (syndrome cls f a n) (term cls f a n)
+-- the tags tell the cells of a class: none is 0, and two cells of one class have different ones
+pub record Tells (L : Layout) (tag : Tags) : Type 0 where
+  pub some : (i : ℕ) → i < L .cells → tag i ≢ 0
+  pub one : (i j : ℕ) → i < L .cells → j < L .cells → L .class i ≡ L .class j → tag i ≡ tag j → i ≡ j
+
+-- the papers' tags: the position of each cell in its class
+unfoldable pub tagsOf : Layout → Tags
+tagsOf L i = position L i
+
+-- what cell i adds to the exclusive or of class a: its tag, where it is a 1 cell of that class
+abbrev pub term : Layout → Tags → Field → ℕ → ℕ → ℕ
+term L tag f a i = cond (eqb (L .class i) a && eqb (f i) 1) (tag i) 0
+
+-- the exclusive or of the tags of the 1 cells of class a, among the first n cells
+abbrev pub syndromeTo : Layout → Tags → Field → ℕ → ℕ → ℕ
+syndromeTo L tag f a zero = 0
+syndromeTo L tag f a (suc n) = bitXor (syndromeTo L tag f a n) (term L tag f a n)
+
+-- the syndrome of class a: the exclusive or of the tags of its 1 cells
+abbrev pub syndrome : Layout → Tags → Field → ℕ → ℕ
+syndrome L tag f a = syndromeTo L tag f a (L .cells)
 
 -- the papers' lawful class: its syndrome is 0
-unfoldable pub Codeword : (ℕ → ℕ) → ℕ → Field → ℕ → Type 0
-Codeword cls n f a = syndrome cls f a n ≡ 0
+unfoldable pub Codeword : Layout → Tags → Field → ℕ → Type 0
+Codeword L tag f a = syndrome L tag f a ≡ 0
 
 -- the papers' lawful field: every cell is 0 or 1 and every class is a codeword
-pub record Lawful (cls : ℕ → ℕ) (n : ℕ) (f : Field) : Type 0 where
-  pub cells : Cells f n
-  pub classes : (a : ℕ) → Codeword cls n f a
+pub record Lawful (L : Layout) (tag : Tags) (f : Field) : Type 0 where
+  pub cells : Cells f (L .cells)
+  pub classes : (a : ℕ) → Codeword L tag f a
 
 -- two fields differ in at most one cell of class a: two cells of the class in which they differ are one cell
-unfoldable pub Near : (ℕ → ℕ) → ℕ → Field → Field → ℕ → Type 0
-Near cls n f g a =
-    (i j : ℕ) → i < n → j < n → cls i ≡ a → cls j ≡ a → f i ≢ g i → f j ≢ g j → i ≡ j
+unfoldable pub Near : Layout → Field → Field → ℕ → Type 0
+Near L f g a =
+    (i j : ℕ) → i < L .cells → j < L .cells → L .class i ≡ a → L .class j ≡ a → f i ≢ g i → f j ≢ g j → i ≡ j
 
 -- g is a lawful field that differs from f in at most one cell of each class
-pub record Nearest (cls : ℕ → ℕ) (n : ℕ) (f g : Field) : Type 0 where
-  pub lawful : Lawful cls n g
-  pub near : (a : ℕ) → Near cls n f g a
+pub record Nearest (L : Layout) (tag : Tags) (f g : Field) : Type 0 where
+  pub lawful : Lawful L tag g
+  pub near : (a : ℕ) → Near L f g a
 
--- some codeword is in reach of class a: its syndrome names a position of the class, or is 0
-unfoldable pub inReach : (ℕ → ℕ) → ℕ → Field → ℕ → Bool
-inReach cls n f a = leb (syndrome cls f a n) (size cls a n)
+-- v is the tag of a cell of class a
+unfoldable pub isTag : Layout → Tags → ℕ → ℕ → Bool
+isTag L tag a v = anyBelow (λ i. eqb (L .class i) a && eqb (tag i) v) (L .cells)
+
+-- some codeword is in reach of class a: its syndrome is 0 or the tag of a cell of the class
+unfoldable pub inReach : Layout → Tags → Field → ℕ → Bool
+inReach L tag f a = eqb (syndrome L tag f a) 0 || isTag L tag a (syndrome L tag f a)
 
 -- a codeword is in reach of each class below m
-unfoldable pub allInReach : (ℕ → ℕ) → ℕ → ℕ → Field → Bool
-allInReach cls n m f = allBelow (inReach cls n f) m
+unfoldable pub allInReach : Layout → Tags → ℕ → Field → Bool
+allInReach L tag m f = allBelow (inReach L tag f) m
 
--- the mended field: the cell whose position is the syndrome of its class is turned over
-unfoldable pub corrected : (ℕ → ℕ) → ℕ → Field → Field
-corrected cls n f i = cond (eqb (syndrome cls f (cls i) n) (position cls i)) (flip (f i)) (f i)
+-- the mended field: the cell whose tag is the syndrome of its class is turned over
+unfoldable pub corrected : Layout → Tags → Field → Field
+corrected L tag f i = cond (eqb (syndrome L tag f (L .class i)) (tag i)) (flip (f i)) (f i)

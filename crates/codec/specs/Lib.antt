@@ -2,6 +2,7 @@
 pub mod Field
 pub mod Hamming
 pub mod Payload
+pub mod Code
 pub mod Plan
 pub mod Encode
 pub mod Examples

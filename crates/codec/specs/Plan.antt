@@ -3,7 +3,7 @@ use Prim.Native.Nat.{ℕ, _/_}
 use Rattle.lattice.specs.declared.shape.Shape.{Shape}
 use Rattle.lattice.specs.Refusal.{figure}
 use Rattle.lattice.specs.Shape.{shapeNumber, cellsOf}
-use Rattle.lattice.specs.Class.{classesOf, classAt}
+use Rattle.lattice.specs.Class.{classesOf, layoutOf}
 use Rattle.lattice.specs.Position.{capacity}
 
 -- the number: the constructor's
@@ -16,7 +16,7 @@ planClasses s = figure (planNumber s) (classesOf s)
 
 -- K, the number of cells that hold no check
 unfoldable pub planCapacity : Shape → ℕ
-planCapacity s = figure (planNumber s) (capacity (classAt s) (cellsOf s))
+planCapacity s = figure (planNumber s) (capacity (layoutOf s))
 
 -- the payload: K divided by 8, rounded down, in bytes
 unfoldable pub planBytes : Shape → ℕ

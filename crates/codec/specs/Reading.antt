@@ -6,23 +6,26 @@ use mathlib.Core.Path.{_≡_}
 use lib.ListN.{length}
 use Rattle.lattice.specs.declared.shape.Shape.{Shape}
 use Rattle.lattice.specs.Shape.{Accepted, cellsOf}
-use Rattle.lattice.specs.Class.{classAt}
-use Rattle.lattice.specs.Position.{size}
+use Rattle.lattice.specs.Class.{layoutOf}
+use Rattle.lattice.specs.Position.{Layout, size}
 use Rattle.codec.specs.Field.{Field, fieldOf, Cells, Received, Same, differences}
-use Rattle.codec.specs.Hamming.{syndrome, Codeword, Near, Nearest}
+use Rattle.codec.specs.Hamming.{Tags, Tells, tagsOf, syndrome, Codeword, Near}
 use Rattle.codec.specs.Payload.{Bytes, Carries, PaddingRight}
+use Rattle.codec.specs.Code.{NearestTo}
 use Rattle.codec.specs.Plan.{planBytes}
 use Rattle.codec.specs.Decode.{decodeNumber, decodeCount, decodeLeaves}
 use Rattle.codec.specs.Correct.{correctNumber, correctCount, correctLeaves}
 
--- Theorem. Of one class, for any placement: at most one codeword differs in at most one cell, and none does where the syndrome is above the
--- class's size.
+-- Theorem. Of one class, for any layout and any tags that tell its cells: at most one codeword differs in at most one cell.
+-- Positions are such tags, and with them none does where the syndrome is above the class's size.
 pub record OneCodeword : Type 0 where
-  pub one : (cls : ℕ → ℕ) (n : ℕ) (f g h : Field) (a : ℕ) → Cells f n → Cells g n → Cells h n
-      → Near cls n f g a → Codeword cls n g a → Near cls n f h a → Codeword cls n h a
-      → (i : ℕ) → i < n → cls i ≡ a → g i ≡ h i
-  pub none : (cls : ℕ → ℕ) (n : ℕ) (f g : Field) (a : ℕ) → Cells f n → Cells g n → size cls a n < syndrome cls f a n
-      → Near cls n f g a → ¬ Codeword cls n g a
+  pub one : (L : Layout) (tag : Tags) → Tells L tag
+      → (f g h : Field) (a : ℕ) → Cells f (L .cells) → Cells g (L .cells) → Cells h (L .cells)
+      → Near L f g a → Codeword L tag g a → Near L f h a → Codeword L tag h a
+      → (i : ℕ) → i < L .cells → L .class i ≡ a → g i ≡ h i
+  pub tells : (L : Layout) → Tells L (tagsOf L)
+  pub none : (L : Layout) (f g : Field) (a : ℕ) → Cells f (L .cells) → Cells g (L .cells) → size L a < syndrome L (tagsOf L) f a
+      → Near L f g a → ¬ Codeword L (tagsOf L) g a
 
 -- what is asked of a reading of a field: an accepted shape, a field of the plan's length, and nothing but cells
 pub record Readable (s : Shape) (field : List ℕ) : Type 0 where
@@ -30,33 +33,30 @@ pub record Readable (s : Shape) (field : List ℕ) : Type 0 where
   pub long : length field ≡ cellsOf s
   pub cells : Received (fieldOf field) (cellsOf s)
 
--- g is a lawful field that differs from the buffer's field in at most one cell of each class
-abbrev pub NearestTo : Shape → List ℕ → Field → Type 0
-NearestTo s field g = Nearest (classAt s) (cellsOf s) (fieldOf field) g
-
 -- a lawful field in reach with right padding, and one with wrong padding
-abbrev pub RightField : Shape → List ℕ → Type 0
-RightField s field = (g : Field) × NearestTo s field g × PaddingRight (classAt s) (cellsOf s) g
+abbrev pub RightField : Shape → Field → Type 0
+RightField s f = (g : Field) × NearestTo s f g × PaddingRight (layoutOf s) g
 
-abbrev pub WrongFieldNear : Shape → List ℕ → Type 0
-WrongFieldNear s field = (g : Field) × NearestTo s field g × (¬ PaddingRight (classAt s) (cellsOf s) g)
+abbrev pub WrongFieldNear : Shape → Field → Type 0
+WrongFieldNear s f = (g : Field) × NearestTo s f g × (¬ PaddingRight (layoutOf s) g)
 
 -- Theorem (demand 2). There is at most one lawful field that differs in at most one cell of each class.
 abbrev pub OneNearest : Type 0
 OneNearest =
-    (s : Shape) (field : List ℕ) → Readable s field → (g h : Field) → NearestTo s field g → NearestTo s field h → Same g h (cellsOf s)
+    (s : Shape) (field : List ℕ) → Readable s field
+    → (g h : Field) → NearestTo s (fieldOf field) g → NearestTo s (fieldOf field) h → Same g h (cellsOf s)
 
 -- Theorem (demand 2). Decoding gives 0 exactly when there is one with right padding, and then leaves the payload that it carries and the number
 -- of cells where it differs; 6 exactly when there is none; 7 exactly when there is one with wrong padding.
 pub record DecodingMeans (s : Shape) (payload field : List ℕ) : Type 0 where
-  pub success : (decodeNumber s payload field ≡ 0) ↔ RightField s field
-  pub none : (decodeNumber s payload field ≡ 6) ↔ ((g : Field) → ¬ NearestTo s field g)
-  pub wrong : (decodeNumber s payload field ≡ 7) ↔ WrongFieldNear s field
+  pub success : (decodeNumber s payload field ≡ 0) ↔ RightField s (fieldOf field)
+  pub none : (decodeNumber s payload field ≡ 6) ↔ ((g : Field) → ¬ NearestTo s (fieldOf field) g)
+  pub wrong : (decodeNumber s payload field ≡ 7) ↔ WrongFieldNear s (fieldOf field)
   pub long : decodeNumber s payload field ≡ 0 → length (decodeLeaves s payload field) ≡ planBytes s
   pub bytes : decodeNumber s payload field ≡ 0 → Bytes (decodeLeaves s payload field)
-  pub gives : (g : Field) → NearestTo s field g → PaddingRight (classAt s) (cellsOf s) g
-      → Carries (classAt s) (cellsOf s) g (decodeLeaves s payload field)
-  pub count : (g : Field) → NearestTo s field g → PaddingRight (classAt s) (cellsOf s) g
+  pub gives : (g : Field) → NearestTo s (fieldOf field) g → PaddingRight (layoutOf s) g
+      → Carries (layoutOf s) g (decodeLeaves s payload field)
+  pub count : (g : Field) → NearestTo s (fieldOf field) g → PaddingRight (layoutOf s) g
       → decodeCount s payload field ≡ differences (fieldOf field) g (cellsOf s)
 
 abbrev pub DecodeMeaning : Type 0
@@ -65,13 +65,13 @@ DecodeMeaning =
 
 -- Theorem (demand 2). Correcting likewise, leaving that field.
 pub record CorrectingMeans (s : Shape) (field : List ℕ) : Type 0 where
-  pub success : (correctNumber s field ≡ 0) ↔ RightField s field
-  pub none : (correctNumber s field ≡ 6) ↔ ((g : Field) → ¬ NearestTo s field g)
-  pub wrong : (correctNumber s field ≡ 7) ↔ WrongFieldNear s field
+  pub success : (correctNumber s field ≡ 0) ↔ RightField s (fieldOf field)
+  pub none : (correctNumber s field ≡ 6) ↔ ((g : Field) → ¬ NearestTo s (fieldOf field) g)
+  pub wrong : (correctNumber s field ≡ 7) ↔ WrongFieldNear s (fieldOf field)
   pub long : correctNumber s field ≡ 0 → length (correctLeaves s field) ≡ cellsOf s
-  pub leaves : (g : Field) → NearestTo s field g → PaddingRight (classAt s) (cellsOf s) g
+  pub leaves : (g : Field) → NearestTo s (fieldOf field) g → PaddingRight (layoutOf s) g
       → Same (fieldOf (correctLeaves s field)) g (cellsOf s)
-  pub count : (g : Field) → NearestTo s field g → PaddingRight (classAt s) (cellsOf s) g
+  pub count : (g : Field) → NearestTo s (fieldOf field) g → PaddingRight (layoutOf s) g
       → correctCount s field ≡ differences (fieldOf field) g (cellsOf s)
 
 abbrev pub CorrectMeaning : Type 0

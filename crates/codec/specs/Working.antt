@@ -10,10 +10,10 @@ use Rattle.lattice.specs.declared.class.Placement.{Placement}
 use Rattle.lattice.specs.declared.shape.Shape.{Shape}
 use Rattle.lattice.specs.Refusal.{unless}
 use Rattle.lattice.specs.Shape.{maxClasses, Accepted, afterShape, cellsOf}
-use Rattle.lattice.specs.Class.{classAt, placementOf}
-use Rattle.lattice.specs.Position.{size, position}
+use Rattle.lattice.specs.Class.{classAt, layoutOf, placementOf}
+use Rattle.lattice.specs.Position.{Layout, sizeTo, position}
 use Rattle.codec.specs.Field.{Field, fieldOf, listOf}
-use Rattle.codec.specs.Hamming.{syndrome}
+use Rattle.codec.specs.Hamming.{tagsOf, syndromeTo}
 use Rattle.codec.specs.Plan.{planBytes, planCells}
 use Rattle.codec.specs.Payload.{payloadBytes, payloadBit, padding, rank, dataField, encoded}
 
@@ -22,12 +22,12 @@ pub record HoldsZeros (l : List ℕ) : Type 0 where
   pub at : (a : ℕ) → a < maxClasses → getD l a 0 ≡ 0
 
 -- the array holds the number of cells of each class among the first n cells
-pub record HoldsSizes (cls : ℕ → ℕ) (l : List ℕ) (n : ℕ) : Type 0 where
-  pub at : (a : ℕ) → a < maxClasses → getD l a 0 ≡ size cls a n
+pub record HoldsSizes (L : Layout) (l : List ℕ) (n : ℕ) : Type 0 where
+  pub at : (a : ℕ) → a < maxClasses → getD l a 0 ≡ sizeTo L a n
 
 -- the array holds the syndrome of each class of f over the first n cells
-pub record HoldsSyndromes (cls : ℕ → ℕ) (f : Field) (l : List ℕ) (n : ℕ) : Type 0 where
-  pub at : (a : ℕ) → a < maxClasses → getD l a 0 ≡ syndrome cls f a n
+pub record HoldsSyndromes (L : Layout) (f : Field) (l : List ℕ) (n : ℕ) : Type 0 where
+  pub at : (a : ℕ) → a < maxClasses → getD l a 0 ≡ syndromeTo L (tagsOf L) f a n
 
 -- entry a of an array becomes v, and the others stay
 pub record Stored (before after : List ℕ) (a v : ℕ) : Type 0 where
@@ -39,14 +39,14 @@ pub record AtCell (s : Shape) (k : Placement) (counts : List ℕ) (i : ℕ) : Ty
   pub accepted : Accepted s
   pub placement : k ≡ placementOf s
   pub below : i < cellsOf s
-  pub counted : HoldsSizes (classAt s) counts i
+  pub counted : HoldsSizes (layoutOf s) counts i
 
 -- the place of cell i is this class and position, and the array counts the cells up to it
 pub record PlaceOf (s : Shape) (i a p : ℕ) (counts : List ℕ) : Type 0 where
   pub class : a ≡ classAt s i
   pub below : a < maxClasses
-  pub position : p ≡ position (classAt s) i
-  pub counted : HoldsSizes (classAt s) counts (i + 1)
+  pub position : p ≡ position (layoutOf s) i
+  pub counted : HoldsSizes (layoutOf s) counts (i + 1)
 
 -- the value of the k-th of the cells that hold no check, by the payload's own length
 unfoldable pub valueAt : List ℕ → ℕ → ℕ
@@ -55,16 +55,16 @@ valueAt p k = cond (ltb k (8 * length p)) (payloadBit p k) (padding (k - 8 * len
 -- the shape is accepted, the payload has its plan's length, and the array holds the size of each class
 pub record PayloadFits (s : Shape) (payload sizes : List ℕ) : Type 0 where
   pub accepted : Accepted s
-  pub long : length payload ≡ payloadBytes (classAt s) (cellsOf s)
-  pub sized : HoldsSizes (classAt s) sizes (cellsOf s)
+  pub long : length payload ≡ payloadBytes (layoutOf s)
+  pub sized : HoldsSizes (layoutOf s) sizes (cellsOf s)
 
 -- the array holds the syndrome of each class of the data alone
 abbrev pub HoldsData : Shape → List ℕ → List ℕ → Type 0
-HoldsData s payload l = HoldsSyndromes (classAt s) (dataField (classAt s) (cellsOf s) payload) l (cellsOf s)
+HoldsData s payload l = HoldsSyndromes (layoutOf s) (dataField (layoutOf s) payload) l (cellsOf s)
 
 -- how many cells before cell i hold no check
 abbrev pub rankAt : Shape → ℕ → ℕ
-rankAt s i = rank (classAt s) (cellsOf s) i
+rankAt s i = rank (layoutOf s) i
 
 -- the cells of a plane
 abbrev pub planeCells : Shape → ℕ
@@ -74,13 +74,13 @@ planeCells s = s .rows * s .columns
 pub record AtPlane (s : Shape) (counts part : List ℕ) (i r : ℕ) : Type 0 where
   pub inside : i + planeCells s ≤ cellsOf s
   pub room : planeCells s ≤ length part
-  pub counted : HoldsSizes (classAt s) counts i
+  pub counted : HoldsSizes (layoutOf s) counts i
   pub ranked : r ≡ rankAt s i
 
 -- a part lent that began at cell i has been filled with m cells, and goes on as before; the array and the rank are those of the cells before the next
 pub record Filled (s : Shape) (payload before after counts : List ℕ) (i r m : ℕ) : Type 0 where
-  pub cells : after ≡ listOf (λ j. encoded (classAt s) (cellsOf s) payload (i + j)) m ++ drop m before
-  pub counted : HoldsSizes (classAt s) counts (i + m)
+  pub cells : after ≡ listOf (λ j. encoded (layoutOf s) payload (i + j)) m ++ drop m before
+  pub counted : HoldsSizes (layoutOf s) counts (i + m)
   pub ranked : r ≡ rankAt s (i + m)
 
 -- the k-th of the cells that hold no check is no padding, or holds the padding's value; a check passes
@@ -108,8 +108,8 @@ pub record Fits (s : Shape) (payload field sizes : List ℕ) : Type 0 where
 
 -- the arrays hold the size and the syndrome of each class of the field
 pub record Examined (s : Shape) (field sizes syndromes : List ℕ) : Type 0 where
-  pub sized : HoldsSizes (classAt s) sizes (cellsOf s)
-  pub held : HoldsSyndromes (classAt s) (fieldOf field) syndromes (cellsOf s)
+  pub sized : HoldsSizes (layoutOf s) sizes (cellsOf s)
+  pub held : HoldsSyndromes (layoutOf s) (fieldOf field) syndromes (cellsOf s)
 
 -- the value v of the k-th of the cells that hold no check is put behind the bits of its byte; a check leaves the bytes
 pub record BitStored (before after : List ℕ) (d : Bool) (k v : ℕ) : Type 0 where

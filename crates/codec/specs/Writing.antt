@@ -5,11 +5,11 @@ use mathlib.Core.Path.{_≡_}
 use lib.ListN.{length}
 use Rattle.lattice.specs.declared.shape.Shape.{Shape}
 use Rattle.lattice.specs.Shape.{Accepted, cellsOf}
-use Rattle.lattice.specs.Class.{classAt}
-use Rattle.lattice.specs.Position.{count}
+use Rattle.lattice.specs.Class.{layoutOf}
+use Rattle.lattice.specs.Position.{Layout, count}
 use Rattle.codec.specs.Field.{Field, fieldOf, Same}
-use Rattle.codec.specs.Hamming.{Lawful}
 use Rattle.codec.specs.Payload.{Bytes, Carries, payloadBit, isPadding}
+use Rattle.codec.specs.Code.{LawfulField}
 use Rattle.codec.specs.Plan.{planBytes}
 use Rattle.codec.specs.Encode.{encodedField}
 
@@ -19,19 +19,19 @@ BitsTell =
     (p q : List ℕ) → Bytes p → Bytes q → length p ≡ length q
     → ((k : ℕ) → k < 8 * length p → payloadBit p k ≡ payloadBit q k) → p ≡ q
 
--- Theorem. For any placement, at most 7 cells are padding.
+-- Theorem. For any layout, at most 7 cells are padding.
 abbrev pub PaddingFew : Type 0
-PaddingFew = (cls : ℕ → ℕ) (n : ℕ) → count (isPadding cls n) n ≤ 7
+PaddingFew = (L : Layout) → count (isPadding L) (L .cells) ≤ 7
 
 -- Theorem (demand 2). For every shape that the plan accepts and every payload of the plan's length the field written has the plan's cells,
 -- is lawful, has the payload's bits and the padding in the cells that hold no check, and is the only such field; and two different payloads give two different fields.
 pub record EncodeMeaning : Type 0 where
   pub long : (s : Shape) (p : List ℕ) → length (encodedField s p) ≡ cellsOf s
   pub lawful : (s : Shape) → Accepted s → (p : List ℕ) → length p ≡ planBytes s → Bytes p
-      → Lawful (classAt s) (cellsOf s) (fieldOf (encodedField s p))
+      → LawfulField s (fieldOf (encodedField s p))
   pub carries : (s : Shape) → Accepted s → (p : List ℕ) → length p ≡ planBytes s → Bytes p
-      → Carries (classAt s) (cellsOf s) (fieldOf (encodedField s p)) p
+      → Carries (layoutOf s) (fieldOf (encodedField s p)) p
   pub only : (s : Shape) → Accepted s → (p : List ℕ) → length p ≡ planBytes s → Bytes p
-      → (f : Field) → Lawful (classAt s) (cellsOf s) f → Carries (classAt s) (cellsOf s) f p → Same f (fieldOf (encodedField s p)) (cellsOf s)
+      → (f : Field) → LawfulField s f → Carries (layoutOf s) f p → Same f (fieldOf (encodedField s p)) (cellsOf s)
   pub different : (s : Shape) → Accepted s → (p q : List ℕ) → length p ≡ planBytes s → length q ≡ planBytes s → Bytes p → Bytes q
       → encodedField s p ≡ encodedField s q → p ≡ q

@@ -2,7 +2,7 @@
 ghost use mathlib.Core.Path.{_≡_};
 ghost use Rattle.lattice.specs.Refusal.{testedNumber, NoOutside};
 ghost use Rattle.lattice.specs.Shape.{cellsOf};
-ghost use Rattle.lattice.specs.Class.{classAt};
+ghost use Rattle.lattice.specs.Class.{layoutOf};
 ghost use Rattle.codec.specs.Field.{fieldOf, listOf};
 ghost use Rattle.codec.specs.Decode.{correctedField, correctedCount};
 ghost use Rattle.codec.specs.Correct.{correctNumber};
@@ -48,9 +48,9 @@ impl CorrectAnswer {
 // Stores the mended cells; gives the number of cells turned over.
 fn store_corrected(shape: Shape, syndromes: &[u32; Shape::MAX_CLASSES], field: &mut [u8]) -> usize
     requires { ⌜ FieldFits shape (now field) ⌝ }
-    requires { ⌜ HoldsSyndromes (classAt shape) (fieldOf (now field)) (now syndromes) (cellsOf shape) ⌝ }
-    ensures { λ r. ⌜ now (field .exit) ≡ listOf (correctedField shape (now (field .entry))) (cellsOf shape) ⌝ }
-    ensures { λ r. ⌜ r ≡ correctedCount shape (now (field .entry)) ⌝ }
+    requires { ⌜ HoldsSyndromes (layoutOf shape) (fieldOf (now field)) (now syndromes) (cellsOf shape) ⌝ }
+    ensures { λ r. ⌜ now (field .exit) ≡ listOf (correctedField shape (fieldOf (now (field .entry)))) (cellsOf shape) ⌝ }
+    ensures { λ r. ⌜ r ≡ correctedCount shape (fieldOf (now (field .entry))) ⌝ }
 {
     let placement = shape.placement();
     let mut counts = [0u32; Shape::MAX_CLASSES];
@@ -72,7 +72,7 @@ fn correct_tests(shape: Shape, field: &[u8], syndromes: &mut [u32; Shape::MAX_CL
     requires { ⌜ HoldsZeros (now syndromes) ⌝ }
     ensures { λ r. ⌜ testedNumber r ≡ correctNumber shape (now (field .entry)) ⌝ }
     ensures { λ r. ⌜ NoOutside r ⌝ }
-    ensures { λ r. ⌜ (testedNumber r ≡ 0 → HoldsSyndromes (classAt shape) (fieldOf (now (field .entry))) (now (syndromes .exit)) (cellsOf shape)) ⌝ }
+    ensures { λ r. ⌜ (testedNumber r ≡ 0 → HoldsSyndromes (layoutOf shape) (fieldOf (now (field .entry))) (now (syndromes .exit)) (cellsOf shape)) ⌝ }
 {
     let tested = shape.tests();
     if let Tested::Refused(why) = tested {

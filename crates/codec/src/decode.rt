@@ -4,7 +4,7 @@ ghost use Prim.Native.Nat.{ℕ};
 ghost use lib.ListN.{getD, length};
 ghost use Rattle.lattice.specs.Refusal.{testedNumber, NoOutside};
 ghost use Rattle.lattice.specs.Shape.{cellsOf};
-ghost use Rattle.lattice.specs.Class.{classAt};
+ghost use Rattle.lattice.specs.Class.{layoutOf};
 ghost use Rattle.codec.specs.Field.{fieldOf, Received};
 ghost use Rattle.codec.specs.Payload.{payloadBytes, heldPayload};
 ghost use Rattle.codec.specs.Decode.{correctedField, correctedCount, decodeNumber};
@@ -82,9 +82,9 @@ fn store_payload(
     requires { ⌜ FieldFits shape (now field) ⌝ }
     requires { ⌜ Examined shape (now field) (now sizes) (now syndromes) ⌝ }
     requires { ⌜ Received (fieldOf (now field)) (cellsOf shape) ⌝ }
-    requires { ⌜ length (now payload) ≡ payloadBytes (classAt shape) (cellsOf shape) ⌝ }
-    ensures { λ r. ⌜ now (payload .exit) ≡ heldPayload (classAt shape) (cellsOf shape) (correctedField shape (now (field .entry))) ⌝ }
-    ensures { λ r. ⌜ r ≡ correctedCount shape (now (field .entry)) ⌝ }
+    requires { ⌜ length (now payload) ≡ payloadBytes (layoutOf shape) ⌝ }
+    ensures { λ r. ⌜ now (payload .exit) ≡ heldPayload (layoutOf shape) (correctedField shape (fieldOf (now (field .entry)))) ⌝ }
+    ensures { λ r. ⌜ r ≡ correctedCount shape (fieldOf (now (field .entry))) ⌝ }
 {
     clear(payload);
     let placement = shape.placement();

@@ -5,7 +5,7 @@ ghost use lib.Dec.{leb};
 ghost use lib.ListN.{getD, length};
 ghost use Rattle.lattice.specs.Refusal.{testedNumber};
 ghost use Rattle.lattice.specs.Shape.{maxClasses, cellsOf};
-ghost use Rattle.lattice.specs.Class.{classAt};
+ghost use Rattle.lattice.specs.Class.{layoutOf};
 ghost use Rattle.lattice.specs.Position.{allBelow};
 ghost use Rattle.codec.specs.Field.{fieldOf, cellsOk};
 ghost use Rattle.codec.specs.Payload.{paddingOk};
@@ -41,7 +41,7 @@ fn cells_ok(field: &[u8]) -> bool
 fn field_syndromes(shape: Shape, field: &[u8], syndromes: &mut [u32; Shape::MAX_CLASSES])
     requires { ⌜ FieldFits shape (now field) ⌝ }
     requires { ⌜ HoldsZeros (now syndromes) ⌝ }
-    ensures { λ _. ⌜ HoldsSyndromes (classAt shape) (fieldOf (now (field .entry))) (now (syndromes .exit)) (cellsOf shape) ⌝ }
+    ensures { λ _. ⌜ HoldsSyndromes (layoutOf shape) (fieldOf (now (field .entry))) (now (syndromes .exit)) (cellsOf shape) ⌝ }
 {
     let placement = shape.placement();
     let mut counts = [0u32; Shape::MAX_CLASSES];
@@ -94,7 +94,7 @@ fn padding_ok(
 ) -> bool
     requires { ⌜ FieldFits shape (now field) ⌝ }
     requires { ⌜ Examined shape (now field) (now sizes) (now syndromes) ⌝ }
-    ensures { λ r. ⌜ r ≡ paddingOk (classAt shape) (cellsOf shape) (correctedField shape (now (field .entry))) ⌝ }
+    ensures { λ r. ⌜ r ≡ paddingOk (layoutOf shape) (correctedField shape (fieldOf (now (field .entry)))) ⌝ }
 {
     let placement = shape.placement();
     let bits = 8 * (data_in(sizes) / 8);
@@ -127,9 +127,9 @@ pub(crate) fn examine(
     syndromes: &mut [u32; Shape::MAX_CLASSES],
 ) -> Tested
     requires { ⌜ FieldFits shape (now field) ⌝ }
-    requires { ⌜ HoldsSizes (classAt shape) (now sizes) (cellsOf shape) ⌝ }
+    requires { ⌜ HoldsSizes (layoutOf shape) (now sizes) (cellsOf shape) ⌝ }
     requires { ⌜ HoldsZeros (now syndromes) ⌝ }
-    ensures { λ r. ⌜ testedNumber r ≡ fieldNumber shape (now (field .entry)) ⌝ }
+    ensures { λ r. ⌜ testedNumber r ≡ fieldNumber shape (fieldOf (now (field .entry))) ⌝ }
     ensures { λ r. ⌜ Examined shape (now (field .entry)) (now (sizes .entry)) (now (syndromes .exit)) ⌝ }
 {
     field_syndromes(shape, field, syndromes);

@@ -5,7 +5,7 @@ ghost use Prim.Native.Nat.{_+_, _-_, _*_, _<_};
 ghost use lib.Bits.{bitXor};
 ghost use lib.Dec.{eqb};
 ghost use lib.ListN.{getD, length};
-ghost use Rattle.lattice.specs.Shape.{maxClasses};
+ghost use Rattle.lattice.specs.Shape.{maxCells, maxClasses};
 ghost use Rattle.lattice.specs.Position.{isPower, isCheck};
 ghost use Rattle.codec.specs.Field.{flip};
 ghost use Rattle.codec.specs.Payload.{payloadBit, padding};
@@ -76,7 +76,7 @@ pub(crate) fn holds_data(sizes: &[u32; Shape::MAX_CLASSES], place: Place) -> boo
 
 // One more where the test holds.
 pub(crate) fn count_if(test: bool, n: usize) -> usize
-    requires { ⌜ n < 65536 ⌝ }
+    requires { ⌜ n < maxCells ⌝ }
     ensures { λ r. ⌜ r ≡ cond test 1 0 + n ⌝ }
 {
     if test { 1 + n } else { n }

@@ -3,7 +3,7 @@ use Prim.Native.Nat.{ℕ, _+_, _-_, _<_}
 use mathlib.Core.Bool.{not}
 use mathlib.Core.Path.{_≡_, sym, _∙_}
 use native.Mathlib.Omega.{arith}
-use Rattle.lattice.specs.Position.{sumBelow, size, isPower, isCheck, checks, dataCells, holdsData, capacity}
+use Rattle.lattice.specs.Position.{sumBelow, Layout, size, isPower, isCheck, checks, dataCells, holdsData, capacity}
 use Rattle.lattice.specs.Placing.{CapacitySum}
 use Rattle.lattice.proofs.Counting.{count-not, sum-same}
 use Rattle.lattice.proofs.Positions.{by-class}
@@ -14,10 +14,10 @@ unfolding dataCells checks isCheck
 data-cells n = omega (arith, count-not (λ i. isPower (i + 1)) n)
 
 -- the capacity is the sum over the classes of their data cells
-pub capacity-by-class : (cls : ℕ → ℕ) (m n : ℕ) → ((i : ℕ) → i < n → cls i < m)
-    → capacity cls n ≡ sumBelow (λ a. dataCells (size cls a n)) m
+pub capacity-by-class : (L : Layout) (m : ℕ) → ((i : ℕ) → i < L .cells → L .class i < m)
+    → capacity L ≡ sumBelow (λ a. dataCells (size L a)) m
 unfolding capacity holdsData dataCells
-capacity-by-class cls m n p = sym (by-class cls (λ a q. not (isCheck (size cls a n) q)) m n p)
+capacity-by-class L m p = sym (by-class L (λ a q. not (isCheck (size L a) q)) m (L .cells) p)
 
 pub capacitySum : CapacitySum
-capacitySum cls m n p = capacity-by-class cls m n p ∙ sum-same _ _ m (λ a l. data-cells (size cls a n))
+capacitySum L m p = capacity-by-class L m p ∙ sum-same _ _ m (λ a l. data-cells (size L a))

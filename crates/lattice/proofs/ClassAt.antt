@@ -8,7 +8,7 @@ use Rattle.lattice.specs.declared.class.Placement.{Placement}
 use Rattle.lattice.specs.Cell.{Cell, cell, cellAt}
 use Rattle.lattice.specs.Class.{classWith, classOf, classAt, placementOf, classBy}
 use Rattle.lattice.specs.Refusal.{figure}
-use Rattle.lattice.specs.Shape.{shapeNumber, cellsOf, Accepted, maxClasses}
+use Rattle.lattice.specs.Shape.{maxCells, maxClasses, shapeNumber, Accepted, cellsOf}
 use Rattle.lattice.proofs.ClassBelow.{class-below, classes-limit}
 use Rattle.lattice.proofs.Answers.{beside-zero}
 use Rattle.lattice.proofs.Limits.{legal}
@@ -35,7 +35,7 @@ module _ (s : Shape) (a : Accepted s) where
   pub at-cells : (n : ℕ) → n ≡ figure (shapeNumber s) (cellsOf s) → n ≡ cellsOf s
   at-cells n e = e ∙ beside-zero (shapeNumber s) (cellsOf s) 0 a
 
-  pub at-limit : (n i : ℕ) → n ≡ figure (shapeNumber s) (cellsOf s) → i < n → i < 65536
+  pub at-limit : (n i : ℕ) → n ≡ figure (shapeNumber s) (cellsOf s) → i < n → i < maxCells
   at-limit n i e l = lt-of-lt-of-le l (rw (at-cells n e) (legal s a .product))
 
   module _ (p : Placement) (g : p ≡ placementOf s) (i r : ℕ) (q : r ≡ classBy p (cellAt s i)) where

@@ -98,12 +98,12 @@ number-other s e = go (sizeOk (s .columns) (s .rows) (s .planes)) (strengthOk (s
 -- the numbers of a shape within the limits
 pub record Legal (s : Shape) : Type 0 where
   pub width-low : 1 ≤ s .columns
-  pub width-high : s .columns ≤ 256
+  pub width-high : s .columns ≤ maxSide
   pub height-low : 1 ≤ s .rows
-  pub height-high : s .rows ≤ 256
+  pub height-high : s .rows ≤ maxSide
   pub planes-low : 1 ≤ s .planes
-  pub planes-high : s .planes ≤ 16
-  pub product : s .columns * s .rows * s .planes ≤ 65536
+  pub planes-high : s .planes ≤ maxPlanes
+  pub product : s .columns * s .rows * s .planes ≤ maxCells
   pub strength-low : 1 ≤ s .strength
   pub strength-high : s .strength ≤ maxStrength (s .planes)
 
@@ -132,16 +132,16 @@ legal s p =
 
 module _ (s : Shape) (p : Accepted s) where
   -- an accepted flat strength is at most 32, and an accepted stack strength at most 8
-  pub strength-flat : s .planes ≡ 1 → s .strength ≤ 32
+  pub strength-flat : s .planes ≡ 1 → s .strength ≤ maxFlatStrength
   strength-flat e = rw (max-flat (s .planes) e) at (legal s p .strength-high)
 
-  pub strength-stack : (s .planes ≡ 1 → ⊥) → s .strength ≤ 8
+  pub strength-stack : (s .planes ≡ 1 → ⊥) → s .strength ≤ maxStackStrength
   strength-stack e = rw (max-stack (s .planes) e) at (legal s p .strength-high)
 
   -- an accepted strength is at most 32
-  pub strength-most : s .strength ≤ 32
+  pub strength-most : s .strength ≤ maxFlatStrength
   strength-most = go (eqb (s .planes) 1) refl
     where
-      go : (b : Bool) → eqb (s .planes) 1 ≡ b → s .strength ≤ 32
+      go : (b : Bool) → eqb (s .planes) 1 ≡ b → s .strength ≤ maxFlatStrength
       go true e = strength-flat (eqb-true (s .planes) 1 e)
       go false e = le-trans (strength-stack (eqb-false (s .planes) 1 e)) (lit≤ tt)

@@ -9,7 +9,7 @@ use borrow.Author.Tests.{eq-eqb, ne-eqb, eqb-true, eqb-false}
 use Rattle.lattice.specs.declared.settings.Settings.{Settings}
 use Rattle.lattice.specs.declared.shape.Shape.{Shape}
 use Rattle.lattice.specs.Refusal.{beside, figure}
-use Rattle.lattice.specs.Shape.{shapeNumber, Accepted, maxClasses}
+use Rattle.lattice.specs.Shape.{maxFlatStrength, maxClasses, shapeNumber, Accepted}
 use Rattle.lattice.specs.Settings.{settings, isOdd, oddSettings, evenSettings, flatSettings, stackTable, stackSettings, settingsFor, settingsOf, settingsGiven}
 use Rattle.lattice.specs.Class.{classesOf}
 use Rattle.lattice.proofs.Answers.{beside-zero}
@@ -81,7 +81,7 @@ flat-some t p = go (eqb (t % 2) 1) refl
         rw (flat-even t o) (omega (arith, square-most 2 t two))
 
 -- a flat strength of at most 32 has at most 512 classes
-pub flat-most : (t : ℕ) → t ≤ 32 → flatSettings t .m ≤ maxClasses
+pub flat-most : (t : ℕ) → t ≤ maxFlatStrength → flatSettings t .m ≤ maxClasses
 unfolding oddSettings evenSettings
 flat-most t p = go (eqb (t % 2) 1) refl
   where
@@ -90,7 +90,7 @@ flat-most t p = go (eqb (t % 2) 1) refl
         let o = eqb-true (t % 2) 1 e in
         let below : t ≤ 31 = omega arith in
         rw (flat-odd t o) (omega (arith, square-most t 31 below))
-    go false e = rw (flat-even t (eqb-false (t % 2) 1 e)) (omega (arith, square-most t 32 p))
+    go false e = rw (flat-even t (eqb-false (t % 2) 1 e)) (omega (arith, square-most t maxFlatStrength p))
 
 -- the stack rows of the strengths 1 to 8 have 1 to 92 classes
 pub stack-bounds : (t : ℕ) → 1 ≤ t → t ≤ 8 → (1 ≤ stackSettings t .m) × (stackSettings t .m ≤ 92)

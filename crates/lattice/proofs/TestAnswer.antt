@@ -12,47 +12,47 @@ use Rattle.lattice.specs.Refusal.{refusalNumber}
 use Rattle.lattice.specs.Shape.{inRange}
 use Rattle.lattice.specs.Settings.{settings}
 use Rattle.lattice.specs.Order.{order, origin}
-use Rattle.lattice.specs.DistanceTest.{scan, outcome, testStrengthOk, testSettingsOk, testNumber, verdict, foundTriple, triplesTried}
+use Rattle.lattice.specs.DistanceTest.{maxTestStrength, maxTestClasses, scan, outcome, testStrengthOk, testSettingsOk, testNumber, verdict, foundTriple, triplesTried}
 use Rattle.lattice.specs.Answer.{IsDistanceTest}
 use Rattle.lattice.proofs.Bools.{and-left, and-right, failed, passed}
 use Rattle.lattice.proofs.Limits.{range-low, range-high}
 use Rattle.lattice.proofs.Answers.{unless-zero, beside-other, refused, done}
 
 -- a range check's flag, negated, says whether the strength is in range
-pub strength-refused : (t : ℕ) (b : Bool) → b ≡ inRange 1 18 t → not b ≡ true → testStrengthOk t ≡ false
+pub strength-refused : (t : ℕ) (b : Bool) → b ≡ inRange 1 maxTestStrength t → not b ≡ true → testStrengthOk t ≡ false
 unfolding testStrengthOk
-strength-refused t b e h = failed b (inRange 1 18 t) h e
+strength-refused t b e h = failed b (inRange 1 maxTestStrength t) h e
 
-pub strength-accepted : (t : ℕ) (b : Bool) → b ≡ inRange 1 18 t → not b ≡ false → testStrengthOk t ≡ true
+pub strength-accepted : (t : ℕ) (b : Bool) → b ≡ inRange 1 maxTestStrength t → not b ≡ false → testStrengthOk t ≡ true
 unfolding testStrengthOk
-strength-accepted t b e h = passed b (inRange 1 18 t) h e
+strength-accepted t b e h = passed b (inRange 1 maxTestStrength t) h e
 
 -- what accepted numbers keep within
-pub strength-bounds : (t : ℕ) → testStrengthOk t ≡ true → (1 ≤ t) × (t ≤ 18)
+pub strength-bounds : (t : ℕ) → testStrengthOk t ≡ true → (1 ≤ t) × (t ≤ maxTestStrength)
 unfolding testStrengthOk
-strength-bounds t h = (range-low 1 18 t h, range-high 1 18 t h)
+strength-bounds t h = (range-low 1 maxTestStrength t h, range-high 1 maxTestStrength t h)
 
-pub settings-bounds : (m b c : ℕ) → testSettingsOk m b c ≡ true → (1 ≤ m) × (m ≤ 4096) × (b < m) × (c < m)
+pub settings-bounds : (m b c : ℕ) → testSettingsOk m b c ≡ true → (1 ≤ m) × (m ≤ maxTestClasses) × (b < m) × (c < m)
 unfolding testSettingsOk
 settings-bounds m b c h =
-    let both = and-left (inRange 1 4096 m && ltb b m) (ltb c m) h in
-    let range = and-left (inRange 1 4096 m) (ltb b m) both in (
-      range-low 1 4096 m range,
-      range-high 1 4096 m range,
-      ltb-true b m (and-right (inRange 1 4096 m) (ltb b m) both),
-      ltb-true c m (and-right (inRange 1 4096 m && ltb b m) (ltb c m) h),
+    let both = and-left (inRange 1 maxTestClasses m && ltb b m) (ltb c m) h in
+    let range = and-left (inRange 1 maxTestClasses m) (ltb b m) both in (
+      range-low 1 maxTestClasses m range,
+      range-high 1 maxTestClasses m range,
+      ltb-true b m (and-right (inRange 1 maxTestClasses m) (ltb b m) both),
+      ltb-true c m (and-right (inRange 1 maxTestClasses m && ltb b m) (ltb c m) h),
     )
 
 -- the checks of the settings, one after the other
-pub settings-first : (m b c : ℕ) → inRange 1 4096 m ≡ false → testSettingsOk m b c ≡ false
+pub settings-first : (m b c : ℕ) → inRange 1 maxTestClasses m ≡ false → testSettingsOk m b c ≡ false
 unfolding testSettingsOk
 settings-first m b c h = rw h
 
-pub settings-second : (m b c : ℕ) → inRange 1 4096 m ≡ true → m ≤ b → testSettingsOk m b c ≡ false
+pub settings-second : (m b c : ℕ) → inRange 1 maxTestClasses m ≡ true → m ≤ b → testSettingsOk m b c ≡ false
 unfolding testSettingsOk
 settings-second m b c h g = rw (h, le-ltb b m g)
 
-pub settings-third : (m b c : ℕ) → inRange 1 4096 m ≡ true → b < m → testSettingsOk m b c ≡ ltb c m
+pub settings-third : (m b c : ℕ) → inRange 1 maxTestClasses m ≡ true → b < m → testSettingsOk m b c ≡ ltb c m
 unfolding testSettingsOk
 settings-third m b c h g = rw (h, lt-ltb b m g)
 
@@ -70,7 +70,8 @@ unfolding testNumber
 number-zero m b c t h g = rw (h, g)
 
 -- numbers that are accepted keep within their limits
-pub accepted-bounds : (m b c t : ℕ) → testNumber m b c t ≡ 0 → (1 ≤ t) × (t ≤ 18) × (1 ≤ m) × (m ≤ 4096) × (b < m) × (c < m)
+pub accepted-bounds : (m b c t : ℕ) → testNumber m b c t ≡ 0
+    → (1 ≤ t) × (t ≤ maxTestStrength) × (1 ≤ m) × (m ≤ maxTestClasses) × (b < m) × (c < m)
 unfolding testNumber
 accepted-bounds m b c t e =
     let strong = unless-zero (testStrengthOk t) 1 _ e in

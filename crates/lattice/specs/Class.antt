@@ -8,9 +8,10 @@ use Rattle.lattice.specs.declared.settings.Settings.{Settings}
 use Rattle.lattice.specs.declared.shape.Shape.{Shape}
 use Rattle.lattice.specs.declared.class.Placement.{Placement}
 use Rattle.lattice.specs.Refusal.{Listed, listed, unless, figure}
-use Rattle.lattice.specs.Shape.{afterShape, shapeRefusals}
+use Rattle.lattice.specs.Shape.{afterShape, cellsOf, shapeRefusals}
 use Rattle.lattice.specs.Settings.{settingsOf, settingsGiven}
 use Rattle.lattice.specs.Cell.{Cell, cellAt}
+use Rattle.lattice.specs.Position.{Layout}
 
 -- (a − z) mod m, from 0 to m − 1 also where z is above a
 unfoldable pub minusMod : ℕ → ℕ → ℕ → ℕ
@@ -31,6 +32,10 @@ classOf s x = classWith (settingsOf s) x
 -- the class of the cell with a byte number
 abbrev pub classAt : Shape → ℕ → ℕ
 classAt s i = classOf s (cellAt s i)
+
+-- the layout of a field: the class of each of its W × H × D cells
+abbrev pub layoutOf : Shape → Layout
+layoutOf s = record { class = classAt s; cells = cellsOf s }
 
 -- the cell lies in the shape
 unfoldable pub inside : Shape → Cell → Bool

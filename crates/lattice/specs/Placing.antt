@@ -13,7 +13,7 @@ use Rattle.lattice.specs.Cluster.{distance}
 use Rattle.lattice.specs.Labelling.{labels, Separates, differentValues}
 use Rattle.lattice.specs.Class.{classWith, classesOf, classOf, classAt, classNumber, classGiven, classRefusals}
 use Rattle.lattice.specs.Endless.{pointOf, HasClass, Apart, ApartOnPlane}
-use Rattle.lattice.specs.Position.{size, checks, capacity, sumBelow}
+use Rattle.lattice.specs.Position.{Layout, size, checks, capacity, sumBelow}
 
 -- Theorem (demand 1). The constructor's number is settled by its refusals in the listed order, for numbers of any size.
 abbrev pub ShapeRefused : Type 0
@@ -75,9 +75,9 @@ pub record ChecksAreBitLength : Type 0 where
   pub none : checks 0 ≡ 0
   pub some : (n : ℕ) → 1 ≤ n → (1 ≤ checks n) × (2 ^ (checks n - 1) ≤ n) × (n < 2 ^ checks n)
 
--- Theorem. For any placement of n cells in classes below m, the number of cells that hold no check is the sum over the classes of the
+-- Theorem. For any layout of cells in classes below m, the number of cells that hold no check is the sum over the classes of the
 -- class's size less its number of checks.
 abbrev pub CapacitySum : Type 0
 CapacitySum =
-    (cls : ℕ → ℕ) (m n : ℕ) → ((i : ℕ) → i < n → cls i < m)
-    → capacity cls n ≡ sumBelow (λ a. size cls a n - checks (size cls a n)) m
+    (L : Layout) (m : ℕ) → ((i : ℕ) → i < L .cells → L .class i < m)
+    → capacity L ≡ sumBelow (λ a. size L a - checks (size L a)) m

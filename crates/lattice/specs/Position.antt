@@ -1,4 +1,4 @@
--- Positions in a class, check cells and the capacity, for any placement of cells in classes: `cls i` is the class of cell i.
+-- Positions in a class, check cells and the capacity, for any layout of cells in classes.
 use Prim.Native.Nat.{ℕ, zero, suc, _+_, _^_}
 use mathlib.Core.Bool.{Bool, true, false, cond, not, _&&_, _||_}
 use mathlib.Core.List.{List}
@@ -26,13 +26,22 @@ abbrev pub sumBelow : (ℕ → ℕ) → ℕ → ℕ
 sumBelow f zero = 0
 sumBelow f (suc n) = f n + sumBelow f n
 
+-- a layout: the class of each cell, by its byte number, and the number of cells
+pub record Layout : Type 0 where
+  pub class : ℕ → ℕ
+  pub cells : ℕ
+
 -- the number of cells of class a among the first n cells
-unfoldable pub size : (ℕ → ℕ) → ℕ → ℕ → ℕ
-size cls a n = count (λ i. eqb (cls i) a) n
+unfoldable pub sizeTo : Layout → ℕ → ℕ → ℕ
+sizeTo L a n = count (λ i. eqb (L .class i) a) n
+
+-- the size of class a: the number of its cells
+abbrev pub size : Layout → ℕ → ℕ
+size L a = sizeTo L a (L .cells)
 
 -- the cells of a class are numbered 1, 2, .. in byte order
-unfoldable pub position : (ℕ → ℕ) → ℕ → ℕ
-position cls i = size cls (cls i) i + 1
+unfoldable pub position : Layout → ℕ → ℕ
+position L i = sizeTo L (L .class i) i + 1
 
 -- p is a power of two: 2 to the power of some number, which is then below p
 unfoldable pub isPower : ℕ → Bool
@@ -50,13 +59,13 @@ checks n = count (λ i. isPower (i + 1)) n
 unfoldable pub dataCells : ℕ → ℕ
 dataCells n = count (λ i. not (isCheck n (i + 1))) n
 
--- cell i, of a field of n cells, holds no check
-unfoldable pub holdsData : (ℕ → ℕ) → ℕ → ℕ → Bool
-holdsData cls n i = not (isCheck (size cls (cls i) n) (position cls i))
+-- cell i holds no check
+unfoldable pub holdsData : Layout → ℕ → Bool
+holdsData L i = not (isCheck (size L (L .class i)) (position L i))
 
 -- the capacity: the number of cells that hold no check
-unfoldable pub capacity : (ℕ → ℕ) → ℕ → ℕ
-capacity cls n = count (holdsData cls n) n
+unfoldable pub capacity : Layout → ℕ
+capacity L = count (holdsData L) (L .cells)
 
 -- the number of cells that hold no check, where the list holds the size of each class
 unfoldable pub dataIn : List ℕ → ℕ

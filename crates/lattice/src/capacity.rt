@@ -3,8 +3,8 @@ ghost use mathlib.Core.Path.{_≡_};
 ghost use Prim.Native.Nat.{ℕ, _+_, _<_};
 ghost use lib.ListN.{length, getD};
 ghost use Rattle.lattice.specs.Refusal.{beside, figure};
-ghost use Rattle.lattice.specs.Shape.{maxClasses, shapeNumber, cellsOf};
-ghost use Rattle.lattice.specs.Class.{classAt};
+ghost use Rattle.lattice.specs.Shape.{maxClasses, shapeNumber};
+ghost use Rattle.lattice.specs.Class.{layoutOf};
 ghost use Rattle.lattice.specs.Position.{size, checks, dataCells, capacity, dataIn};
 use crate::class::class_at;
 use crate::refusal::Tested;
@@ -47,7 +47,7 @@ fn count_one(sizes: &mut [u32], a: usize)
 
 // The size of each class; for a shape that the constructor refuses the array keeps its entries.
 pub fn class_sizes(shape: Shape, sizes: &mut [u32; Shape::MAX_CLASSES])
-    ensures { λ r. ⌜ ((a : ℕ) → a < maxClasses → getD (now (sizes .exit)) a 0 ≡ beside (shapeNumber shape) (size (classAt shape) a (cellsOf shape)) (getD (now (sizes .entry)) a 0)) ⌝ }
+    ensures { λ r. ⌜ ((a : ℕ) → a < maxClasses → getD (now (sizes .exit)) a 0 ≡ beside (shapeNumber shape) (size (layoutOf shape) a) (getD (now (sizes .entry)) a 0)) ⌝ }
 {
     let tested = shape.tests();
     if let Tested::Refused(_) = tested {
@@ -79,7 +79,7 @@ pub fn data_in(sizes: &[u32; Shape::MAX_CLASSES]) -> usize
 impl Shape {
     // The number of cells that hold no check; 0 for a shape that the constructor refuses.
     pub fn capacity(self) -> usize
-        ensures { λ r. ⌜ r ≡ figure (shapeNumber self) (capacity (classAt self) (cellsOf self)) ⌝ }
+        ensures { λ r. ⌜ r ≡ figure (shapeNumber self) (capacity (layoutOf self)) ⌝ }
     {
         let mut sizes = [0u32; Shape::MAX_CLASSES];
         class_sizes(self, &mut sizes);

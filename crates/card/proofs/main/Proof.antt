@@ -7,9 +7,10 @@ use lib.Seq.{length-take-le}
 use Rattle.card.proofs.StepRun.{answer-within}
 use Rattle.card.proofs.main.Statement.{statement}
 use Rattle.card.proofs.main.Tie as tie
+use Rattle.card.specs.Card.{maxAnswer}
 
 within : (c : tie.After-answer-card) → c .answer-card .result ≤ length (c .answer-card .last .1 .0)
-within c = answer-within (take (c .before .before .before .before .read-full .result) (c .before .before .before .before .read-full .last .1 .0)) (c .answer-card .last .1 .0) _ 36915 (lit≤ tt) (c .answer-card .ensures .0) (c .answer-card .kept .1 .0)
+within c = answer-within (take (c .before .before .before .before .read-full .result) (c .before .before .before .before .read-full .last .1 .0)) (c .answer-card .last .1 .0) _ maxAnswer (lit≤ tt) (c .answer-card .ensures .0) (c .answer-card .kept .1 .0)
 
 slice-aggregate-read-full : tie.Need-slice-aggregate-read-full
 slice-aggregate-read-full c = search needs

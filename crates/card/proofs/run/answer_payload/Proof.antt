@@ -10,6 +10,7 @@ use Rattle.codec.specs.Payload.{Bytes}
 use Rattle.codec.specs.Plan.{planBytes}
 use Rattle.card.specs.Parse.{payloadOk, payloadOf}
 use Rattle.card.specs.Program.{writtenText}
+use Rattle.card.specs.Card.{maxCardCells, maxCardBytes}
 use Rattle.card.proofs.StepProgram.{bad-payload, wrong-length, payload-written}
 use Rattle.card.proofs.StepCard.{cells-are, cells-fit, bytes-are, bytes-fit}
 use Rattle.card.proofs.StepReply.{answered-same}
@@ -27,10 +28,10 @@ bytes-read-are c = length-read _ _ ∙ sym (c .payload-bytes .ensures)
 bytes-planned : (c : tie.Else2) → c .before .before .payload-bytes .result ≡ planBytes (c .before .before .before .before .before .before .before .args .shape)
 bytes-planned c = c .if2 .left ∙ bytes-are _ _ (c .before .before .before .before .before .before .before .pre .0 .shaped) _ (c .before .capacity .ensures)
 
-bytes-room : (c : tie.Else2) → c .before .before .payload-bytes .result ≤ 2048
+bytes-room : (c : tie.Else2) → c .before .before .payload-bytes .result ≤ maxCardBytes
 bytes-room c = omega (arith, bytes-planned c, bytes-fit _ _ (c .before .before .before .before .before .before .before .pre .0 .shaped))
 
-cells-room : (c : tie.After-cells) → c .cells .result ≤ 16384
+cells-room : (c : tie.After-cells) → c .cells .result ≤ maxCardCells
 cells-room c = cells-fit _ _ (c .before .before .before .before .before .before .before .before .pre .0 .shaped) _ (c .cells .ensures)
 
 -- the part that was filled
@@ -38,7 +39,7 @@ long : (c : tie.After-fill-payload) → length (c .fill-payload .last .1 .1 .0) 
 long c = ap length (c .fill-payload .ensures) ∙ bytes-read-are (c .before .before .before .before .before)
 
 again : (c : tie.After-fill-payload)
-    → take (c .before .before .before .before .before .payload-bytes .result) (c .fill-payload .last .1 .1 .0 ++ drop (c .before .before .before .before .before .payload-bytes .result) (replicate 2048 0))
+    → take (c .before .before .before .before .before .payload-bytes .result) (c .fill-payload .last .1 .1 .0 ++ drop (c .before .before .before .before .before .payload-bytes .result) (replicate maxCardBytes 0))
     ≡ payloadOf (c .before .before .before .before .before .before .before .before .before .before .args .input .now) (c .before .before .before .before .before .before .before .before .before .before .args .next)
 again c = part-again _ _ _ (long c) ∙ c .fill-payload .ensures
 
@@ -86,22 +87,22 @@ array-borrow-prefix-payload : tie.Need-array-borrow-prefix-payload
 array-borrow-prefix-payload c = bytes-room (c .before)
 
 slice-aggregate-fill-payload : tie.Need-slice-aggregate-fill-payload
-slice-aggregate-fill-payload c = zeros-count _ 2048 (bytes-room (c .before .before))
+slice-aggregate-fill-payload c = zeros-count _ maxCardBytes (bytes-room (c .before .before))
 
 fill-payload-requires : tie.Need-fill-payload-requires
-fill-payload-requires c κs = (ok (c .before .before .before .before .before), sym (zeros-count _ 2048 (bytes-room (c .before .before))) ∙ c .before .before .before .before .payload-bytes .ensures)
+fill-payload-requires c κs = (ok (c .before .before .before .before .before), sym (zeros-count _ maxCardBytes (bytes-room (c .before .before))) ∙ c .before .before .before .before .payload-bytes .ensures)
 
 array-share-prefix-payload : tie.Need-array-share-prefix-payload
-array-share-prefix-payload c = part-within _ (c .before .fill-payload .last .1 .1 .0) (drop (c .before .before .before .before .before .before .payload-bytes .result) (replicate 2048 0)) (long (c .before))
+array-share-prefix-payload c = part-within _ (c .before .fill-payload .last .1 .1 .0) (drop (c .before .before .before .before .before .before .payload-bytes .result) (replicate maxCardBytes 0)) (long (c .before))
 
 slice-aggregate-write-card : tie.Need-slice-aggregate-write-card
-slice-aggregate-write-card c = part-count _ (c .before .before .fill-payload .last .1 .1 .0) (drop (c .before .before .before .before .before .before .before .payload-bytes .result) (replicate 2048 0)) (long (c .before .before))
+slice-aggregate-write-card c = part-count _ (c .before .before .fill-payload .last .1 .1 .0) (drop (c .before .before .before .before .before .before .before .payload-bytes .result) (replicate maxCardBytes 0)) (long (c .before .before))
 
 array-borrow-prefix-field : tie.Need-array-borrow-prefix-field
 array-borrow-prefix-field c = cells-room (c .before .before .before .before)
 
 slice-aggregate-write-card-2 : tie.Need-slice-aggregate-write-card-2
-slice-aggregate-write-card-2 c = zeros-count _ 16384 (cells-room (c .before .before .before .before .before))
+slice-aggregate-write-card-2 c = zeros-count _ maxCardCells (cells-room (c .before .before .before .before .before))
 
 write-card-requires : tie.Need-write-card-requires
 write-card-requires c κs = (
@@ -110,7 +111,7 @@ write-card-requires c κs = (
     subst Bytes (sym (again (c .before .before .before .before))) (bytes-read _ _ (ok (c .before .before .before .before .before .before .before .before .before .before))),
     (
       ap length (again (c .before .before .before .before)) ∙ bytes-read-are (c .before .before .before .before .before .before .before .before .before) ∙ bytes-planned (c .before .before .before .before .before .before .before),
-      sym (zeros-count _ 16384 (cells-room (c .before .before .before .before .before .before))) ∙ cells-are _ _ (c .before .before .before .before .before .before .before .before .before .before .before .before .before .before .pre .0 .shaped) _ (c .before .before .before .before .before .before .cells .ensures),
+      sym (zeros-count _ maxCardCells (cells-room (c .before .before .before .before .before .before))) ∙ cells-are _ _ (c .before .before .before .before .before .before .before .before .before .before .before .before .before .before .pre .0 .shaped) _ (c .before .before .before .before .before .before .cells .ensures),
     ),
   ),
 )

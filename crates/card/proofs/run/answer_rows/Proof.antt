@@ -8,6 +8,7 @@ use Rattle.lattice.proofs.Bools.{failed, passed}
 use Rattle.codec.specs.Plan.{planBytes}
 use Rattle.card.specs.Program.{cellsIn}
 use Rattle.card.specs.Working.{decodedText}
+use Rattle.card.specs.Card.{maxCardCells, maxCardBytes}
 use Rattle.card.proofs.StepCard.{cells-are, cells-fit, bytes-are, bytes-fit, columns-some, columns-narrow, lines-most, rows-fit, cells-read, cells-long}
 use Rattle.card.proofs.StepProgram.{bad-rows, rows-read}
 use Rattle.card.proofs.HeaderRest.{header-found}
@@ -16,28 +17,28 @@ use Rattle.card.proofs.StepRun.{zeros-count, zeros-take, part-again, pa
 use Rattle.card.proofs.run.answer_rows.Statement.{statement}
 use Rattle.card.proofs.run.answer_rows.Tie as tie
 
-cells-room : (c : tie.After-cells) → c .cells .result ≤ 16384
+cells-room : (c : tie.After-cells) → c .cells .result ≤ maxCardCells
 cells-room c = cells-fit _ _ (c .before .before .before .before .before .before .before .pre .0 .shaped) _ (c .cells .ensures)
 
 bytes-planned : (c : tie.After-capacity) → c .capacity .result / 8 ≡ planBytes (c .before .before .before .before .before .before .before .before .args .shape)
 bytes-planned c = bytes-are _ _ (c .before .before .before .before .before .before .before .before .pre .0 .shaped) _ (c .capacity .ensures)
 
-bytes-room : (c : tie.After-capacity) → c .capacity .result / 8 ≤ 2048
+bytes-room : (c : tie.After-capacity) → c .capacity .result / 8 ≤ maxCardBytes
 bytes-room c = omega (arith, bytes-planned c, bytes-fit _ _ (c .before .before .before .before .before .before .before .before .pre .0 .shaped))
 
 -- the part that was filled
 long : (c : tie.After-fill-cells) → length (c .fill-cells .last .1 .1 .1 .0) ≡ c .before .before .before .before .cells .result
 long c =
     cells-long _ _ (c .before .before .before .before .before .before .before .before .before .before .before .pre .0 .shaped) _ _ _ _ (c .fill-cells .ensures)
-    ∙ sym (zeros-count _ 16384 (cells-room (c .before .before .before .before)))
+    ∙ sym (zeros-count _ maxCardCells (cells-room (c .before .before .before .before)))
 
 again : (c : tie.After-fill-cells)
-    → take (c .before .before .before .before .cells .result) (c .fill-cells .last .1 .1 .1 .0 ++ drop (c .before .before .before .before .cells .result) (replicate 16384 0))
+    → take (c .before .before .before .before .cells .result) (c .fill-cells .last .1 .1 .1 .0 ++ drop (c .before .before .before .before .cells .result) (replicate maxCardCells 0))
     ≡ cellsIn (c .before .before .before .before .before .before .before .before .before .before .before .args .input .now) (c .before .before .before .before .before .before .before .before .before .before .before .args .header) (c .before .before .before .before .before .before .before .before .before .before .before .args .next)
 again c =
     part-again _ _ _ (long c)
     ∙ cells-read _ _ (c .before .before .before .before .before .before .before .before .before .before .before .pre .0 .shaped) _ _ _ _
-    (sym (zeros-count _ 16384 (cells-room (c .before .before .before .before))) ∙ cells-are _ _ (c .before .before .before .before .before .before .before .before .before .before .before .pre .0 .shaped) _ (c .before .before .before .before .cells .ensures))
+    (sym (zeros-count _ maxCardCells (cells-room (c .before .before .before .before))) ∙ cells-are _ _ (c .before .before .before .before .before .before .before .before .before .before .before .pre .0 .shaped) _ (c .before .before .before .before .cells .ensures))
     (c .fill-cells .ensures)
 
 cast-rows-ok : tie.Need-cast-rows-ok
@@ -74,7 +75,7 @@ array-borrow-prefix-field : tie.Need-array-borrow-prefix-field
 array-borrow-prefix-field c = cells-room (c .before .before)
 
 slice-aggregate-fill-cells : tie.Need-slice-aggregate-fill-cells
-slice-aggregate-fill-cells c = zeros-count _ 16384 (cells-room (c .before .before .before))
+slice-aggregate-fill-cells c = zeros-count _ maxCardCells (cells-room (c .before .before .before))
 
 fill-cells-requires : tie.Need-fill-cells-requires
 fill-cells-requires c κs =
@@ -82,23 +83,23 @@ fill-cells-requires c κs =
       inside = header-found _ _ _ (c .before .before .before .before .before .before .before .before .before .before .pre .0 .header .found) .inside;
       some = columns-some _ _ (c .before .before .before .before .before .before .before .before .before .before .pre .0 .shaped);
       narrow = columns-narrow _ _ (c .before .before .before .before .before .before .before .before .before .before .pre .0 .shaped);
-      cells = omega (arith, cells-room (c .before .before .before), zeros-count (c .before .before .before .cells .result) 16384 (cells-room (c .before .before .before)));
+      cells = omega (arith, cells-room (c .before .before .before), zeros-count (c .before .before .before .cells .result) maxCardCells (cells-room (c .before .before .before)));
     }
 
 array-share-prefix-field : tie.Need-array-share-prefix-field
-array-share-prefix-field c = part-within _ (c .before .fill-cells .last .1 .1 .1 .0) (drop (c .before .before .before .before .before .cells .result) (replicate 16384 0)) (long (c .before))
+array-share-prefix-field c = part-within _ (c .before .fill-cells .last .1 .1 .1 .0) (drop (c .before .before .before .before .before .cells .result) (replicate maxCardCells 0)) (long (c .before))
 
 slice-aggregate-read-card : tie.Need-slice-aggregate-read-card
-slice-aggregate-read-card c = part-count _ (c .before .before .fill-cells .last .1 .1 .1 .0) (drop (c .before .before .before .before .before .before .cells .result) (replicate 16384 0)) (long (c .before .before))
+slice-aggregate-read-card c = part-count _ (c .before .before .fill-cells .last .1 .1 .1 .0) (drop (c .before .before .before .before .before .before .cells .result) (replicate maxCardCells 0)) (long (c .before .before))
 
 array-borrow-prefix-payload : tie.Need-array-borrow-prefix-payload
 array-borrow-prefix-payload c = bytes-room (c .before .before .before .before .before)
 
 slice-aggregate-read-card-2 : tie.Need-slice-aggregate-read-card-2
-slice-aggregate-read-card-2 c = zeros-count _ 2048 (bytes-room (c .before .before .before .before .before .before))
+slice-aggregate-read-card-2 c = zeros-count _ maxCardBytes (bytes-room (c .before .before .before .before .before .before))
 
 read-card-requires : tie.Need-read-card-requires
-read-card-requires c κs = (c .before .before .before .before .before .before .before .before .before .before .before .before .before .before .before .pre .0 .shaped, zeros-take _ 2048 (bytes-room (c .before .before .before .before .before .before .before)) ∙ ap (λ (n : ℕ). replicate n 0) (bytes-planned (c .before .before .before .before .before .before .before) ∙ ap planBytes (c .before .before .before .before .before .before .before .before .before .before .before .before .before .before .before .pre .0 .shaped .shape)))
+read-card-requires c κs = (c .before .before .before .before .before .before .before .before .before .before .before .before .before .before .before .pre .0 .shaped, zeros-take _ maxCardBytes (bytes-room (c .before .before .before .before .before .before .before)) ∙ ap (λ (n : ℕ). replicate n 0) (bytes-planned (c .before .before .before .before .before .before .before) ∙ ap planBytes (c .before .before .before .before .before .before .before .before .before .before .before .before .before .before .before .pre .0 .shaped .shape)))
 
 same-length-2 : tie.Need-same-length-2
 same-length-2 c = search needs

@@ -8,6 +8,7 @@ use Rattle.codec.proofs.StepCorrected.{MendedTo, mended-none, mended-le
 use Rattle.codec.proofs.StepPlace.{cell-below, cell-limit, zeros}
 use Rattle.codec.proofs.correct.store_corrected.Statement.{statement}
 use Rattle.codec.proofs.correct.store_corrected.Tie as tie
+use Rattle.lattice.specs.Shape.{maxCells}
 
 abbrev Inv-loop : tie.InvT-loop
 Inv-loop shape syndromes field₀ placement counts₀ turned₀ i₀ field counts flipped i = (i ≤ length field₀) × MendedTo shape field₀ field counts flipped i
@@ -21,7 +22,7 @@ same c = mended-length _ _ _ _ _ _ (c .loop .inv .1) (c .loop .inv .0)
 inside : (c : tie.In-loop Inv-loop μ-loop) → c .before .loop .i < length (c .before .before .before .before .args .field .now)
 inside c = rw (← (same (c .before))) (c .loop-test .taken)
 
-limit : (c : tie.In-loop Inv-loop μ-loop) → c .before .loop .i < 65536
+limit : (c : tie.In-loop Inv-loop μ-loop) → c .before .loop .i < maxCells
 limit c = cell-limit _ _ (c .before .before .before .before .pre .0 .long) _ (inside c) (c .before .before .before .before .pre .0 .accepted)
 
 placement-requires : tie.Need-placement-requires Inv-loop μ-loop

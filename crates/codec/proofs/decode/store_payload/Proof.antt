@@ -4,9 +4,9 @@ use mathlib.Core.Path.{_≡_, refl, _∙_}
 use native.Mathlib.Omega.{arith}
 use lib.ListN.{length}
 use mir.Facts.{fits-lt, fits-lit}
-use Rattle.lattice.specs.Shape.{cellsOf}
-use Rattle.lattice.specs.Class.{classAt}
+use Rattle.lattice.specs.Class.{layoutOf}
 use Rattle.lattice.specs.Position.{holdsData}
+use Rattle.lattice.specs.Shape.{maxCells}
 use Rattle.codec.specs.Field.{fieldOf, differences}
 use Rattle.codec.specs.Decode.{correctedField}
 use Rattle.codec.specs.Working.{HoldsSizes, rankAt}
@@ -20,25 +20,25 @@ use Rattle.codec.proofs.decode.store_payload.Tie as tie
 
 abbrev Inv-loop : tie.InvT-loop
 Inv-loop shape field sizes syndromes payload₀ placement counts₀ rank₀ turned₀ i₀ payload counts rank flipped i =
-    (i ≤ length field) × HoldsSizes (classAt shape) counts i × (rank ≡ rankAt shape i) × (length payload ≡ length payload₀)
-    × HoldsBytes shape (correctedField shape field) payload i
-    × (flipped ≡ differences (fieldOf field) (correctedField shape field) i)
+    (i ≤ length field) × HoldsSizes (layoutOf shape) counts i × (rank ≡ rankAt shape i) × (length payload ≡ length payload₀)
+    × HoldsBytes shape (correctedField shape (fieldOf field)) payload i
+    × (flipped ≡ differences (fieldOf field) (correctedField shape (fieldOf field)) i)
 
 abbrev μ-loop : tie.MeasureT-loop
 μ-loop shape field sizes syndromes payload₀ placement counts₀ rank₀ turned₀ i₀ payload counts rank flipped i = length field - i
 
-limit : (c : tie.In-loop Inv-loop μ-loop) → c .before .loop .i < 65536
+limit : (c : tie.In-loop Inv-loop μ-loop) → c .before .loop .i < maxCells
 limit c = cell-limit _ _ (c .before .before .before .before .before .before .before .before .before .pre .0 .long) _ (c .loop-test .taken) (c .before .before .before .before .before .before .before .before .before .pre .0 .accepted)
 
 -- the cell of a turn holds no check
 held : (c : tie.After-holds-data Inv-loop μ-loop)
     → c .holds-data .result
-    ≡ holdsData (classAt (c .before .before .before .before .before .before .before .before .before .before .before .before .args .shape)) (cellsOf (c .before .before .before .before .before .before .before .before .before .before .before .before .args .shape)) (c .before .before .before .before .loop .i)
+    ≡ holdsData (layoutOf (c .before .before .before .before .before .before .before .before .before .before .before .before .args .shape)) (c .before .before .before .before .loop .i)
 held c = data-is _ _ (c .before .before .before .before .before .before .before .before .before .before .before .before .pre .1 .0 .sized) _ _ _ _ (c .before .place-of .ensures) _ (c .holds-data .ensures)
 
 -- its value after correction
 value : (c : tie.After-corrected-value Inv-loop μ-loop)
-    → c .corrected-value .result ≡ correctedField (c .before .before .before .before .before .before .before .before .before .before .before .before .before .before .args .shape) (c .before .before .before .before .before .before .before .before .before .before .before .before .before .before .args .field .now) (c .before .before .before .before .before .before .loop .i)
+    → c .corrected-value .result ≡ correctedField (c .before .before .before .before .before .before .before .before .before .before .before .before .before .before .args .shape) (fieldOf (c .before .before .before .before .before .before .before .before .before .before .before .before .before .before .args .field .now)) (c .before .before .before .before .before .before .loop .i)
 value c =
     mended-is
     _
@@ -97,7 +97,7 @@ count-if-requires-2 : tie.Need-count-if-requires-2 Inv-loop μ-loop
 count-if-requires-2 c κs =
     differences-limit
     (fieldOf (c .before .before .before .before .before .before .before .before .before .before .before .before .before .before .before .before .before .before .before .args .field .now))
-    (correctedField (c .before .before .before .before .before .before .before .before .before .before .before .before .before .before .before .before .before .before .before .args .shape) (c .before .before .before .before .before .before .before .before .before .before .before .before .before .before .before .before .before .before .before .args .field .now))
+    (correctedField (c .before .before .before .before .before .before .before .before .before .before .before .before .before .before .before .before .before .before .before .args .shape) (fieldOf (c .before .before .before .before .before .before .before .before .before .before .before .before .before .before .before .before .before .before .before .args .field .now)))
     _ _
     (limit (c .before .before .before .before .before .before .before .before .before .before))
     (c .before .before .before .before .before .before .before .before .before .before .before .loop .inv .5)
@@ -124,7 +124,7 @@ loop-again c = (
       (c .before .before .before .before .store-bit .ensures),
   differences-more
       (fieldOf (c .before .before .before .before .before .before .before .before .before .before .before .before .before .before .before .before .before .before .before .before .args .field .now))
-      (correctedField (c .before .before .before .before .before .before .before .before .before .before .before .before .before .before .before .before .before .before .before .before .args .shape) (c .before .before .before .before .before .before .before .before .before .before .before .before .before .before .before .before .before .before .before .before .args .field .now))
+      (correctedField (c .before .before .before .before .before .before .before .before .before .before .before .before .before .before .before .before .before .before .before .before .args .shape) (fieldOf (c .before .before .before .before .before .before .before .before .before .before .before .before .before .before .before .before .before .before .before .before .args .field .now)))
       _ _ _ _ _
       (c .before .before .before .before .before .before .before .before .before .before .before .before .loop .inv .5)
       refl

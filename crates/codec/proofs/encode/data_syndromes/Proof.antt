@@ -3,8 +3,8 @@ use Prim.Native.Nat.{_-_, _<_, _≤_, zero-le}
 use mathlib.Core.Path.{_≡_}
 use native.Mathlib.Omega.{arith}
 use mir.Facts.{fits-lt, fits-lit}
-use Rattle.lattice.specs.Shape.{cellsOf}
-use Rattle.lattice.specs.Class.{classAt}
+use Rattle.lattice.specs.Shape.{maxCells, cellsOf}
+use Rattle.lattice.specs.Class.{layoutOf}
 use Rattle.lattice.specs.Position.{holdsData}
 use Rattle.lattice.proofs.ClassAt.{at-cells}
 use Rattle.codec.specs.Payload.{dataField}
@@ -18,8 +18,8 @@ use Rattle.codec.proofs.encode.data_syndromes.Tie as tie
 
 abbrev Inv-loop : tie.InvT-loop
 Inv-loop shape payload sizes syndromes₀ placement cells counts₀ rank₀ i₀ syndromes counts rank i =
-    (i ≤ cells) × HoldsSizes (classAt shape) counts i
-    × HoldsSyndromes (classAt shape) (dataField (classAt shape) (cellsOf shape) payload) syndromes i
+    (i ≤ cells) × HoldsSizes (layoutOf shape) counts i
+    × HoldsSyndromes (layoutOf shape) (dataField (layoutOf shape) payload) syndromes i
     × (rank ≡ rankAt shape i)
 
 abbrev μ-loop : tie.MeasureT-loop
@@ -28,13 +28,13 @@ abbrev μ-loop : tie.MeasureT-loop
 cells : (c : tie.After-cells Inv-loop μ-loop) → c .cells .result ≡ cellsOf (c .before .before .before .args .shape)
 cells c = at-cells _ (c .before .before .before .pre .0 .accepted) _ (c .cells .ensures)
 
-limit : (c : tie.In-loop Inv-loop μ-loop) → c .before .loop .i < 65536
+limit : (c : tie.In-loop Inv-loop μ-loop) → c .before .loop .i < maxCells
 limit c = cell-limit _ _ (cells (c .before .before)) _ (c .loop-test .taken) (c .before .before .before .before .before .pre .0 .accepted)
 
 -- the cell of a turn holds no check
 held : (c : tie.After-holds-data Inv-loop μ-loop)
     → c .holds-data .result
-    ≡ holdsData (classAt (c .before .before .before .before .before .before .before .before .args .shape)) (cellsOf (c .before .before .before .before .before .before .before .before .args .shape)) (c .before .before .before .before .loop .i)
+    ≡ holdsData (layoutOf (c .before .before .before .before .before .before .before .before .args .shape)) (c .before .before .before .before .loop .i)
 held c = data-is _ _ (c .before .before .before .before .before .before .before .before .pre .0 .sized) _ _ _ _ (c .before .place-of .ensures) _ (c .holds-data .ensures)
 
 placement-requires : tie.Need-placement-requires Inv-loop μ-loop

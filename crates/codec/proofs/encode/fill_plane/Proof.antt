@@ -5,9 +5,9 @@ use native.Mathlib.Nat.{le-of-lt, le-trans}
 use native.Mathlib.Omega.{arith}
 use lib.ListN.{length}
 use mir.Facts.{fits-lt, fits-lit}
-use Rattle.lattice.specs.Shape.{cellsOf}
-use Rattle.lattice.specs.Class.{classAt}
+use Rattle.lattice.specs.Class.{layoutOf}
 use Rattle.lattice.specs.Position.{holdsData}
+use Rattle.lattice.specs.Shape.{maxCells}
 use Rattle.codec.specs.Working.{Filled}
 use Rattle.codec.proofs.StepData.{data-is, rank-limit}
 use Rattle.codec.proofs.StepPlane.{plane-below, plane-limit, plane-room, filled-none, filled-cell, filled-length, filled-all}
@@ -23,7 +23,7 @@ abbrev μ-loop : tie.MeasureT-loop
 μ-loop shape payload sizes syndromes counts₀ at first part₀ placement cells rank₀ j₀ counts part rank j =
     cells - j
 
-limit : (c : tie.In-loop Inv-loop μ-loop) → c .before .before .before .before .before .before .args .at + c .before .loop .j < 65536
+limit : (c : tie.In-loop Inv-loop μ-loop) → c .before .before .before .before .before .before .args .at + c .before .loop .j < maxCells
 limit c =
     plane-limit
     _ _ _ _ _
@@ -46,8 +46,7 @@ room c =
 held : (c : tie.After-holds-data Inv-loop μ-loop)
     → c .holds-data .result
     ≡ holdsData
-    (classAt (c .before .before .before .before .before .before .before .before .before .args .shape))
-    (cellsOf (c .before .before .before .before .before .before .before .before .before .args .shape))
+    (layoutOf (c .before .before .before .before .before .before .before .before .before .args .shape))
     (c .before .before .before .before .before .before .before .before .before .args .at + c .before .before .before .before .loop .j)
 held c = data-is _ _ (c .before .before .before .before .before .before .before .before .before .pre .0 .sized) _ _ _ _ (c .before .place-of .ensures) _ (c .holds-data .ensures)
 

@@ -5,6 +5,7 @@ use native.Mathlib.Omega.{arith}
 use borrow.Author.Needs.{needs}
 use borrow.Author.Tests.{le-leb, lt-leb}
 use Rattle.lattice.specs.Position.{allBelow}
+use Rattle.lattice.specs.Shape.{maxClasses}
 use Rattle.codec.proofs.AllBelow.{last-fails, last-passes, none-left}
 use Rattle.codec.proofs.StepReach.{reaches}
 use Rattle.codec.proofs.examine.all_in_reach.Statement.{statement}
@@ -17,7 +18,7 @@ Inv-loop m sizes syndromes left₀ left =
 abbrev μ-loop : tie.MeasureT-loop
 μ-loop m sizes syndromes left₀ left = left
 
-below : (c : tie.In-loop Inv-loop μ-loop) → c .before .loop .left - 1 < 512
+below : (c : tie.In-loop Inv-loop μ-loop) → c .before .loop .left - 1 < maxClasses
 below c = omega (arith, c .before .before .pre)
 
 loop-holds : tie.Need-loop-holds Inv-loop μ-loop

@@ -3,12 +3,11 @@ use mathlib.Core.Bool.{true}
 use mathlib.Core.Path.{_≡_}
 use borrow.Author.Needs.{needs}
 use Rattle.lattice.specs.Shape.{cellsOf}
-use Rattle.lattice.specs.Class.{classesOf, classAt}
 use Rattle.lattice.proofs.Bools.{failed, passed}
 use Rattle.lattice.proofs.CapacityGiven.{classes-given}
 use Rattle.codec.specs.Field.{fieldOf, cellsOk}
-use Rattle.codec.specs.Hamming.{allInReach}
 use Rattle.codec.specs.Working.{Examined}
+use Rattle.codec.specs.Code.{fieldInReach}
 use Rattle.codec.proofs.StepExamine.{cells-tested, number-cell, number-reach, number-padding, number-none}
 use Rattle.codec.proofs.StepReach.{all-reach}
 use Rattle.codec.proofs.examine.examine.Statement.{statement}
@@ -28,11 +27,7 @@ cells c = cells-tested _ (c .before .before .before .before .args .field .now) _
 
 reach : (c : tie.After-all-in-reach)
     → c .all-in-reach .result
-    ≡ allInReach
-    (classAt (c .before .before .before .before .before .before .before .before .args .shape))
-    (cellsOf (c .before .before .before .before .before .before .before .before .args .shape))
-    (classesOf (c .before .before .before .before .before .before .before .before .args .shape))
-    (fieldOf (c .before .before .before .before .before .before .before .before .args .field .now))
+    ≡ fieldInReach (c .before .before .before .before .before .before .before .before .args .shape) (fieldOf (c .before .before .before .before .before .before .before .before .args .field .now))
 reach c =
     all-reach
     _
@@ -47,11 +42,7 @@ cells-hold : (c : tie.Else1) → cellsOk (fieldOf (c .before .before .before .be
 cells-hold c = passed _ _ (c .if1 .left) (cells (c .before))
 
 reach-holds : (c : tie.Else2)
-    → allInReach
-    (classAt (c .before .before .before .before .before .before .before .before .before .args .shape))
-    (cellsOf (c .before .before .before .before .before .before .before .before .before .args .shape))
-    (classesOf (c .before .before .before .before .before .before .before .before .before .args .shape))
-    (fieldOf (c .before .before .before .before .before .before .before .before .before .args .field .now))
+    → fieldInReach (c .before .before .before .before .before .before .before .before .before .args .shape) (fieldOf (c .before .before .before .before .before .before .before .before .before .args .field .now))
     ≡ true
 reach-holds c = passed _ _ (c .if2 .left) (reach (c .before))
 

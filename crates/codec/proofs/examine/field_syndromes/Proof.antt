@@ -4,7 +4,7 @@ use mathlib.Core.Path.{refl}
 use native.Mathlib.Omega.{arith}
 use lib.ListN.{length}
 use mir.Facts.{fits-lt, fits-lit}
-use Rattle.lattice.specs.Class.{classAt}
+use Rattle.lattice.specs.Class.{layoutOf}
 use Rattle.codec.specs.Field.{fieldOf}
 use Rattle.codec.specs.Working.{HoldsSizes, HoldsSyndromes}
 use Rattle.codec.proofs.StepPlace.{cell-below, cell-limit, counts-none, zeros}
@@ -14,7 +14,7 @@ use Rattle.codec.proofs.examine.field_syndromes.Tie as tie
 
 abbrev Inv-loop : tie.InvT-loop
 Inv-loop shape field syndromes₀ placement counts₀ i₀ syndromes counts i =
-    (i ≤ length field) × HoldsSizes (classAt shape) counts i × HoldsSyndromes (classAt shape) (fieldOf field) syndromes i
+    (i ≤ length field) × HoldsSizes (layoutOf shape) counts i × HoldsSyndromes (layoutOf shape) (fieldOf field) syndromes i
 
 abbrev μ-loop : tie.MeasureT-loop
 μ-loop shape field syndromes₀ placement counts₀ i₀ syndromes counts i = length field - i

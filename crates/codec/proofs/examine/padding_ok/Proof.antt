@@ -5,11 +5,12 @@ use native.Mathlib.Omega.{arith}
 use lib.ListN.{length}
 use borrow.Author.Tests.{not-true, not-false}
 use mir.Facts.{fits-lt, fits-lit}
-use Rattle.lattice.specs.Shape.{cellsOf}
-use Rattle.lattice.specs.Class.{classAt}
+use Rattle.lattice.specs.Class.{layoutOf}
 use Rattle.lattice.specs.Position.{holdsData}
+use Rattle.lattice.specs.Shape.{maxCells}
 use Rattle.codec.specs.Decode.{correctedField}
 use Rattle.codec.specs.Working.{HoldsSizes, rankAt}
+use Rattle.codec.specs.Field.{fieldOf}
 use Rattle.codec.proofs.StepData.{data-is, rank-none, rank-more, rank-limit}
 use Rattle.codec.proofs.StepCorrected.{mended-is}
 use Rattle.codec.proofs.StepPadding.{right, right-is, bits-given, padding-passes, padding-fails}
@@ -20,24 +21,24 @@ use Rattle.codec.proofs.examine.padding_ok.Tie as tie
 
 abbrev Inv-loop : tie.InvT-loop
 Inv-loop shape field sizes syndromes placement bits counts₀ rank₀ i₀ counts rank i =
-    (i ≤ length field) × HoldsSizes (classAt shape) counts i × (rank ≡ rankAt shape i)
-    × Passed (right shape (correctedField shape field)) i
+    (i ≤ length field) × HoldsSizes (layoutOf shape) counts i × (rank ≡ rankAt shape i)
+    × Passed (right shape (correctedField shape (fieldOf field))) i
 
 abbrev μ-loop : tie.MeasureT-loop
 μ-loop shape field sizes syndromes placement bits counts₀ rank₀ i₀ counts rank i = length field - i
 
-limit : (c : tie.In-loop Inv-loop μ-loop) → c .before .loop .i < 65536
+limit : (c : tie.In-loop Inv-loop μ-loop) → c .before .loop .i < maxCells
 limit c = cell-limit _ _ (c .before .before .before .before .before .pre .0 .long) _ (c .loop-test .taken) (c .before .before .before .before .before .pre .0 .accepted)
 
 -- the cell of a turn holds no check
 held : (c : tie.After-holds-data Inv-loop μ-loop)
     → c .holds-data .result
-    ≡ holdsData (classAt (c .before .before .before .before .before .before .before .before .args .shape)) (cellsOf (c .before .before .before .before .before .before .before .before .args .shape)) (c .before .before .before .before .loop .i)
+    ≡ holdsData (layoutOf (c .before .before .before .before .before .before .before .before .args .shape)) (c .before .before .before .before .loop .i)
 held c = data-is _ _ (c .before .before .before .before .before .before .before .before .pre .1 .sized) _ _ _ _ (c .before .place-of .ensures) _ (c .holds-data .ensures)
 
 -- the test of a turn
 tested : (c : tie.After-is-right Inv-loop μ-loop)
-    → c .is-right .result ≡ right (c .before .before .before .before .before .before .before .before .before .before .before .args .shape) (correctedField (c .before .before .before .before .before .before .before .before .before .before .before .args .shape) (c .before .before .before .before .before .before .before .before .before .before .before .args .field .now)) (c .before .before .before .before .before .before .before .loop .i)
+    → c .is-right .result ≡ right (c .before .before .before .before .before .before .before .before .before .before .before .args .shape) (correctedField (c .before .before .before .before .before .before .before .before .before .before .before .args .shape) (fieldOf (c .before .before .before .before .before .before .before .before .before .before .before .args .field .now))) (c .before .before .before .before .before .before .before .loop .i)
 tested c =
     right-is
     _ _ _ _ _ _ _ _

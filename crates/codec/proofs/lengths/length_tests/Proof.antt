@@ -6,7 +6,7 @@ use borrow.Author.Needs.{needs}
 use lib.ListN.{length}
 use Rattle.lattice.specs.declared.refusal.Refusal.the-variants as why
 use Rattle.lattice.specs.Shape.{Accepted, cellsOf}
-use Rattle.lattice.specs.Class.{classAt}
+use Rattle.lattice.specs.Class.{layoutOf}
 use Rattle.lattice.proofs.Answers.{told, told-none, some-number, other-reason, passed-reason, length-outside}
 use Rattle.lattice.proofs.Limits.{number-other}
 use Rattle.codec.specs.Plan.{planBytes}
@@ -22,7 +22,7 @@ module _ (c : tie.After-class-sizes) where
   accepted : Accepted (c .before .before .before .before .before .before .before .args .shape)
   accepted = let e = c .before .before in told-none (e .before .before .tests .ensures) (e .enum-told .given .1)
 
-  sized : HoldsSizes (classAt (c .before .before .before .before .before .before .before .args .shape)) (c .class-sizes .last .1 .0) (cellsOf (c .before .before .before .before .before .before .before .args .shape))
+  sized : HoldsSizes (layoutOf (c .before .before .before .before .before .before .before .args .shape)) (c .class-sizes .last .1 .0) (cellsOf (c .before .before .before .before .before .before .before .args .shape))
   sized = sizes-given _ _ _ accepted (c .class-sizes .ensures)
 
 planned : (c : tie.After-data-in) → c .data-in .result / 8 ≡ planBytes (c .before .before .before .before .before .before .before .before .before .args .shape)

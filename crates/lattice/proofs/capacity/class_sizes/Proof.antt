@@ -6,9 +6,9 @@ use native.Mathlib.Omega.{arith}
 use borrow.Author.Needs.{needs}
 use lib.Dec.{lit<}
 use mir.Facts.{fits-lt, fits-lit}
-use Rattle.lattice.specs.Shape.{Accepted}
-use Rattle.lattice.specs.Class.{classAt}
-use Rattle.lattice.specs.Position.{size}
+use Rattle.lattice.specs.Shape.{maxCells, maxClasses, Accepted}
+use Rattle.lattice.specs.Class.{classAt, layoutOf}
+use Rattle.lattice.specs.Position.{sizeTo}
 use Rattle.lattice.proofs.Answers.{refused, done, told, told-none}
 use Rattle.lattice.proofs.ClassAt.{at-cells, at-limit, at-class, at-below}
 use Rattle.lattice.proofs.Sizes.{Sizes, sizes-none, sizes-more, sizes-most}
@@ -16,7 +16,7 @@ use Rattle.lattice.proofs.capacity.class_sizes.Statement.{statement}
 use Rattle.lattice.proofs.capacity.class_sizes.Tie as tie
 
 abbrev Inv-loop : tie.InvT-loop
-Inv-loop shape sizes₀ placement cells i₀ sizes i = (i ≤ cells) × Sizes (classAt shape) sizes i
+Inv-loop shape sizes₀ placement cells i₀ sizes i = (i ≤ cells) × Sizes (layoutOf shape) sizes i
 
 abbrev μ-loop : tie.MeasureT-loop
 μ-loop shape sizes₀ placement cells i₀ sizes i = cells - i
@@ -26,7 +26,7 @@ accepted : (c : tie.After-cells Inv-loop μ-loop) → Accepted (c .before .befor
 accepted c =
     let e = c .before .before .before .before in told-none (e .before .before .tests .ensures) (e .enum-told2 .given .1)
 
-limit : (c : tie.In-loop Inv-loop μ-loop) → c .before .loop .i < 65536
+limit : (c : tie.In-loop Inv-loop μ-loop) → c .before .loop .i < maxCells
 limit c =
     let e = c .before .before in
     at-limit _ (accepted e) _ _ (e .cells .ensures) (c .loop-test .taken)
@@ -37,7 +37,7 @@ class-is c =
     let e = c .before .before .before .before in
     at-class _ (accepted e) _ (e .before .placement .ensures) _ _ (c .class-at .ensures)
 
-class-below : (c : tie.After-class-at Inv-loop μ-loop) → c .class-at .result < 512
+class-below : (c : tie.After-class-at Inv-loop μ-loop) → c .class-at .result < maxClasses
 class-below c =
     let e = c .before .before .before .before in
     at-below _ (accepted e) _ (e .before .placement .ensures) _ _ (c .class-at .ensures)
@@ -65,7 +65,7 @@ cells-requires : tie.Need-cells-requires Inv-loop μ-loop
 cells-requires c κs = tt
 
 loop-holds : tie.Need-loop-holds Inv-loop μ-loop
-loop-holds c = (zero-le, sizes-none (classAt (c .before .before .before .before .before .before .before .args .shape)) (c .before .before .clear .last .0) (c .before .before .clear .ensures))
+loop-holds c = (zero-le, sizes-none (layoutOf (c .before .before .before .before .before .before .before .args .shape)) (c .before .before .clear .last .0) (c .before .before .clear .ensures))
 
 cast-class-at : tie.Need-cast-class-at Inv-loop μ-loop
 cast-class-at c = fits-lt (limit (c .before)) (fits-lit tt)
@@ -93,7 +93,7 @@ loop-again : tie.Need-loop-again Inv-loop μ-loop
 loop-again c = (
   omega arith,
   sizes-more
-      (classAt (c .before .before .before .before .before .before .before .before .before .before .before .before .args .shape))
+      (layoutOf (c .before .before .before .before .before .before .before .before .before .before .before .before .args .shape))
       (c .before .before .before .before .loop .sizes)
       (c .count-one .last .0)
       (c .before .before .before .before .loop .i)
@@ -110,7 +110,7 @@ returns-2 c a l =
     let n : c .before .loop .i ≡ e .cells .result = omega arith in
     done _ _ _ _ (accepted e)
     (c .before .loop .inv .1 a l
-    ∙ ap (size _ a) (n ∙ at-cells _ (accepted e) _ (e .cells .ensures)))
+    ∙ ap (sizeTo _ a) (n ∙ at-cells _ (accepted e) _ (e .cells .ensures)))
 
 pub class-sizes-spec : {M : Type 1} → statement M
 class-sizes-spec =

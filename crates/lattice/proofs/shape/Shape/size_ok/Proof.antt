@@ -48,18 +48,18 @@ returns-3 c =
 mul-result : tie.Need-mul-result
 mul-result c =
     fits-below
-    {n = 256 * 256}
+    {n = maxSide * maxSide}
     tt
-    (mul-le-mul (range-high 1 256 _ (columns (c .before .before .before .before))) (range-high 1 256 _ (rows (c .before .before))))
+    (mul-le-mul (range-high 1 maxSide _ (columns (c .before .before .before .before))) (range-high 1 maxSide _ (rows (c .before .before))))
 
 mul-result-2 : tie.Need-mul-result-2
 mul-result-2 c =
     fits-below
-    {n = 256 * 256 * 16}
+    {n = maxSide * maxSide * maxPlanes}
     tt
     (mul-le-mul
-    (mul-le-mul (range-high 1 256 _ (columns (c .before .before .before .before))) (range-high 1 256 _ (rows (c .before .before))))
-    (range-high 1 16 _ (planes c)))
+    (mul-le-mul (range-high 1 maxSide _ (columns (c .before .before .before .before))) (range-high 1 maxSide _ (rows (c .before .before))))
+    (range-high 1 maxPlanes _ (planes c)))
 
 returns-4 : tie.Need-returns-4
 returns-4 c =
