@@ -17,7 +17,10 @@ pub mod FieldLists
 pub mod FieldMeaning
 pub mod HeldByte
 pub mod HeldPayload
+pub mod LineTaken
+pub mod LinesTaken
 pub mod NothingToCorrect
+pub mod OneClass
 pub mod OneCodeword
 pub mod PaddingCells
 pub mod PaddingFew

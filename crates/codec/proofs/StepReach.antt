@@ -7,12 +7,10 @@ use native.Mathlib.Nat.{lt-of-lt-of-le}
 use lib.Dec.{leb}
 use lib.ListN.{getD}
 use Rattle.lattice.specs.declared.shape.Shape.{Shape}
-use Rattle.lattice.specs.Refusal.{figure}
-use Rattle.lattice.specs.Shape.{shapeNumber, Accepted}
+use Rattle.lattice.specs.Shape.{Accepted}
 use Rattle.lattice.specs.Class.{classesOf, layoutOf}
 use Rattle.lattice.specs.Position.{allBelow}
 use Rattle.lattice.proofs.ClassBelow.{classes-limit}
-use Rattle.lattice.proofs.Answers.{beside-zero}
 use Rattle.codec.specs.Field.{fieldOf}
 use Rattle.codec.specs.Hamming.{inReach, allInReach}
 use Rattle.codec.specs.Working.{Examined}
@@ -25,12 +23,12 @@ abbrev pub reaches : List ℕ → List ℕ → ℕ → Bool
 reaches sizes syndromes a = leb (getD syndromes a 0) (getD sizes a 0)
 
 pub all-reach : (s : Shape) (field sizes syndromes : List ℕ) (m : ℕ) (b : Bool) → Accepted s → Examined s field sizes syndromes
-    → m ≡ figure (shapeNumber s) (classesOf s) → b ≡ allBelow (reaches sizes syndromes) m
+    → m ≡ classesOf s → b ≡ allBelow (reaches sizes syndromes) m
     → b ≡ fieldInReach s (fieldOf field)
 unfolding allInReach
 all-reach s field sizes syndromes m b a x e p =
     p
-    ∙ ap (allBelow (reaches sizes syndromes)) (e ∙ beside-zero (shapeNumber s) (classesOf s) 0 a)
+    ∙ ap (allBelow (reaches sizes syndromes)) e
     ∙ all-same
     (reaches sizes syndromes)
     (inReach (layoutOf s) (tagsAt s) (fieldOf field))

@@ -10,6 +10,7 @@ pub mod Decode
 pub mod Correct
 pub mod Answer
 pub mod Working
+pub mod Lines
 pub mod Refused
 pub mod Writing
 pub mod Reading

@@ -10,14 +10,14 @@ ghost use Rattle.lattice.specs.Position.{allBelow};
 ghost use Rattle.codec.specs.Field.{fieldOf, cellsOk};
 ghost use Rattle.codec.specs.Payload.{paddingOk};
 ghost use Rattle.codec.specs.Decode.{correctedField, fieldNumber};
-ghost use Rattle.codec.specs.Working.{HoldsZeros, HoldsSizes, HoldsSyndromes, FieldFits, Examined, rightAt};
+ghost use Rattle.codec.specs.Working.{HoldsZeros, HoldsSizes, FieldFits, Examined, rightAt};
 use crate::cell::is_received;
+use crate::syndromes::field_syndromes;
 use crate::walk::corrected_value;
 use crate::walk::count_if;
 use crate::walk::holds_data;
 use crate::walk::padding_value;
 use crate::walk::place_of;
-use crate::walk::take_in;
 use lattice::capacity::data_in;
 use lattice::refusal::Refusal;
 use lattice::refusal::Tested;
@@ -35,22 +35,6 @@ fn cells_ok(field: &[u8]) -> bool
         i += 1;
     }
     true
-}
-
-// The syndrome of each class.
-fn field_syndromes(shape: Shape, field: &[u8], syndromes: &mut [u32; Shape::MAX_CLASSES])
-    requires { ⌜ FieldFits shape (now field) ⌝ }
-    requires { ⌜ HoldsZeros (now syndromes) ⌝ }
-    ensures { λ _. ⌜ HoldsSyndromes (layoutOf shape) (fieldOf (now (field .entry))) (now (syndromes .exit)) (cellsOf shape) ⌝ }
-{
-    let placement = shape.placement();
-    let mut counts = [0u32; Shape::MAX_CLASSES];
-    let mut i = 0;
-    while i < field.len() {
-        let place = place_of(&mut counts, shape, placement, i as u32);
-        take_in(syndromes, place, field[i]);
-        i += 1;
-    }
 }
 
 // Is a codeword in reach of each class below m: is no syndrome above the class's size?
@@ -118,8 +102,8 @@ fn padding_ok(
     true
 }
 
-// The field's own tests in their order, 5, 6, 7, where `sizes` holds the size of each class; the syndromes of the classes are
-// stored.
+// The field's own tests in their order, 5, 6, 7, where `sizes` holds the size of each class; where they pass, the syndromes of
+// the classes are stored.
 pub(crate) fn examine(
     shape: Shape,
     field: &[u8],
@@ -130,13 +114,14 @@ pub(crate) fn examine(
     requires { ⌜ HoldsSizes (layoutOf shape) (now sizes) (cellsOf shape) ⌝ }
     requires { ⌜ HoldsZeros (now syndromes) ⌝ }
     ensures { λ r. ⌜ testedNumber r ≡ fieldNumber shape (fieldOf (now (field .entry))) ⌝ }
-    ensures { λ r. ⌜ Examined shape (now (field .entry)) (now (sizes .entry)) (now (syndromes .exit)) ⌝ }
+    ensures { λ r. ⌜ (testedNumber r ≡ 0 → Examined shape (now (field .entry)) (now (sizes .entry)) (now (syndromes .exit))) ⌝ }
 {
-    field_syndromes(shape, field, syndromes);
     if !cells_ok(field) {
         return Tested::Refused(Refusal::BadCell);
     }
-    if !all_in_reach(shape.classes(), sizes, syndromes) {
+    let pass = shape.pass();
+    field_syndromes(pass, field, syndromes);
+    if !all_in_reach(pass.classes, sizes, syndromes) {
         return Tested::Refused(Refusal::OutOfReach);
     }
     if !padding_ok(shape, field, sizes, syndromes) {

@@ -6,4 +6,5 @@ pub mod encode;
 mod examine;
 mod lengths;
 pub mod plan;
+mod syndromes;
 mod walk;

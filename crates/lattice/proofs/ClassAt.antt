@@ -8,10 +8,9 @@ use Rattle.lattice.specs.declared.class.Placement.{Placement}
 use Rattle.lattice.specs.Cell.{Cell, cell, cellAt}
 use Rattle.lattice.specs.Class.{classWith, classOf, classAt, placementOf, classBy}
 use Rattle.lattice.specs.Refusal.{figure}
-use Rattle.lattice.specs.Shape.{maxCells, maxClasses, shapeNumber, Accepted, cellsOf}
+use Rattle.lattice.specs.Shape.{maxClasses, shapeNumber, Accepted, cellsOf}
 use Rattle.lattice.proofs.ClassBelow.{class-below, classes-limit}
 use Rattle.lattice.proofs.Answers.{beside-zero}
-use Rattle.lattice.proofs.Limits.{legal}
 use Rattle.lattice.proofs.SettingsLaws.{given-accepted}
 
 -- the cell with a byte number, from its line: the row and the plane together
@@ -31,12 +30,9 @@ placed s a x = ap (λ (k : Settings). classWith k x) (given-accepted s a)
 
 -- a cell of an accepted shape, and its class by the shape's placement
 module _ (s : Shape) (a : Accepted s) where
-  -- the number of cells that the shape gives is its own, and each cell's is below 65,536
+  -- the number of cells that the shape gives is its own
   pub at-cells : (n : ℕ) → n ≡ figure (shapeNumber s) (cellsOf s) → n ≡ cellsOf s
   at-cells n e = e ∙ beside-zero (shapeNumber s) (cellsOf s) 0 a
-
-  pub at-limit : (n i : ℕ) → n ≡ figure (shapeNumber s) (cellsOf s) → i < n → i < maxCells
-  at-limit n i e l = lt-of-lt-of-le l (rw (at-cells n e) (legal s a .product))
 
   module _ (p : Placement) (g : p ≡ placementOf s) (i r : ℕ) (q : r ≡ classBy p (cellAt s i)) where
     pub at-class : r ≡ classAt s i

@@ -1,5 +1,7 @@
 -- Laws and theorems that belong to no one function.
+pub mod Among
 pub mod Answers
+pub mod AtLine
 pub mod AtStrengthOne
 pub mod BitLength
 pub mod Blocks
@@ -22,16 +24,24 @@ pub mod Distinct
 pub mod Due
 pub mod FlatDistance
 pub mod FlatLattice
+pub mod Heads
 pub mod InField
 pub mod Integers
 pub mod LabelsNeeded
 pub mod Limits
+pub mod LineCounts
+pub mod LineSizes
+pub mod LineSteps
 pub mod NewShapes
 pub mod Numbering
 pub mod OrderLists
 pub mod OrderMembers
+pub mod PassRoom
+pub mod PassSteps
 pub mod Pigeonhole
 pub mod Points
+pub mod PositionParts
+pub mod PositionSteps
 pub mod Positions
 pub mod Powers
 pub mod Refusals
@@ -43,9 +53,12 @@ pub mod ScanMeaning
 pub mod ScanOrder
 pub mod SettingsLaws
 pub mod Sizes
+pub mod SizesByLines
 pub mod Sorted
 pub mod Sphere
 pub mod StackDistance
+pub mod Starts
+pub mod Stores
 pub mod Tables
 pub mod TestAnswer
 pub mod TestExamples

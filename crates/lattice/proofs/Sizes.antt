@@ -6,14 +6,11 @@ use native.Mathlib.Decide.{ℕ-discrete}
 use lib.ListN.{getD}
 use Rattle.lattice.specs.Shape.{maxClasses}
 use Rattle.lattice.specs.Position.{Layout, sizeTo}
-use Rattle.lattice.proofs.Positions.{size-none, size-own, size-other, size-most}
+use Rattle.lattice.proofs.Positions.{size-own, size-other, size-most}
 
 -- each entry is its class's size among the first n cells
 abbrev pub Sizes : Layout → List ℕ → ℕ → Type 0
 Sizes L xs n = (a : ℕ) → a < maxClasses → getD xs a 0 ≡ sizeTo L a n
-
-pub sizes-none : (L : Layout) (xs : List ℕ) → ((a : ℕ) → getD xs a 0 ≡ 0) → Sizes L xs 0
-sizes-none L xs p a l = p a ∙ sym (size-none L a)
 
 -- one cell more adds 1 to the entry of its class
 module _ (L : Layout) (xs ys : List ℕ) (n k : ℕ) (before : Sizes L xs n) (own : k ≡ L .class n) where

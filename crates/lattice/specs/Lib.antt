@@ -13,3 +13,4 @@ pub mod DistanceTest
 pub mod Answer
 pub mod Placing
 pub mod Testing
+pub mod Lines

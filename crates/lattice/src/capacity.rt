@@ -6,7 +6,7 @@ ghost use Rattle.lattice.specs.Refusal.{beside, figure};
 ghost use Rattle.lattice.specs.Shape.{maxClasses, shapeNumber};
 ghost use Rattle.lattice.specs.Class.{layoutOf};
 ghost use Rattle.lattice.specs.Position.{size, checks, dataCells, capacity, dataIn};
-use crate::class::class_at;
+use crate::by_lines::sizes_by;
 use crate::refusal::Tested;
 use crate::shape::Shape;
 
@@ -35,16 +35,6 @@ fn clear(sizes: &mut [u32])
     }
 }
 
-// Adds 1 to entry a, and leaves the others.
-fn count_one(sizes: &mut [u32], a: usize)
-    requires { ⌜ a < length (now sizes) ⌝ }
-    requires { ⌜ getD (now sizes) a 0 < 4294967295 ⌝ }
-    ensures { λ r. ⌜ getD (now (sizes .exit)) a 0 ≡ getD (now (sizes .entry)) a 0 + 1 ⌝ }
-    ensures others { λ r. ⌜ ((b : ℕ) → (b ≡ a → ⊥) → getD (now (sizes .exit)) b 0 ≡ getD (now (sizes .entry)) b 0) ⌝ }
-{
-    sizes[a] += 1;
-}
-
 // The size of each class; for a shape that the constructor refuses the array keeps its entries.
 pub fn class_sizes(shape: Shape, sizes: &mut [u32; Shape::MAX_CLASSES])
     ensures { λ r. ⌜ ((a : ℕ) → a < maxClasses → getD (now (sizes .exit)) a 0 ≡ beside (shapeNumber shape) (size (layoutOf shape) a) (getD (now (sizes .entry)) a 0)) ⌝ }
@@ -54,13 +44,7 @@ pub fn class_sizes(shape: Shape, sizes: &mut [u32; Shape::MAX_CLASSES])
         return;
     }
     clear(sizes);
-    let placement = shape.placement();
-    let cells = shape.cells();
-    let mut i = 0;
-    while i < cells {
-        count_one(sizes, class_at(shape, placement, i as u32));
-        i += 1;
-    }
+    sizes_by(shape.pass(), sizes);
 }
 
 // The number of cells that hold no check, where `sizes` holds the size of each class.

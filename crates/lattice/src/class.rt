@@ -64,7 +64,7 @@ fn remainder(a: u32, b: u32) -> u32
 }
 
 // (a − z) mod m, from 0 to m − 1 also where z is above a.
-fn minus_mod(a: usize, z: usize, m: usize) -> usize
+pub(crate) fn minus_mod(a: usize, z: usize, m: usize) -> usize
     requires { ⌜ (0 < m) × (m < 65536) × (a < 1152921504606846976) × (z < 1152921504606846976) ⌝ }
     ensures { λ r. ⌜ r ≡ minusMod a z m ⌝ }
 {

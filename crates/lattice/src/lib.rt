@@ -1,7 +1,10 @@
 // Placing: the shape of a field, the interleaving class of a cell, the capacity, and the distance test.
+mod by_lines;
 pub mod capacity;
 pub mod class;
 pub mod distance;
+pub mod line;
+pub mod line_positions;
 pub mod refusal;
 pub mod settings;
 pub mod shape;

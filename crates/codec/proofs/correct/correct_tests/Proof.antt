@@ -60,7 +60,7 @@ returns-3 : tie.Need-returns-3
 returns-3 c =
     let f = fits (c .before .before .before .before .before) in (
       c .examine .ensures .0 ∙ sym (correct-number _ (f .accepted) _ (f .long)),
-      (other-reason (c .examine .ensures .0) why.OutsideShape (field-other _ _), λ z. c .examine .ensures .1 .held),
+      (other-reason (c .examine .ensures .0) why.OutsideShape (field-other _ _), λ z. c .examine .ensures .1 z .held),
     )
 
 pub correct-tests-spec : {M : Type 1} → statement M

@@ -44,7 +44,7 @@ examine-requires c κs =
 returns-2 : tie.Need-returns-2
 returns-2 c = (
   c .examine .ensures .0 ∙ sym (none-earlier _ _ (none (c .before .before .before))) ∙ decode-tests _ _ _,
-  (other-reason (c .examine .ensures .0) why.OutsideShape (field-other _ _), λ z. c .examine .ensures .1),
+  (other-reason (c .examine .ensures .0) why.OutsideShape (field-other _ _), c .examine .ensures .1),
 )
 
 pub decode-tests-spec : {M : Type 1} → statement M

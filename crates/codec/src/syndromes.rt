@@ -1,0 +1,121 @@
+// The syndromes of the classes of a field, line by line.
+ghost use mathlib.Core.Path.{_≡_};
+ghost use Prim.Native.Nat.{ℕ, _+_, _*_, _<_, _≤_};
+ghost use lib.ListN.{length, getD};
+ghost use Rattle.lattice.specs.declared.shape.Shape.{Shape};
+ghost use Rattle.lattice.specs.Shape.{maxCells, maxClasses, Accepted, cellsOf};
+ghost use Rattle.lattice.specs.Class.{classesOf, layoutOf};
+ghost use Rattle.lattice.specs.Position.{Layout};
+ghost use Rattle.lattice.specs.Lines.{passOf, OfShape, AtLine, Ready};
+ghost use Rattle.codec.specs.Field.{fieldOf, Cells};
+ghost use Rattle.codec.specs.Working.{HoldsZeros, HoldsSyndromes};
+ghost use Rattle.codec.specs.Lines.{LineTaken, Taken, folded};
+use crate::cell::cell_at;
+use lattice::line::Line;
+use lattice::line::Pass;
+use lattice::line::next_place;
+use lattice::line_positions::first_line;
+use lattice::line_positions::next_positions;
+
+// Takes in the line of w cells that begins at cell n, from the place `start` on.
+fn take_line(t: &mut [u16], e: &[u16], field: &[u8], start: usize, n: usize, w: usize)
+    requires { ⌜ (start + w ≤ length (now t)) × (start + w ≤ length (now e)) × (n + w ≤ length (now field)) ⌝ }
+    requires { ⌜ Cells (fieldOf (now field)) (length (now field)) ⌝ }
+    ensures { λ _. ⌜ LineTaken (fieldOf (now (field .entry))) start n w (now (e .entry)) (now (t .entry)) (now (t .exit)) ⌝ }
+{
+    let mut x = 0;
+    while x < w {
+        t[start + x] = t[start + x] ^ (e[start + x] * cell_at(field, n + x) as u16);
+        x += 1;
+    }
+}
+
+// Takes in every line, from the first. At entry t is 0.
+fn take_lines(
+    pass: Pass,
+    first: Line,
+    field: &[u8],
+    e: &mut [u16],
+    p: &[u16],
+    q: &[u16],
+    t: &mut [u16],
+)
+    requires { ⌜ OfShape pass × (2 ≤ pass .classes) × (length (now field) ≡ pass .cells) × (length (now t) ≡ length (now e)) ⌝ }
+    requires { ⌜ Cells (fieldOf (now field)) (length (now field)) ⌝ }
+    requires { ⌜ Ready pass (length (now e)) (now p) (now q) ⌝ }
+    requires { ⌜ ((s : Shape) → Accepted s → pass ≡ passOf s → AtLine s 0 first (now e)) ⌝ }
+    requires { ⌜ ((y : ℕ) → getD (now t) y 0 ≡ 0) ⌝ }
+    ensures { λ _. ⌜ ((s : Shape) → Accepted s → pass ≡ passOf s → Taken (layoutOf s) (classesOf s) (fieldOf (now (field .entry))) (now (t .exit)) (cellsOf s)) ⌝ }
+{
+    let mut line = first;
+    let mut n = 0;
+    let mut l = 0;
+    while l < pass.lines {
+        take_line(t, e, field, line.start, n, pass.columns);
+        line = next_positions(pass, line, e, p, q);
+        n += pass.columns;
+        l += 1;
+    }
+}
+
+// The exclusive or of the entries of each remainder; the array is 0 at entry.
+fn fold(t: &[u16], m: usize, syndromes: &mut [u32])
+    requires { ⌜ (0 < m) × (m ≤ maxClasses) × (m ≤ length (now syndromes)) ⌝ }
+    requires { ⌜ ((a : ℕ) → a < m → getD (now syndromes) a 0 ≡ 0) ⌝ }
+    ensures { λ _. ⌜ ((a : ℕ) → a < m → getD (now (syndromes .exit)) a 0 ≡ folded m a (length (now (t .entry))) (now (t .entry))) ⌝ }
+    ensures { λ _. ⌜ ((a : ℕ) → m ≤ a → getD (now (syndromes .exit)) a 0 ≡ getD (now (syndromes .entry)) a 0) ⌝ }
+{
+    let mut a = 0;
+    let mut y = 0;
+    while y < t.len() {
+        syndromes[a] = syndromes[a] ^ t[y] as u32;
+        a = next_place(a, m);
+        y += 1;
+    }
+}
+
+// The syndromes of two classes or more, by the lists of a pass; the array is 0 at entry.
+fn line_syndromes(pass: Pass, field: &[u8], syndromes: &mut [u32])
+    requires { ⌜ OfShape pass × (2 ≤ pass .classes) × (length (now field) ≡ pass .cells) × (maxClasses ≤ length (now syndromes)) ⌝ }
+    requires { ⌜ Cells (fieldOf (now field)) (length (now field)) ⌝ }
+    requires { ⌜ HoldsZeros (now syndromes) ⌝ }
+    ensures { λ _. ⌜ ((s : Shape) → Accepted s → pass ≡ passOf s → HoldsSyndromes (layoutOf s) (fieldOf (now (field .entry))) (now (syndromes .exit)) (cellsOf s)) ⌝ }
+{
+    let mut e = [0u16; 768];
+    let mut p = [0u16; 1280];
+    let mut q = [0u16; 1280];
+    let first = first_line(pass, &mut e, &mut p, &mut q);
+    let mut t = [0u16; 768];
+    take_lines(pass, first, field, &mut e, &p, &q, &mut t);
+    fold(&t, pass.classes, syndromes);
+}
+
+// The syndrome of the one class of n cells, where the position of cell i is i + 1; the array is 0 at entry.
+fn one_syndrome(n: usize, field: &[u8], syndromes: &mut [u32])
+    requires { ⌜ (n ≤ length (now field)) × (n ≤ maxCells) × (0 < length (now syndromes)) ⌝ }
+    requires { ⌜ Cells (fieldOf (now field)) n ⌝ }
+    requires { ⌜ HoldsZeros (now syndromes) ⌝ }
+    ensures { λ _. ⌜ ((L : Layout) → ((i : ℕ) → i < n → L .class i ≡ 0) → HoldsSyndromes L (fieldOf (now (field .entry))) (now (syndromes .exit)) n) ⌝ }
+{
+    let mut sum: u32 = 0;
+    let mut i = 0;
+    while i < n {
+        sum = sum ^ ((i as u32 + 1) * cell_at(field, i) as u32);
+        i += 1;
+    }
+    syndromes[0] = sum;
+}
+
+// The syndrome of each class of a field; the array is 0 at entry.
+pub(crate) fn field_syndromes(pass: Pass, field: &[u8], syndromes: &mut [u32])
+    requires { ⌜ OfShape pass × (length (now field) ≡ pass .cells) × (maxClasses ≤ length (now syndromes)) ⌝ }
+    requires { ⌜ Cells (fieldOf (now field)) (length (now field)) ⌝ }
+    requires { ⌜ HoldsZeros (now syndromes) ⌝ }
+    ensures { λ _. ⌜ ((s : Shape) → Accepted s → pass ≡ passOf s → HoldsSyndromes (layoutOf s) (fieldOf (now (field .entry))) (now (syndromes .exit)) (cellsOf s)) ⌝ }
+{
+    if pass.classes == 1 {
+        one_syndrome(pass.cells, field, syndromes);
+    } else {
+        line_syndromes(pass, field, syndromes);
+    }
+}

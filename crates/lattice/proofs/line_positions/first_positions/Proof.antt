@@ -1,0 +1,32 @@
+-- `first_positions` meets its contract.
+use native.Mathlib.Omega.{arith}
+use Rattle.lattice.proofs.PositionParts.{bit-most, filled-first, repeats-less}
+use borrow.Author.Needs.{needs}
+use Rattle.lattice.proofs.line_positions.first_positions.Statement.{statement}
+use Rattle.lattice.proofs.line_positions.first_positions.Tie as tie
+
+fill-low-requires : tie.Need-fill-low-requires
+fill-low-requires c κs = search needs
+
+repeat-requires : tie.Need-repeat-requires
+repeat-requires c κs = (
+  (omega arith, omega arith, omega arith, omega arith),
+  λ z l. omega (arith, c .before .before .before .fill-low .ensures z l, bit-most z 0),
+)
+
+same-length : tie.Need-same-length
+same-length c = search needs
+
+returns : tie.Need-returns
+returns c =
+    filled-first
+    _ _
+    (omega arith)
+    (c .before .before .before .before .before .before .fill-low .last .0)
+    (c .before .before .repeat .last .0)
+    (c .before .before .repeat .ensures .0)
+    (c .before .before .before .before .before .before .fill-low .ensures)
+    (repeats-less _ _ _ _ (c .before .before .repeat .last .0) (omega arith) (c .before .before .repeat .ensures .1))
+
+pub first-positions-spec : {M : Type 1} → statement M
+first-positions-spec = tie.close (tie.spec fill-low-requires repeat-requires same-length returns)

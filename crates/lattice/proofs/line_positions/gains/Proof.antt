@@ -1,0 +1,58 @@
+-- `gains` meets its contract.
+use Prim.Native.Nat.{_-_, _%_}
+use native.Mathlib.Omega.{arith}
+use Rattle.lattice.proofs.PositionParts.{bit-most, filled-gains, quotient-most, repeats-less}
+use borrow.Author.Needs.{needs}
+use Rattle.lattice.proofs.line_positions.gains.Statement.{statement}
+use Rattle.lattice.proofs.line_positions.gains.Tie as tie
+
+rem-fill-low : tie.Need-rem-fill-low
+rem-fill-low c = search needs
+
+div-fill-low : tie.Need-div-fill-low
+div-fill-low c = search needs
+
+cast-fill-low : tie.Need-cast-fill-low
+cast-fill-low c = omega (arith, quotient-most (c .before .before .args .n) (c .before .before .args .m))
+
+fill-low-requires : tie.Need-fill-low-requires
+fill-low-requires c κs = (omega arith, omega (arith, quotient-most (c .before .before .args .n) (c .before .before .args .m)))
+
+repeat-requires : tie.Need-repeat-requires
+repeat-requires c κs = (
+  (omega arith, omega arith, omega arith, omega arith),
+  λ z l. omega (
+    arith,
+    c .before .before .before .fill-low .ensures z l,
+    bit-most z
+        (c .before .before .before .before .before .before .args .n % c .before .before .before .before .before .before .args .m),
+    quotient-most (c .before .before .before .before .before .before .args .n) (c .before .before .before .before .before .before .args .m),
+  ),
+)
+
+same-length : tie.Need-same-length
+same-length c = search needs
+
+returns : tie.Need-returns
+returns c =
+    filled-gains
+    _ _
+    (omega arith)
+    (c .before .before .before .before .before .before .fill-low .last .0)
+    (c .before .before .repeat .last .0)
+    (c .before .before .repeat .ensures .0)
+    (c .before .before .before .before .before .before .before .before .before .args .n)
+    (c .before .before .before .before .before .before .fill-low .ensures)
+    (repeats-less _ _ _ _ (c .before .before .repeat .last .0) (omega arith) (c .before .before .repeat .ensures .1))
+
+pub gains-spec : {M : Type 1} → statement M
+gains-spec =
+    tie.close
+    (tie.spec
+    rem-fill-low
+    div-fill-low
+    cast-fill-low
+    fill-low-requires
+    repeat-requires
+    same-length
+    returns)
