@@ -18,7 +18,7 @@ use Rattle.lattice.proofs.ClassAt.{at-cells}
 use Rattle.lattice.proofs.NewShapes.{new-accepted, new-shape}
 use Rattle.codec.specs.Payload.{Bytes}
 use Rattle.codec.specs.Plan.{planClasses, planCapacity, planBytes}
-use Rattle.codec.specs.Encode.{encodedField, encodeLeaves}
+use Rattle.codec.specs.Encode.{encodeNumber, encodedField, encodeLeaves}
 use Rattle.codec.specs.Decode.{decodeNumber, decodeCount, decodeLeaves}
 use Rattle.codec.proofs.Accepted.{encode-number}
 use Rattle.codec.proofs.FieldLists.{length-listOf}
@@ -26,12 +26,13 @@ use Rattle.card.specs.declared.header.Header.{Header}
 use Rattle.card.specs.Text.{numberLine, headerText, payloadText, fieldText, refusalText, classesKey, mendedKey}
 use Rattle.card.specs.Card.{maxCardCells, maxCardBytes, shapeOf, FieldCells}
 use Rattle.card.specs.Parse.{rowsOk, cellsAt}
-use Rattle.card.specs.Program.{blankPayload, rowsFit, cellsIn, writtenText, readText}
-use Rattle.card.specs.Working.{CardShape, headText, decodedText}
+use Rattle.card.specs.Program.{blankField, blankPayload, rowsFit, cellsIn, writtenText, readText}
+use Rattle.card.specs.Working.{CardShape, headText, encodedText, decodedText}
 use Rattle.card.proofs.CardLimits.{limits, rows-most, bytes-most}
 use Rattle.card.proofs.CardPlan.{leaves-long}
 use Rattle.card.proofs.PrintedIsRead.{written-cells}
-use Rattle.card.proofs.ProgramParts.{blank-payload}
+use Rattle.card.proofs.ProgramParts.{blank-field, blank-payload}
+use Rattle.card.proofs.ProgramRefused.{encoded-long}
 use Rattle.card.proofs.StepRows.{cellByte}
 
 -- the constructor's answer to a header
@@ -75,7 +76,27 @@ module _ (h : Header) (s : Shape) (x : CardShape h s) where
   pub lines-most : s .planes * s .rows ≤ maxPlanes * maxSide
   lines-most = rw (x .shape) (rows-most h (x .card))
 
-  -- encoding leaves the field written
+  -- encoding, into a field of the card's cells
+  module _ (payload field : List ℕ) (cells : length field ≡ cellsOf s) where
+    blank-number : encodeNumber s payload field ≡ encodeNumber (shapeOf h) payload (blankField h)
+    unfolding encodeNumber
+    blank-number =
+        let n : length field ≡ length (blankField h) = cells ∙ ap cellsOf (x .shape) ∙ sym (blank-field h) in
+        rw n (ap (λ (t : Shape). encodeNumber t payload (blankField h)) (x .shape))
+
+    pub encoded-refused : (why : Refusal) → refusalNumber why ≡ encodeNumber s payload field
+        → refusalText (refusalNumber why) ≡ encodedText h payload
+    unfolding encodedText
+    encoded-refused why e = let n = e ∙ blank-number in ap refusalText n ∙ refused why _ _ _ n
+
+    pub encoded-length : 0 ≡ encodeNumber s payload field → length payload ≡ planBytes s
+    encoded-length e = encoded-long h (x .card) payload (sym blank-number ∙ sym e) ∙ ap planBytes (sym (x .shape))
+
+    pub encoded-done : 0 ≡ encodeNumber s payload field → writtenText h payload ≡ encodedText h payload
+    unfolding encodedText
+    encoded-done e = sym (beside-zero (encodeNumber (shapeOf h) payload (blankField h)) _ _ (sym blank-number ∙ sym e))
+
+  -- it leaves the field written
   module _ (payload field last : List ℕ) (long : length payload ≡ planBytes s) (cells : length field ≡ cellsOf s) (leaves : last ≡ encodeLeaves s payload field) where
     pub field-encoded : last ≡ encodedField (shapeOf h) payload
     unfolding encodeLeaves

@@ -12,15 +12,14 @@ use Rattle.lattice.specs.Shape.{shapeNumber, Accepted, cellsOf}
 use Rattle.lattice.proofs.Answers.{some-number, earlier-told}
 use Rattle.codec.specs.Plan.{planBytes}
 use Rattle.codec.specs.Encode.{encodeNumber}
-use Rattle.codec.proofs.Accepted.{encode-number}
 use Rattle.card.specs.declared.header.Header.{Header}
 use Rattle.card.specs.declared.header.HeaderAnswer.the-variants as head
 use Rattle.card.specs.Text.{refusalText}
 use Rattle.card.specs.Card.{maxInput, maxCardCells, shapeOf, CardHeader}
 use Rattle.card.specs.Parse.{headerOf, payloadOk, payloadOf}
-use Rattle.card.specs.Program.{blankField, isPayload, rowsFit, cellsIn, bodyOk, numberAfter, programNumber, writtenText, answer}
-use Rattle.card.specs.Working.{HeaderRead, decodedText}
-use Rattle.card.proofs.ProgramParts.{blank-field, body-payload, operation-payload, success-payload, body-rows, operation-rows, success-rows, answer-refused, number-operation, answer-found}
+use Rattle.card.specs.Program.{isPayload, rowsFit, cellsIn, bodyOk, numberAfter, programNumber, answer}
+use Rattle.card.specs.Working.{HeaderRead, encodedText, decodedText}
+use Rattle.card.proofs.ProgramParts.{body-payload, operation-payload, success-payload, body-rows, operation-rows, success-rows, answer-refused, number-operation}
 
 -- an input that is refused has the refusal's text
 refused : (s : List ℕ) (r : Refusal) → refusalNumber r ≡ programNumber s → refusalText (refusalNumber r) ≡ answer s
@@ -73,11 +72,11 @@ module _ (s : List ℕ) (h : Header) (next : ℕ) (x : HeaderRead s h next) wher
               ne-eqb (length (payloadOf s next)) (planBytes (shapeOf h)) p,
             ))
 
-        pub payload-written : length (payloadOf s next) ≡ planBytes (shapeOf h) → answer s ≡ writtenText h (payloadOf s next)
-        payload-written e =
-            answer-found s h next (x .short) (x .found) card right
-            (operation-payload s h next payload ∙ encode-number (shapeOf h) (card .accepted) (payloadOf s next) (blankField h) e (blank-field h))
-            ∙ success-payload s h next payload
+        pub payload-read : answer s ≡ encodedText h (payloadOf s next)
+        unfolding encodedText answer
+        payload-read =
+            let number = number-operation s h next (x .short) (x .found) card right ∙ operation-payload s h next payload in
+            rw (number, x .found, success-payload s h next payload)
 
     -- rows
     module _ (rows : isPayload s next ≡ false) where

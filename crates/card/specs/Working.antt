@@ -6,13 +6,14 @@ use lib.ListN.{length, take, drop}
 use Rattle.lattice.specs.declared.shape.Shape.{Shape}
 use Rattle.lattice.specs.Refusal.{beside}
 use Rattle.lattice.specs.Shape.{maxSide, maxCells}
+use Rattle.codec.specs.Encode.{encodeNumber}
 use Rattle.codec.specs.Decode.{decodeNumber}
 use Rattle.card.specs.declared.header.Header.{Header}
 use Rattle.card.specs.declared.header.HeaderAnswer.the-variants as head
 use Rattle.card.specs.Text.{numberLine, headerText, refusalText}
 use Rattle.card.specs.Card.{maxInput, shapeOf, CardHeader}
 use Rattle.card.specs.Parse.{headerOf}
-use Rattle.card.specs.Program.{blankPayload, readText, outputLeaves}
+use Rattle.card.specs.Program.{blankField, blankPayload, writtenText, readText, outputLeaves}
 
 -- keys end to end
 abbrev pub joined : List (List ℕ) → List ℕ
@@ -58,6 +59,12 @@ pub record HeaderRead (s : List ℕ) (h : Header) (next : ℕ) : Type 0 where
 pub record BodyRead (s : List ℕ) (h : Header) (next : ℕ) (shape : Shape) : Type 0 where
   pub header : HeaderRead s h next
   pub shaped : CardShape h shape
+
+-- the answer to a payload of these bytes
+unfoldable pub encodedText : Header → List ℕ → List ℕ
+encodedText h p =
+    let number = encodeNumber (shapeOf h) p (blankField h) in
+    beside number (writtenText h p) (refusalText number)
 
 -- the answer to rows of these cells
 unfoldable pub decodedText : Header → List ℕ → List ℕ

@@ -4,11 +4,10 @@ ghost use mathlib.Core.Path.{_≡_};
 ghost use Prim.Native.Nat.{_+_};
 ghost use lib.ListN.{length};
 ghost use Rattle.codec.specs.Payload.{Bytes};
-ghost use Rattle.codec.specs.Plan.{planBytes};
 ghost use Rattle.lattice.specs.Shape.{cellsOf};
 ghost use Rattle.card.specs.Card.{maxInput, maxAnswer};
-ghost use Rattle.card.specs.Program.{isPayload, blankPayload, writtenText, answer, outputLeaves};
-ghost use Rattle.card.specs.Working.{Answered, CardShape, HeaderRead, BodyRead, decodedText};
+ghost use Rattle.card.specs.Program.{isPayload, blankPayload, answer, outputLeaves};
+ghost use Rattle.card.specs.Working.{Answered, CardShape, HeaderRead, BodyRead, encodedText, decodedText};
 use crate::body::fill_cells;
 use crate::body::fill_payload;
 use crate::body::is_payload;
@@ -23,6 +22,7 @@ use crate::reply::reply_field;
 use crate::reply::reply_payload;
 use codec::decode::DecodeAnswer;
 use codec::decode::decode;
+use codec::encode::EncodeAnswer;
 use codec::encode::encode;
 use lattice::refusal::Refusal;
 use lattice::shape::NewShape;
@@ -42,7 +42,7 @@ const MAX_CELLS: usize = 16384;
 
 const MAX_BYTES: usize = 2048;
 
-// Writes a payload of the plan's length, which encoding does not refuse.
+// Writes a payload into a field of the card's cells.
 fn write_card(
     header: Header,
     shape: Shape,
@@ -52,12 +52,13 @@ fn write_card(
 ) -> usize
     requires { ⌜ CardShape header shape ⌝ }
     requires { ⌜ Bytes (now payload) ⌝ }
-    requires { ⌜ length (now payload) ≡ planBytes shape ⌝ }
     requires { ⌜ length (now field) ≡ cellsOf shape ⌝ }
-    ensures { λ r. ⌜ Answered (writtenText header (now (payload .entry))) (now (output .entry)) (now (output .exit)) r ⌝ }
+    ensures { λ r. ⌜ Answered (encodedText header (now (payload .entry))) (now (output .entry)) (now (output .exit)) r ⌝ }
 {
-    encode(shape, payload, field);
-    reply_field(header, shape.classes(), field, output)
+    match encode(shape, payload, field) {
+        EncodeAnswer::Refused(why) => refuse(why, output),
+        EncodeAnswer::Encoded => reply_field(header, shape.classes(), field, output),
+    }
 }
 
 // Reads a field into a payload of the plan's length.
@@ -94,7 +95,7 @@ fn answer_payload(
         return refuse(Refusal::BadForm, output);
     }
     let bytes = payload_bytes(input, next);
-    if bytes != shape.capacity() / 8 {
+    if bytes > MAX_BYTES {
         return refuse(Refusal::PayloadLength, output);
     }
     let cells = shape.cells();

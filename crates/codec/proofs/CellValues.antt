@@ -40,6 +40,15 @@ pub received-digit : (v : ℕ) → isReceived v ≡ true → v ≤ 9
 unfolding isReceived
 received-digit v p = le-trans (cell-most v p) (lit≤ tt)
 
+-- 0 is received, and so is what is below a received value
+pub zero-received : isReceived 0 ≡ true
+unfolding isReceived isCell
+zero-received = refl
+
+pub below-received : (v w : ℕ) → v ≤ w → isReceived w ≡ true → isReceived v ≡ true
+unfolding isReceived
+below-received v w l p = most-cell v (le-trans l (cell-most w p))
+
 cell-values : (v : ℕ) → (isCell v ≡ true) ↔ ((v ≡ 0) ⊎ (v ≡ 1))
 cell-values v = (λ e. small v (cell-most v e), λ h. most-cell v (⊎-elim (λ z. omega arith) (λ o. omega arith) h))
   where

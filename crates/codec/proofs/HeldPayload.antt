@@ -66,6 +66,10 @@ module _ (L : Layout) where
   data-cells : (f : Field) → Cells f (L .cells) → DataCells L f (L .cells)
   data-cells f c i l h = cell-most _ (c i l)
 
+  pub held-bit : (f : Field) → Cells f (L .cells) → (i : ℕ) → i < L .cells → holdsData L i ≡ true
+      → rank L i < 8 * payloadBytes L → payloadBit (heldPayload L f) (rank L i) ≡ f i
+  held-bit f c = bits f (data-cells f c)
+
   pub held-bytes : (f : Field) → Cells f (L .cells) → Bytes (heldPayload L f)
   held-bytes f c = bytes f (data-cells f c)
 

@@ -1,21 +1,22 @@
 -- A pass over the lines of an accepted shape, with each line taken into the syndromes.
-use Prim.Native.Nat.{ℕ, _+_, _*_, _<_, _≤_}
+use Prim.Native.Nat.{ℕ, _+_, _*_, _<_, _≤_, min}
 use mathlib.Core.List.{List}
 use mathlib.Core.Path.{_≡_, sym, ap, subst, _∙_}
 use native.Mathlib.Decide.{decLt}
 use native.Mathlib.Omega.{arith}
-use lib.Dec.{lit≤}
-use lib.ListN.{length, getD}
+use lib.ListN.{length, getD, take, replicate, length-take, length-replicate, List·getD-eq-default}
+use lib.Seq.{getD-take}
 use Rattle.lattice.specs.declared.line.Line.{Line}
 use Rattle.lattice.specs.declared.line.Pass.{Pass}
 use Rattle.lattice.specs.declared.shape.Shape.{Shape}
-use Rattle.lattice.specs.Shape.{maxSide, maxCells, maxClasses, Accepted, cellsOf}
+use Rattle.lattice.specs.Shape.{maxCells, maxClasses, Accepted, cellsOf}
 use Rattle.lattice.specs.Cell.{cellAt}
 use Rattle.lattice.specs.Class.{classesOf, classAt, layoutOf}
 use Rattle.lattice.specs.Lines.{passOf, Room, AtLine}
 use Rattle.lattice.proofs.AtLine.{line-room, at-room}
 use Rattle.lattice.proofs.ClassBelow.{class-below}
 use Rattle.lattice.proofs.Limits.{legal}
+use Rattle.lattice.proofs.LineCounts.{zeros-at}
 use Rattle.lattice.proofs.SizesByLines.{classes-are, columns-are, lines-are, cells-are, most}
 use Rattle.codec.specs.Field.{Field, Cells}
 use Rattle.codec.specs.Hamming.{tagsOf, syndrome}
@@ -24,6 +25,19 @@ use Rattle.codec.specs.Lines.{folded, Taken, LineTaken}
 use Rattle.codec.proofs.CellValues.{cell-most}
 use Rattle.codec.proofs.LineTaken.{line-taken}
 use Rattle.codec.proofs.Syndrome.{syndrome-empty}
+
+-- the front of an array of zeros
+module _ (n N : ℕ) where
+  pub front-length : n ≤ N → n ≡ length (take {A = ℕ} n (replicate N 0))
+  front-length l = sym (length-take n (replicate {A = ℕ} N 0) ∙ ap (min n) (length-replicate {A = ℕ} N 0) ∙ omega arith)
+
+  pub front-zeros : (y : ℕ) → _≡_ {A = ℕ} (getD (take n (replicate N 0)) y 0) 0
+  front-zeros y = go (decLt y n)
+    where
+      go : Dec (y < n) → _≡_ {A = ℕ} (getD (take n (replicate N 0)) y 0) 0
+      go (yes l) = getD-take n (replicate N 0) y 0 l ∙ zeros-at N y
+      go (no l) =
+          List·getD-eq-default (take n (replicate N 0)) 0 (omega (arith, length-take n (replicate {A = ℕ} N 0)))
 
 module _ (s : Shape) (ok : Accepted s) (pass : Pass) (same : pass ≡ passOf s) where
   -- the numbers of the pass are small
@@ -34,17 +48,23 @@ module _ (s : Shape) (ok : Accepted s) (pass : Pass) (same : pass ≡ passOf s) 
   pub pass-alone : pass .classes ≡ 1 → (i : ℕ) → i < pass .cells → classAt s i ≡ 0
   pass-alone one i l = omega (arith, one, classes-are s ok pass same, class-below s ok (cellAt s i))
 
-  -- arrays of 768 and 1,280 entries have room for its lists
-  pub pass-space : Room pass 768 1280 1280
-  pass-space =
-      let high = most s ok pass same in
-      let narrow : pass .columns ≤ maxSide = omega (arith, columns-are s ok pass same, legal s ok .width-high) in
+  -- arrays of 768 and 1,280 entries have room for its lists, which are as long as it needs
+  pub pass-narrow : pass .classes + pass .columns ≤ 768
+  pass-narrow =
+      omega (arith, most s ok pass same, columns-are s ok pass same, legal s ok .width-high)
+
+  pub pass-long : pass .classes + pass .columns + pass .classes ≤ 1280
+  pass-long = omega (arith, pass-narrow, most s ok pass same)
+
+  pub pass-space : (e p q : ℕ) → e ≡ pass .classes + pass .columns → p ≡ pass .classes + pass .columns + pass .classes
+      → q ≡ pass .classes + pass .columns + pass .classes → Room pass e p q
+  pass-space e p q wide row plane =
       record {
-        wide = omega (arith, high, narrow);
-        row-long = omega (arith, high);
-        row-short = lit≤ tt;
-        plane-long = omega (arith, high);
-        plane-short = lit≤ tt;
+        wide = omega arith;
+        row-long = omega arith;
+        row-short = omega (arith, pass-long);
+        plane-long = omega arith;
+        plane-short = omega (arith, pass-long);
       }
 
   -- the entries of each remainder, put together, are the syndromes

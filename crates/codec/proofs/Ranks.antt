@@ -1,11 +1,12 @@
 -- Ranks: the cells that hold no check, numbered 0, 1, .. in byte order, for any layout of cells.
-use Prim.Native.Nat.{ℕ, suc, _+_, _*_, _<_, _≤_}
-use mathlib.Core.Bool.{true, false}
-use mathlib.Core.Path.{_≡_, refl}
+use Prim.Native.Nat.{ℕ, zero, suc, _+_, _-_, _*_, _<_, _≤_}
+use mathlib.Core.Bool.{Bool, true, false, cond}
+use mathlib.Core.Path.{_≡_, refl, ap, ap₂, _∙_}
+use native.Mathlib.Nat.{not-suc-le-zero}
 use native.Mathlib.Numerals.{add-one}
 use native.Mathlib.Omega.{arith}
 use Rattle.lattice.specs.Position.{Layout, holdsData, capacity}
-use Rattle.lattice.proofs.Counting.{count-yes, count-no, count-more, count-reach}
+use Rattle.lattice.proofs.Counting.{count-yes, count-no, count-most, count-more, count-reach}
 use Rattle.codec.specs.Payload.{rank, payloadBytes}
 
 -- eight bits of the capacity make a byte, and fewer than eight are left
@@ -36,6 +37,19 @@ module _ (L : Layout) where
 
   pub rank-check-suc : (i : ℕ) → holdsData L i ≡ false → rank L (suc i) ≡ rank L i
   rank-check-suc i e = rw (← (add-one i)) (rank-check i e)
+
+  -- a cell's rank is at most its number
+  pub rank-most : (i : ℕ) → rank L i ≤ i
+  unfolding rank
+  rank-most i = count-most (holdsData L) i
+
+  -- a cell's rank, from that of the cell before it
+  pub rank-last : (i : ℕ) → 0 < i → (d : Bool) → holdsData L (i - 1) ≡ d → rank L i ≡ cond d 1 0 + rank L (i - 1)
+  unfolding rank
+  rank-last zero l d e = absurd (not-suc-le-zero l)
+  rank-last (suc k) l d e =
+      let before : k ≡ suc k - 1 = omega arith in
+      ap₂ (λ (b : Bool) (n : ℕ). cond b 1 0 + rank L n) (ap (holdsData L) before ∙ e) before
 
   -- a data cell has a rank below that of every later cell
   pub rank-rises : (i j : ℕ) → i < j → holdsData L i ≡ true → rank L i < rank L j

@@ -1,8 +1,8 @@
 -- The number that the field's own tests give in their order.
-use Prim.Native.Nat.{ℕ}
 use mathlib.Core.Bool.{Bool, true, false}
 use mathlib.Core.List.{List}
-use mathlib.Core.Path.{_≡_, ap, _∙_}
+use Prim.Native.Nat.{ℕ}
+use mathlib.Core.Path.{_≡_}
 use native.Mathlib.Omega.{arith}
 use lib.ListN.{length}
 use Rattle.lattice.specs.declared.shape.Shape.{Shape}
@@ -10,17 +10,19 @@ use Rattle.lattice.specs.Refusal.{unless}
 use Rattle.lattice.specs.Shape.{cellsOf}
 use Rattle.lattice.specs.Class.{layoutOf}
 use Rattle.lattice.proofs.Answers.{unless-zero}
-use Rattle.codec.specs.Field.{Field, fieldOf, Received, cellsOk}
+use Rattle.codec.specs.Field.{Field, fieldOf, Cells, Received, cellsOk}
 use Rattle.codec.specs.Payload.{paddingOk}
 use Rattle.codec.specs.Decode.{correctedField, fieldNumber}
 use Rattle.codec.specs.Working.{FieldFits}
 use Rattle.codec.specs.Code.{fieldInReach}
+use Rattle.codec.proofs.CellValues.{received-cells}
 use Rattle.codec.proofs.FieldLists.{ok-received}
 
--- the test of the cells, over a field of the plan's length
-pub cells-tested : (s : Shape) (field : List ℕ) (b : Bool) → FieldFits s field → b ≡ cellsOk (fieldOf field) (length field)
-    → b ≡ cellsOk (fieldOf field) (cellsOf s)
-cells-tested s field b fits e = e ∙ ap (cellsOk (fieldOf field)) (fits .long)
+-- a field of the plan's length that passes the test of the cells has nothing but cells
+pub cells-tested : (s : Shape) (field : List ℕ) → FieldFits s field → cellsOk (fieldOf field) (cellsOf s) ≡ true
+    → Cells (fieldOf field) (length field)
+cells-tested s field fits ok i l =
+    received-cells _ _ (ok-received (fieldOf field) (cellsOf s) ok) i (rw (fits .long) at l)
 
 module _ (s : Shape) (f : Field) where
   pub number-cell : cellsOk f (cellsOf s) ≡ false → 5 ≡ fieldNumber s f
@@ -59,3 +61,9 @@ pub zero-cells : (s : Shape) (f : Field) → fieldNumber s f ≡ 0 → Received 
 unfolding fieldNumber
 zero-cells s f p =
     ok-received f (cellsOf s) (unless-zero (cellsOk f (cellsOf s)) 4 _ p .0)
+
+-- and a codeword is in reach of each class
+pub zero-reach : (s : Shape) (f : Field) → fieldNumber s f ≡ 0 → fieldInReach s f ≡ true
+unfolding fieldNumber
+zero-reach s f p =
+    let cells = unless-zero (cellsOk f (cellsOf s)) 4 _ p in unless-zero (fieldInReach s f) 5 _ (cells .1) .0

@@ -2,15 +2,16 @@
 use Prim.Native.Nat.{ℕ, zero, suc, _+_, _-_, _<_, _≤_}
 use mathlib.Core.List.{List, [], _∷_, _++_, append-assoc, append-nil}
 use mathlib.Core.Path.{_≡_, sym, ap, ap₂, _∙_}
+use native.Mathlib.Decide.{decLt}
 use native.Mathlib.Nat.{add-zero, add-suc, le-of-eq}
 use native.Mathlib.Numerals.{add-one}
 use native.Mathlib.Omega.{arith}
-use lib.ListN.{length, getD, set, take, drop, length-append, length-drop, drop-of-length-le}
-use lib.Seq.{drop-cons, set-at, take-at, drop-at, drop-drop, getD-append-add, getD-drop}
+use lib.ListN.{length, getD, set, take, drop, length-append, length-drop, drop-of-length-le, List·getD-append}
+use lib.Seq.{drop-cons, set-at, take-at, drop-at, drop-drop, getD-append-add, getD-drop, ext-getD}
 use borrow.Rule.Slice.PartAt.{part-to-end}
 use borrow.Rule.Slice.PartMut.{putMid}
 use Rattle.codec.specs.Field.{Field, listOf}
-use Rattle.codec.proofs.FieldLists.{length-listOf}
+use Rattle.codec.proofs.FieldLists.{length-listOf, getD-listOf}
 
 -- one cell more behind those stored
 pub filled-more : (f : Field) (xs : List ℕ) (n v : ℕ) (ys : List ℕ) → n < length xs → v ≡ f n → ys ≡ listOf f n ++ drop n xs
@@ -20,6 +21,28 @@ filled-more f xs n v ys l e p =
     ∙ set-at (listOf f n) (getD xs n 0) (drop (suc n) xs) (f n) n (length-listOf f n)
     ∙ sym (append-assoc (listOf f n) (f n ∷ []) (drop (suc n) xs))
     ∙ ap (λ (m : ℕ). listOf f m ++ drop m xs) (sym (add-one n))
+
+-- a buffer that has the first n cells of a field, and goes on as before
+pub filled-cells : (f : Field) (xs : List ℕ) (n : ℕ) (ys : List ℕ) → length ys ≡ length xs → n ≤ length xs
+    → ((j : ℕ) → j < n → getD ys j 0 ≡ f j) → ((j : ℕ) → n ≤ j → getD ys j 0 ≡ getD xs j 0) → ys ≡ listOf f n ++ drop n xs
+filled-cells f xs n ys long l own others =
+    ext-getD 0 ys (listOf f n ++ drop n xs) (long ∙ sym lengths) (λ j p. at j (decLt j n))
+  where
+    lengths : length (listOf f n ++ drop n xs) ≡ length xs
+    lengths = length-append (listOf f n) (drop n xs) ∙ omega (arith, length-listOf f n, length-drop n xs)
+
+    at : (j : ℕ) → Dec (j < n) → getD ys j 0 ≡ getD (listOf f n ++ drop n xs) j 0
+    at j (yes q) =
+        own j q ∙ sym (List·getD-append (listOf f n) (drop n xs) 0 j (omega (arith, length-listOf f n)) ∙ getD-listOf f n j q)
+    at j (no q) =
+        let there : j ≡ length (listOf f n) + (j - n) = omega (arith, length-listOf f n) in
+        let back : n + (j - n) ≡ j = omega arith in
+        others j (omega arith)
+        ∙ sym
+        (ap (λ (k : ℕ). getD (listOf f n ++ drop n xs) k 0) there
+        ∙ getD-append-add (listOf f n) (drop n xs) (j - n) 0
+        ∙ getD-drop n xs (j - n) 0
+        ∙ ap (λ (k : ℕ). getD xs k 0) back)
 
 -- the next cell is as it was
 pub filled-next : (f : Field) (xs : List ℕ) (n : ℕ) (ys : List ℕ) → ys ≡ listOf f n ++ drop n xs → getD ys n 0 ≡ getD xs n 0

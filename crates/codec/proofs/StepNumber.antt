@@ -10,28 +10,28 @@ use Rattle.lattice.specs.declared.refusal.Refusal.{Refusal}
 use Rattle.lattice.specs.declared.shape.Shape.{Shape}
 use Rattle.lattice.specs.Refusal.{refusalNumber, unless, orElse, figure}
 use Rattle.lattice.specs.Shape.{shapeNumber, Accepted, cellsOf}
-use Rattle.lattice.specs.Class.{layoutOf}
+use Rattle.lattice.specs.Class.{classesOf, layoutOf}
 use Rattle.lattice.specs.Position.{capacity, dataIn}
 use Rattle.lattice.proofs.Answers.{earlier-told, unless-zero, or-else-zero, beside-zero}
 use Rattle.lattice.proofs.CapacityGiven.{capacity-accepted}
-use Rattle.codec.specs.Field.{fieldOf, Received}
+use Rattle.codec.specs.Field.{fieldOf}
 use Rattle.codec.specs.Payload.{payloadBytes}
 use Rattle.codec.specs.Plan.{planCapacity, planBytes, planCells}
 use Rattle.codec.specs.Encode.{encodeNumber}
 use Rattle.codec.specs.Decode.{fieldNumber, decodeNumber}
 use Rattle.codec.specs.Correct.{correctNumber}
-use Rattle.codec.specs.Working.{HoldsSizes, lengthNumber, FieldFits}
+use Rattle.codec.specs.Working.{HoldsSizes, lengthNumber, Mendable}
 use Rattle.codec.proofs.Accepted.{plan-bytes, plan-cells}
-use Rattle.codec.proofs.StepExamine.{zero-cells}
+use Rattle.codec.proofs.StepExamine.{zero-cells, zero-reach}
 
 -- the payload's length that the sizes of the classes give is the plan's
-pub bytes-given : (s : Shape) (sizes : List ℕ) (k : ℕ) → Accepted s → HoldsSizes (layoutOf s) sizes (cellsOf s) → k ≡ dataIn sizes
-    → k / 8 ≡ planBytes s
+pub bytes-given : (s : Shape) (sizes : List ℕ) (k m : ℕ) → Accepted s → HoldsSizes (layoutOf s) sizes (cellsOf s)
+    → m ≡ figure (shapeNumber s) (classesOf s) → k ≡ dataIn sizes m → k / 8 ≡ planBytes s
 unfolding planBytes planCapacity
-bytes-given s sizes k a p e =
+bytes-given s sizes k m a p given e =
     ap
     (λ (n : ℕ). n / 8)
-    (e ∙ capacity-accepted s sizes a (p .at) ∙ sym (beside-zero (shapeNumber s) (capacity (layoutOf s)) 0 a))
+    (e ∙ capacity-accepted s sizes m a (p .at) given ∙ sym (beside-zero (shapeNumber s) (capacity (layoutOf s)) 0 a))
 
 pub cells-given : (s : Shape) (n : ℕ) → n ≡ figure (shapeNumber s) (cellsOf s) → n ≡ planCells s
 unfolding planCells
@@ -74,22 +74,19 @@ module _ (s : Shape) (payload field : List ℕ) where
       go zero false f = refl
       go (suc n) p f = refl
 
--- what a field that is not refused tells: the lengths are the plan's, and it has nothing but cells
-pub record Taken (s : Shape) (field : List ℕ) : Type 0 where
-  pub fits : FieldFits s field
-  pub cells : Received (fieldOf field) (cellsOf s)
-
+-- what a field that is not refused tells
 taken : (s : Shape) (field : List ℕ) → Accepted s
-    → unless (eqb (length field) (planCells s)) 4 (fieldNumber s (fieldOf field)) ≡ 0 → Taken s field
+    → unless (eqb (length field) (planCells s)) 4 (fieldNumber s (fieldOf field)) ≡ 0 → Mendable s field
 taken s field a e =
     let f = unless-zero (eqb (length field) (planCells s)) 3 _ e in
     record {
       fits = record { accepted = a; long = eqb-true (length field) (planCells s) (f .0) ∙ plan-cells s a };
       cells = zero-cells s (fieldOf field) (f .1);
+      reach = zero-reach s (fieldOf field) (f .1);
     }
 
 pub decode-taken : (s : Shape) (payload field : List ℕ) → decodeNumber s payload field ≡ 0
-    → Taken s field × (length payload ≡ payloadBytes (layoutOf s))
+    → Mendable s field × (length payload ≡ payloadBytes (layoutOf s))
 unfolding decodeNumber
 decode-taken s payload field e =
     let a = or-else-zero (shapeNumber s) _ e in
@@ -106,6 +103,6 @@ module _ (s : Shape) (field : List ℕ) where
   unfolding correctNumber
   correct-length a d = rw (a, ne-eqb (length field) (planCells s) d)
 
-  pub correct-taken : correctNumber s field ≡ 0 → Taken s field
+  pub correct-taken : correctNumber s field ≡ 0 → Mendable s field
   unfolding correctNumber
   correct-taken e = let a = or-else-zero (shapeNumber s) _ e in taken s field (a .0) (a .1)

@@ -1,13 +1,10 @@
 -- Tests of the cells or the classes one by one, up to the first that fails.
 use Prim.Native.Nat.{ℕ, _+_, _<_, _≤_}
 use mathlib.Core.Bool.{Bool, true, false}
-use mathlib.Core.List.{List}
 use mathlib.Core.Path.{_≡_, refl, sym, ap, _∙_}
 use native.Mathlib.Nat.{le-antisymm}
-use lib.ListN.{length, getD}
 use Rattle.lattice.specs.Position.{allBelow}
 use Rattle.lattice.proofs.Bools.{and-true}
-use Rattle.codec.specs.Field.{fieldOf, isReceived, cellsOk}
 use Rattle.codec.proofs.AllBelow.{all-step, fails-below}
 
 -- the numbers below n pass the test
@@ -26,20 +23,3 @@ module _ (f : ℕ → Bool) where
 
   pub failed-at : (i n : ℕ) → i < n → f i ≡ false → false ≡ allBelow f n
   failed-at i n l e = sym (fails-below f i n l e)
-
--- the test of the cells
-module _ (field : List ℕ) where
-  unfoldable pub cellAt : ℕ → Bool
-  cellAt i = isReceived (fieldOf field i)
-
-  pub cell-passes : (i : ℕ) → isReceived (getD field i 0) ≡ true → cellAt i ≡ true
-  unfolding cellAt
-  cell-passes i e = e
-
-  pub cell-fails : (i : ℕ) → i < length field → isReceived (getD field i 0) ≡ false → false ≡ cellsOk (fieldOf field) (length field)
-  unfolding cellsOk cellAt
-  cell-fails i l e = failed-at cellAt i (length field) l e
-
-  pub cells-pass : (i : ℕ) → Passed cellAt i → i ≤ length field → length field ≤ i → true ≡ cellsOk (fieldOf field) (length field)
-  unfolding cellsOk cellAt
-  cells-pass i p l q = passed-all cellAt i (length field) p l q

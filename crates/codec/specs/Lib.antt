@@ -9,7 +9,9 @@ pub mod Examples
 pub mod Decode
 pub mod Correct
 pub mod Answer
+pub mod Packing
 pub mod Working
+pub mod Filling
 pub mod Lines
 pub mod Refused
 pub mod Writing

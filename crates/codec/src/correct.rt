@@ -7,12 +7,12 @@ ghost use Rattle.codec.specs.Field.{fieldOf, listOf};
 ghost use Rattle.codec.specs.Decode.{correctedField, correctedCount};
 ghost use Rattle.codec.specs.Correct.{correctNumber};
 ghost use Rattle.codec.specs.Answer.{IsCorrected, correctAnswerNumber, correctAnswerCount};
-ghost use Rattle.codec.specs.Working.{HoldsZeros, HoldsSyndromes, FieldFits};
+ghost use Rattle.codec.specs.Working.{HoldsZeros, HoldsSyndromes, Mendable};
 use crate::examine::examine;
-use crate::walk::corrected_value;
-use crate::walk::count_if;
-use crate::walk::place_of;
+use crate::mend::count_damaged;
+use crate::mend::turn_cells;
 use lattice::capacity::class_sizes;
+use lattice::cell_places::cells_at;
 use lattice::refusal::Refusal;
 use lattice::refusal::Tested;
 use lattice::shape::Shape;
@@ -47,24 +47,16 @@ impl CorrectAnswer {
 
 // Stores the mended cells; gives the number of cells turned over.
 fn store_corrected(shape: Shape, syndromes: &[u32; Shape::MAX_CLASSES], field: &mut [u8]) -> usize
-    requires { ⌜ FieldFits shape (now field) ⌝ }
+    requires { ⌜ Mendable shape (now field) ⌝ }
     requires { ⌜ HoldsSyndromes (layoutOf shape) (fieldOf (now field)) (now syndromes) (cellsOf shape) ⌝ }
     ensures { λ r. ⌜ now (field .exit) ≡ listOf (correctedField shape (fieldOf (now (field .entry)))) (cellsOf shape) ⌝ }
     ensures { λ r. ⌜ r ≡ correctedCount shape (fieldOf (now (field .entry))) ⌝ }
 {
-    let placement = shape.placement();
-    let mut counts = [0u32; Shape::MAX_CLASSES];
-    let mut flipped = 0;
-    let mut i = 0;
-    while i < field.len() {
-        let place = place_of(&mut counts, shape, placement, i as u32);
-        let before = field[i];
-        let value = corrected_value(syndromes, place, before);
-        field[i] = value;
-        flipped = count_if(before != value, flipped);
-        i += 1;
-    }
-    flipped
+    let m = shape.classes();
+    let mut damaged = [0u32; Shape::MAX_CLASSES];
+    cells_at(shape, syndromes, &mut damaged);
+    turn_cells(m, &damaged, field);
+    count_damaged(m, syndromes)
 }
 
 // The tests of correcting in their order, 1, 2, 4, 5, 6, 7; where they pass, the array holds the syndrome of each class.

@@ -1,21 +1,25 @@
 // Decoding, the papers' reading.
 ghost use mathlib.Core.Path.{_≡_};
-ghost use Prim.Native.Nat.{ℕ};
+ghost use Prim.Native.Nat.{ℕ, _≤_};
 ghost use lib.ListN.{getD, length};
 ghost use Rattle.lattice.specs.Refusal.{testedNumber, NoOutside};
 ghost use Rattle.lattice.specs.Shape.{cellsOf};
 ghost use Rattle.lattice.specs.Class.{layoutOf};
-ghost use Rattle.codec.specs.Field.{fieldOf, Received};
+ghost use Rattle.lattice.specs.Listing.{maxChecks, ListsChecks};
+ghost use Rattle.codec.specs.Field.{fieldOf};
 ghost use Rattle.codec.specs.Payload.{payloadBytes, heldPayload};
 ghost use Rattle.codec.specs.Decode.{correctedField, correctedCount, decodeNumber};
 ghost use Rattle.codec.specs.Answer.{IsDecoded, decodeAnswerNumber, decodeAnswerCount};
-ghost use Rattle.codec.specs.Working.{HoldsZeros, FieldFits, Examined, BitStored};
+ghost use Rattle.codec.specs.Packing.{HoldsBits};
+ghost use Rattle.codec.specs.Working.{HoldsZeros, HoldsSyndromes, Mendable, Examined};
 use crate::examine::examine;
+use crate::gather::gather;
 use crate::lengths::length_tests;
-use crate::walk::corrected_value;
-use crate::walk::count_if;
-use crate::walk::holds_data;
-use crate::walk::place_of;
+use crate::mend::count_damaged;
+use crate::mend::flip_bits;
+use lattice::cell_places::cells_at;
+use lattice::check_cells::MAX_CHECKS;
+use lattice::check_cells::check_cells;
 use lattice::refusal::Refusal;
 use lattice::refusal::Tested;
 use lattice::shape::Shape;
@@ -59,16 +63,29 @@ fn clear(payload: &mut [u8])
     }
 }
 
-// Puts the value of a data cell behind the bits of its byte; padding cells have no byte.
-fn store_bit(payload: &mut [u8], is_data: bool, rank: usize, value: u8)
-    ensures { λ _. ⌜ BitStored (now (payload .entry)) (now (payload .exit)) is_data rank value ⌝ }
+// Turns over the bits of the damaged cells; gives the number of cells turned over.
+fn mend_payload(
+    shape: Shape,
+    checks: &[u16; MAX_CHECKS],
+    amount: usize,
+    cells: usize,
+    field: &[u8],
+    syndromes: &[u32; Shape::MAX_CLASSES],
+    payload: &mut [u8],
+) -> usize
+    requires { ⌜ cells ≡ cellsOf shape ⌝ }
+    requires { ⌜ Mendable shape (now field) ⌝ }
+    requires { ⌜ HoldsSyndromes (layoutOf shape) (fieldOf (now field)) (now syndromes) (cellsOf shape) ⌝ }
+    requires { ⌜ (amount ≤ maxChecks) × ListsChecks (layoutOf shape) (cellsOf shape) amount (now checks) ⌝ }
+    requires { ⌜ HoldsBits (layoutOf shape) (fieldOf (now field)) (now payload) ⌝ }
+    ensures { λ _. ⌜ HoldsBits (layoutOf shape) (correctedField shape (fieldOf (now (field .entry)))) (now (payload .exit)) ⌝ }
+    ensures { λ r. ⌜ r ≡ correctedCount shape (fieldOf (now (field .entry))) ⌝ }
 {
-    let j = rank / 8;
-    if is_data {
-        if j < payload.len() {
-            payload[j] = ((payload[j] as u32 * 2 + value as u32) % 256) as u8;
-        }
-    }
+    let m = shape.classes();
+    let mut damaged = [0u32; Shape::MAX_CLASSES];
+    cells_at(shape, syndromes, &mut damaged);
+    flip_bits(checks, amount, cells, m, &damaged, payload);
+    count_damaged(m, syndromes)
 }
 
 // Stores the payload that the mended field holds; gives the number of cells turned over.
@@ -79,30 +96,19 @@ fn store_payload(
     syndromes: &[u32; Shape::MAX_CLASSES],
     payload: &mut [u8],
 ) -> usize
-    requires { ⌜ FieldFits shape (now field) ⌝ }
+    requires { ⌜ Mendable shape (now field) ⌝ }
     requires { ⌜ Examined shape (now field) (now sizes) (now syndromes) ⌝ }
-    requires { ⌜ Received (fieldOf (now field)) (cellsOf shape) ⌝ }
     requires { ⌜ length (now payload) ≡ payloadBytes (layoutOf shape) ⌝ }
     ensures { λ r. ⌜ now (payload .exit) ≡ heldPayload (layoutOf shape) (correctedField shape (fieldOf (now (field .entry)))) ⌝ }
     ensures { λ r. ⌜ r ≡ correctedCount shape (fieldOf (now (field .entry))) ⌝ }
 {
+    let mut checks = [0u16; MAX_CHECKS];
+    let mut places = [0u16; MAX_CHECKS];
+    let amount = check_cells(shape, sizes, &mut checks, &mut places);
+    let cells = shape.cells();
     clear(payload);
-    let placement = shape.placement();
-    let mut counts = [0u32; Shape::MAX_CLASSES];
-    let mut rank = 0;
-    let mut flipped = 0;
-    let mut i = 0;
-    while i < field.len() {
-        let place = place_of(&mut counts, shape, placement, i as u32);
-        let is_data = holds_data(sizes, place);
-        let before = field[i];
-        let value = corrected_value(syndromes, place, before);
-        store_bit(payload, is_data, rank, value);
-        rank = count_if(is_data, rank);
-        flipped = count_if(before != value, flipped);
-        i += 1;
-    }
-    flipped
+    gather(shape, &checks, amount, cells, field, payload);
+    mend_payload(shape, &checks, amount, cells, field, syndromes, payload)
 }
 
 // The tests of decoding in their order, 1 to 7; where they pass, the arrays hold the size and the syndrome of each class.

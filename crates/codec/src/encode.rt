@@ -1,20 +1,21 @@
-// Encoding, the papers' writing.
+// Encoding, the papers' writing: the data cells are filled, and then the checks are set from the syndromes of the data.
 ghost use mathlib.Core.Path.{_≡_};
-ghost use mathlib.Core.Bool.{cond};
-ghost use Prim.Native.Nat.{_/_, _%_, _<_};
+ghost use Prim.Native.Nat.{ℕ, _/_, _<_, _≤_};
 ghost use lib.ListN.{getD, length};
 ghost use Rattle.lattice.specs.Shape.{maxClasses, cellsOf};
+ghost use Rattle.lattice.specs.Class.{layoutOf};
+ghost use Rattle.lattice.specs.Listing.{maxChecks};
+ghost use Rattle.codec.specs.Field.{fieldOf, Cells};
 ghost use Rattle.codec.specs.Encode.{encodedField};
 ghost use Rattle.codec.specs.Answer.{IsEncoded, encodeAnswerNumber};
-ghost use Rattle.codec.specs.Working.{HoldsZeros, HoldsData, PayloadFits, AtPlane, Filled, planeCells, valueAt};
+ghost use Rattle.codec.specs.Working.{HoldsZeros, HoldsSyndromes, PayloadFits, FieldFits};
+ghost use Rattle.codec.specs.Filling.{ChecksPut, bitAt};
+use crate::fill::fill_planes;
 use crate::lengths::length_tests;
-use crate::walk::Place;
-use crate::walk::count_if;
-use crate::walk::holds_data;
-use crate::walk::padding_value;
-use crate::walk::payload_bit;
-use crate::walk::place_of;
-use crate::walk::take_in;
+use crate::mend::wide_16;
+use crate::syndromes::field_syndromes;
+use lattice::check_cells::MAX_CHECKS;
+use lattice::check_cells::check_cells;
 use lattice::refusal::Refusal;
 use lattice::refusal::Tested;
 use lattice::shape::Shape;
@@ -37,130 +38,42 @@ impl EncodeAnswer {
     }
 }
 
-// The value of the k-th of the cells that hold no check: a bit of the payload, or padding behind its last bit.
-fn data_value(payload: &[u8], k: usize) -> u8
-    ensures { λ r. ⌜ r ≡ valueAt (now (payload .entry)) k ⌝ }
-{
-    if k / 8 < payload.len() {
-        payload_bit(payload, k)
-    } else {
-        padding_value(k - 8 * payload.len())
-    }
-}
-
-// The value of a cell that holds data, or the check given.
-fn cell_value(is_data: bool, payload: &[u8], rank: usize, check: u8) -> u8
-    ensures { λ r. ⌜ r ≡ cond is_data (valueAt (now (payload .entry)) rank) check ⌝ }
-{
-    if is_data {
-        data_value(payload, rank)
-    } else {
-        check
-    }
-}
-
 // The bit of its class's syndrome that a check at a place holds.
-fn check_value(syndromes: &[u32; Shape::MAX_CLASSES], place: Place) -> u8
-    requires { ⌜ (place .class < maxClasses) × (0 < place .position) ⌝ }
-    ensures { λ r. ⌜ r ≡ getD (now (syndromes .entry)) (place .class) 0 / place .position % 2 ⌝ }
+fn check_bit(syndromes: &[u32; Shape::MAX_CLASSES], place: usize) -> u8
+    requires { ⌜ place / 32 < maxClasses ⌝ }
+    ensures { λ r. ⌜ r ≡ bitAt (now (syndromes .entry)) place ⌝ }
 {
-    let class = place.class;
-    (syndromes[class] / place.position % 2) as u8
+    ((syndromes[place / 32] >> (place % 32)) % 2) as u8
 }
 
-// The syndromes of the data alone, with 0 in the check cells.
-fn data_syndromes(
-    shape: Shape,
-    payload: &[u8],
-    sizes: &[u32; Shape::MAX_CLASSES],
-    syndromes: &mut [u32; Shape::MAX_CLASSES],
-)
-    requires { ⌜ PayloadFits shape (now payload) (now sizes) ⌝ }
+// The syndromes of the field that holds the data alone; the array is 0 at entry.
+fn data_syndromes(shape: Shape, field: &[u8], syndromes: &mut [u32; Shape::MAX_CLASSES])
+    requires { ⌜ FieldFits shape (now field) ⌝ }
+    requires { ⌜ Cells (fieldOf (now field)) (length (now field)) ⌝ }
     requires { ⌜ HoldsZeros (now syndromes) ⌝ }
-    ensures { λ _. ⌜ HoldsData shape (now (payload .entry)) (now (syndromes .exit)) ⌝ }
+    ensures { λ _. ⌜ HoldsSyndromes (layoutOf shape) (fieldOf (now (field .entry))) (now (syndromes .exit)) (cellsOf shape) ⌝ }
 {
-    let placement = shape.placement();
-    let cells = shape.cells();
-    let mut counts = [0u32; Shape::MAX_CLASSES];
-    let mut rank = 0;
-    let mut i = 0;
-    while i < cells {
-        let place = place_of(&mut counts, shape, placement, i as u32);
-        let is_data = holds_data(sizes, place);
-        take_in(syndromes, place, cell_value(is_data, payload, rank, 0));
-        rank = count_if(is_data, rank);
-        i += 1;
-    }
+    field_syndromes(shape.pass(), field, syndromes);
 }
 
-// The number of cells of a plane.
-fn plane_cells(shape: Shape) -> usize
-    ensures { λ r. ⌜ r ≡ planeCells shape ⌝ }
-{
-    shape.rows as usize * shape.columns as usize
-}
-
-// Fills the plane that begins at cell `at`, at the front of the part lent; gives the rank of the cell behind it.
-fn fill_plane(
-    shape: Shape,
-    payload: &[u8],
-    sizes: &[u32; Shape::MAX_CLASSES],
-    syndromes: &[u32; Shape::MAX_CLASSES],
-    counts: &mut [u32; Shape::MAX_CLASSES],
-    at: usize,
-    first: usize,
-    part: &mut [u8],
-) -> usize
-    requires { ⌜ PayloadFits shape (now payload) (now sizes) ⌝ }
-    requires { ⌜ HoldsData shape (now payload) (now syndromes) ⌝ }
-    requires { ⌜ AtPlane shape (now counts) (now part) at first ⌝ }
-    ensures { λ r. ⌜ Filled shape (now (payload .entry)) (now (part .entry)) (now (part .exit)) (now (counts .exit)) at r (planeCells shape) ⌝ }
-{
-    let placement = shape.placement();
-    let cells = plane_cells(shape);
-    let mut rank = first;
-    let mut j = 0;
-    while j < cells {
-        let place = place_of(counts, shape, placement, (at + j) as u32);
-        let is_data = holds_data(sizes, place);
-        part[j] = cell_value(is_data, payload, rank, check_value(syndromes, place));
-        rank = count_if(is_data, rank);
-        j += 1;
-    }
-    rank
-}
-
-// Fills the planes one by one, each in its own stretch of the field.
-fn fill_planes(
-    shape: Shape,
-    payload: &[u8],
-    sizes: &[u32; Shape::MAX_CLASSES],
+// Sets the listed checks in the field, which holds the data alone.
+fn set_checks(
+    amount: usize,
+    checks: &[u16; MAX_CHECKS],
+    places: &[u16; MAX_CHECKS],
     syndromes: &[u32; Shape::MAX_CLASSES],
     field: &mut [u8],
 )
-    requires { ⌜ PayloadFits shape (now payload) (now sizes) ⌝ }
-    requires { ⌜ HoldsData shape (now payload) (now syndromes) ⌝ }
-    requires { ⌜ length (now field) ≡ cellsOf shape ⌝ }
-    ensures { λ _. ⌜ now (field .exit) ≡ encodedField shape (now (payload .entry)) ⌝ }
+    requires { ⌜ amount ≤ maxChecks ⌝ }
+    requires { ⌜ ((k : ℕ) → k < amount → getD (now checks) k 0 < length (now field)) ⌝ }
+    requires { ⌜ ((k : ℕ) → k < amount → getD (now places) k 0 / 32 < maxClasses) ⌝ }
+    ensures { λ _. ⌜ ChecksPut (now (checks .entry)) (now (places .entry)) (now (syndromes .entry)) (now (field .entry)) (now (field .exit)) amount ⌝ }
 {
-    let cells = plane_cells(shape);
-    let planes = shape.planes as usize;
-    let mut counts = [0u32; Shape::MAX_CLASSES];
-    let mut rank = 0;
-    let mut z = 0;
-    while z < planes {
-        let at = z * cells;
-        rank = fill_plane(
-            shape,
-            payload,
-            sizes,
-            syndromes,
-            &mut counts,
-            at,
-            rank,
-            &mut field[at..],
-        );
-        z += 1;
+    let mut k = 0;
+    while k < amount {
+        let cell = wide_16(checks[k]);
+        field[cell] = check_bit(syndromes, wide_16(places[k]));
+        k += 1;
     }
 }
 
@@ -170,9 +83,13 @@ fn write_field(shape: Shape, payload: &[u8], sizes: &[u32; Shape::MAX_CLASSES], 
     requires { ⌜ length (now field) ≡ cellsOf shape ⌝ }
     ensures { λ _. ⌜ now (field .exit) ≡ encodedField shape (now (payload .entry)) ⌝ }
 {
+    let mut checks = [0u16; MAX_CHECKS];
+    let mut places = [0u16; MAX_CHECKS];
+    let amount = check_cells(shape, sizes, &mut checks, &mut places);
+    fill_planes(shape, payload, &checks, amount, field);
     let mut syndromes = [0u32; Shape::MAX_CLASSES];
-    data_syndromes(shape, payload, sizes, &mut syndromes);
-    fill_planes(shape, payload, sizes, &syndromes, field);
+    data_syndromes(shape, field, &mut syndromes);
+    set_checks(amount, &checks, &places, &syndromes, field);
 }
 
 // Writes the field of a payload, or gives the refusal 1, 2, 3 or 4.

@@ -1,6 +1,6 @@
 // The tests of a field that decoding and correcting share: 5, 6 and 7.
 ghost use mathlib.Core.Path.{_≡_};
-ghost use Prim.Native.Nat.{_≤_};
+ghost use Prim.Native.Nat.{_≤_, max};
 ghost use lib.Dec.{leb};
 ghost use lib.ListN.{getD, length};
 ghost use Rattle.lattice.specs.Refusal.{testedNumber};
@@ -11,30 +11,38 @@ ghost use Rattle.codec.specs.Field.{fieldOf, cellsOk};
 ghost use Rattle.codec.specs.Payload.{paddingOk};
 ghost use Rattle.codec.specs.Decode.{correctedField, fieldNumber};
 ghost use Rattle.codec.specs.Working.{HoldsZeros, HoldsSizes, FieldFits, Examined, rightAt};
+use crate::cell::cell_at;
 use crate::cell::is_received;
 use crate::syndromes::field_syndromes;
 use crate::walk::corrected_value;
-use crate::walk::count_if;
 use crate::walk::holds_data;
+use crate::walk::less_if;
 use crate::walk::padding_value;
-use crate::walk::place_of;
+use crate::walk::place_back;
 use lattice::capacity::data_in;
 use lattice::refusal::Refusal;
 use lattice::refusal::Tested;
 use lattice::shape::Shape;
 
-// Is every byte a cell?
-fn cells_ok(field: &[u8]) -> bool
-    ensures { λ r. ⌜ r ≡ cellsOk (fieldOf (now (field .entry))) (length (now (field .entry))) ⌝ }
+// The greater of two bytes.
+fn greater(a: u8, b: u8) -> u8
+    ensures { λ r. ⌜ r ≡ max a b ⌝ }
 {
+    if a < b { b } else { a }
+}
+
+// Is each of the first n bytes a cell? The greatest tells.
+fn cells_ok(field: &[u8], n: usize) -> bool
+    requires { ⌜ n ≤ length (now field) ⌝ }
+    ensures { λ r. ⌜ r ≡ cellsOk (fieldOf (now (field .entry))) n ⌝ }
+{
+    let mut most = 0;
     let mut i = 0;
-    while i < field.len() {
-        if !is_received(field[i]) {
-            return false;
-        }
+    while i < n {
+        most = greater(most, cell_at(field, i));
         i += 1;
     }
-    true
+    is_received(most)
 }
 
 // Is a codeword in reach of each class below m: is no syndrome above the class's size?
@@ -56,20 +64,18 @@ fn all_in_reach(
     true
 }
 
-// Is the cell no padding, or does it hold the padding's value?
-fn is_right(is_data: bool, rank: usize, bits: usize, value: u8) -> bool
-    ensures { λ r. ⌜ r ≡ rightAt is_data rank bits value ⌝ }
+// Does a cell pass as padding cell j: does it hold a check, or the padding's value?
+fn is_right(is_data: bool, j: usize, value: u8) -> bool
+    ensures { λ r. ⌜ r ≡ rightAt is_data j value ⌝ }
 {
     if !is_data {
         return true;
     }
-    if rank < bits {
-        return true;
-    }
-    value == padding_value(rank - bits)
+    value == padding_value(j)
 }
 
-// Do the padding cells hold the padding after correction?
+// Do the padding cells hold the padding after correction? They are the last of the data, so the cells are looked at from the
+// field's end, until no padding cell is unseen.
 fn padding_ok(
     shape: Shape,
     field: &[u8],
@@ -81,23 +87,18 @@ fn padding_ok(
     ensures { λ r. ⌜ r ≡ paddingOk (layoutOf shape) (correctedField shape (fieldOf (now (field .entry)))) ⌝ }
 {
     let placement = shape.placement();
-    let bits = 8 * (data_in(sizes) / 8);
-    let mut counts = [0u32; Shape::MAX_CLASSES];
-    let mut rank = 0;
-    let mut i = 0;
-    while i < field.len() {
-        let place = place_of(&mut counts, shape, placement, i as u32);
+    let mut behind = [0u32; Shape::MAX_CLASSES];
+    let mut unseen = data_in(sizes, shape.classes()) % 8;
+    let mut i = shape.cells();
+    while unseen > 0 {
+        i -= 1;
+        let place = place_back(&mut behind, sizes, shape, placement, i as u32);
         let is_data = holds_data(sizes, place);
-        if !is_right(
-            is_data,
-            rank,
-            bits,
-            corrected_value(syndromes, place, field[i]),
-        ) {
+        let value = corrected_value(syndromes, place, cell_at(field, i));
+        if !is_right(is_data, unseen - 1, value) {
             return false;
         }
-        rank = count_if(is_data, rank);
-        i += 1;
+        unseen = less_if(is_data, unseen);
     }
     true
 }
@@ -116,10 +117,10 @@ pub(crate) fn examine(
     ensures { λ r. ⌜ testedNumber r ≡ fieldNumber shape (fieldOf (now (field .entry))) ⌝ }
     ensures { λ r. ⌜ (testedNumber r ≡ 0 → Examined shape (now (field .entry)) (now (sizes .entry)) (now (syndromes .exit))) ⌝ }
 {
-    if !cells_ok(field) {
+    let pass = shape.pass();
+    if !cells_ok(field, pass.cells) {
         return Tested::Refused(Refusal::BadCell);
     }
-    let pass = shape.pass();
     field_syndromes(pass, field, syndromes);
     if !all_in_reach(pass.classes, sizes, syndromes) {
         return Tested::Refused(Refusal::OutOfReach);

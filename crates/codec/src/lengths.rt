@@ -24,7 +24,7 @@ pub(crate) fn length_tests(
         return Tested::Refused(why);
     }
     class_sizes(shape, sizes);
-    if payload.len() != data_in(sizes) / 8 {
+    if payload.len() != data_in(sizes, shape.classes()) / 8 {
         return Tested::Refused(Refusal::PayloadLength);
     }
     if field.len() != shape.cells() {

@@ -6,7 +6,7 @@ ghost use Rattle.lattice.specs.declared.shape.Shape.{Shape};
 ghost use Rattle.lattice.specs.Shape.{maxCells, maxClasses, Accepted, cellsOf};
 ghost use Rattle.lattice.specs.Class.{classesOf, layoutOf};
 ghost use Rattle.lattice.specs.Position.{Layout};
-ghost use Rattle.lattice.specs.Lines.{passOf, OfShape, AtLine, Ready};
+ghost use Rattle.lattice.specs.Lines.{passOf, OfShape, Room, AtLine, Ready};
 ghost use Rattle.codec.specs.Field.{fieldOf, Cells};
 ghost use Rattle.codec.specs.Working.{HoldsZeros, HoldsSyndromes};
 ghost use Rattle.codec.specs.Lines.{LineTaken, Taken, folded};
@@ -74,20 +74,50 @@ fn fold(t: &[u16], m: usize, syndromes: &mut [u32])
     }
 }
 
-// The syndromes of two classes or more, by the lists of a pass; the array is 0 at entry.
+// The syndromes of two classes or more, by lists that are as long as the pass needs; the array and t are 0 at entry.
+fn listed_syndromes(
+    pass: Pass,
+    field: &[u8],
+    e: &mut [u16],
+    p: &mut [u16],
+    q: &mut [u16],
+    t: &mut [u16],
+    syndromes: &mut [u32],
+)
+    requires { ⌜ OfShape pass × (2 ≤ pass .classes) × (length (now field) ≡ pass .cells) × (maxClasses ≤ length (now syndromes)) ⌝ }
+    requires { ⌜ Cells (fieldOf (now field)) (length (now field)) ⌝ }
+    requires { ⌜ HoldsZeros (now syndromes) ⌝ }
+    requires { ⌜ Room pass (length (now e)) (length (now p)) (length (now q)) × (length (now t) ≡ length (now e)) ⌝ }
+    requires { ⌜ ((y : ℕ) → getD (now t) y 0 ≡ 0) ⌝ }
+    ensures { λ _. ⌜ ((s : Shape) → Accepted s → pass ≡ passOf s → HoldsSyndromes (layoutOf s) (fieldOf (now (field .entry))) (now (syndromes .exit)) (cellsOf s)) ⌝ }
+{
+    let first = first_line(pass, e, p, q);
+    take_lines(pass, first, field, e, p, q, t);
+    fold(t, pass.classes, syndromes);
+}
+
+// The syndromes of two classes or more; the array is 0 at entry.
 fn line_syndromes(pass: Pass, field: &[u8], syndromes: &mut [u32])
     requires { ⌜ OfShape pass × (2 ≤ pass .classes) × (length (now field) ≡ pass .cells) × (maxClasses ≤ length (now syndromes)) ⌝ }
     requires { ⌜ Cells (fieldOf (now field)) (length (now field)) ⌝ }
     requires { ⌜ HoldsZeros (now syndromes) ⌝ }
     ensures { λ _. ⌜ ((s : Shape) → Accepted s → pass ≡ passOf s → HoldsSyndromes (layoutOf s) (fieldOf (now (field .entry))) (now (syndromes .exit)) (cellsOf s)) ⌝ }
 {
+    let wide = pass.classes + pass.columns;
+    let long = wide + pass.classes;
     let mut e = [0u16; 768];
     let mut p = [0u16; 1280];
     let mut q = [0u16; 1280];
-    let first = first_line(pass, &mut e, &mut p, &mut q);
     let mut t = [0u16; 768];
-    take_lines(pass, first, field, &mut e, &p, &q, &mut t);
-    fold(&t, pass.classes, syndromes);
+    listed_syndromes(
+        pass,
+        field,
+        &mut e[..wide],
+        &mut p[..long],
+        &mut q[..long],
+        &mut t[..wide],
+        syndromes,
+    );
 }
 
 // The syndrome of the one class of n cells, where the position of cell i is i + 1; the array is 0 at entry.

@@ -1,16 +1,16 @@
-// One step of a pass over the cells in byte order: a cell's place, what it holds, and what it adds to its class.
+// A cell by its place, the last cells first: its class and position, whether it holds data, and its value after correction.
 ghost use mathlib.Core.Path.{_≡_};
 ghost use mathlib.Core.Bool.{cond, not};
 ghost use Prim.Native.Nat.{_+_, _-_, _*_, _<_};
-ghost use lib.Bits.{bitXor};
 ghost use lib.Dec.{eqb};
 ghost use lib.ListN.{getD, length};
 ghost use Rattle.lattice.specs.Shape.{maxCells, maxClasses};
-ghost use Rattle.lattice.specs.Position.{isPower, isCheck};
+ghost use Rattle.lattice.specs.Class.{layoutOf};
+ghost use Rattle.lattice.specs.Position.{isCheck};
 ghost use Rattle.codec.specs.Field.{flip};
 ghost use Rattle.codec.specs.Payload.{payloadBit, padding};
-ghost use Rattle.codec.specs.Working.{Stored, AtCell, PlaceOf};
-use lattice::capacity::checks;
+ghost use Rattle.codec.specs.Working.{HoldsRest, Stored, AtCellBack, AtPlace};
+use lattice::capacity::is_check;
 use lattice::class::Placement;
 use lattice::class::class_at;
 use lattice::shape::Shape;
@@ -21,48 +21,34 @@ pub(crate) struct Place {
     pub position: u32,
 }
 
-// Counts one more cell of a class, and gives its position there.
-fn count_in(counts: &mut [u32], class: usize) -> u32
-    requires { ⌜ class < length (now counts) ⌝ }
-    requires { ⌜ getD (now counts) class 0 < 4294967295 ⌝ }
-    ensures { λ r. ⌜ r ≡ getD (now (counts .entry)) class 0 + 1 ⌝ }
-    ensures { λ r. ⌜ Stored (now (counts .entry)) (now (counts .exit)) class r ⌝ }
+// Counts one more cell of a class from its end, and gives its position there.
+fn count_back(behind: &mut [u32], class: usize, size: u32) -> u32
+    requires { ⌜ class < length (now behind) ⌝ }
+    requires { ⌜ getD (now behind) class 0 < size ⌝ }
+    ensures { λ r. ⌜ r ≡ size - getD (now (behind .entry)) class 0 ⌝ }
+    ensures { λ _. ⌜ Stored (now (behind .entry)) (now (behind .exit)) class (getD (now (behind .entry)) class 0 + 1) ⌝ }
 {
-    let position = counts[class] + 1;
-    counts[class] = position;
-    position
+    let count = behind[class];
+    behind[class] = count + 1;
+    size - count
 }
 
-// The place of a cell, where `counts` holds the number of cells of each class before it; the cell is counted.
-pub(crate) fn place_of(
-    counts: &mut [u32; Shape::MAX_CLASSES],
+// The place of a cell, where `sizes` holds the size of each class and `behind` the number of its cells behind the cell; the cell
+// is counted.
+pub(crate) fn place_back(
+    behind: &mut [u32; Shape::MAX_CLASSES],
+    sizes: &[u32; Shape::MAX_CLASSES],
     shape: Shape,
     placement: Placement,
     cell: u32,
 ) -> Place
-    requires { ⌜ AtCell shape placement (now counts) cell ⌝ }
-    ensures { λ r. ⌜ PlaceOf shape cell (r .class) (r .position) (now (counts .exit)) ⌝ }
+    requires { ⌜ AtCellBack shape placement (now sizes) (now behind) cell ⌝ }
+    ensures { λ r. ⌜ AtPlace shape cell (r .class) (r .position) ⌝ }
+    ensures { λ _. ⌜ HoldsRest (layoutOf shape) (now (behind .exit)) cell ⌝ }
 {
     let class = class_at(shape, placement, cell);
-    let position = count_in(counts, class);
+    let position = count_back(behind, class, sizes[class]);
     Place { class, position }
-}
-
-// Is p a power of two?
-fn is_power(p: u32) -> bool
-    ensures { λ r. ⌜ r ≡ isPower p ⌝ }
-{
-    if p == 0 {
-        return false;
-    }
-    1u32 << (checks(p) - 1) == p
-}
-
-// Does the position hold a check in a class of that size?
-fn is_check(size: u32, position: u32) -> bool
-    ensures { λ r. ⌜ r ≡ isCheck size position ⌝ }
-{
-    is_power(position)
 }
 
 // Does the cell at a place hold no check, where `sizes` holds the size of each class?
@@ -82,15 +68,12 @@ pub(crate) fn count_if(test: bool, n: usize) -> usize
     if test { 1 + n } else { n }
 }
 
-// The cell at a place is taken into the syndrome of its class.
-pub(crate) fn take_in(syndromes: &mut [u32], place: Place, value: u8)
-    requires { ⌜ place .class < length (now syndromes) ⌝ }
-    ensures { λ _. ⌜ Stored (now (syndromes .entry)) (now (syndromes .exit)) (place .class) (bitXor (getD (now (syndromes .entry)) (place .class) 0) (cond (eqb value 1) (place .position) 0)) ⌝ }
+// One less where the test holds.
+pub(crate) fn less_if(test: bool, n: usize) -> usize
+    requires { ⌜ 0 < n ⌝ }
+    ensures { λ r. ⌜ cond test 1 0 + r ≡ n ⌝ }
 {
-    let class = place.class;
-    if value == 1 {
-        syndromes[class] ^= place.position;
-    }
+    if test { n - 1 } else { n }
 }
 
 // Bit k of the payload, the highest bit of each byte first.
@@ -109,7 +92,7 @@ pub(crate) fn padding_value(j: usize) -> u8
 }
 
 // The cell turned over.
-fn flip(value: u8) -> u8
+pub(crate) fn flip(value: u8) -> u8
     ensures { λ r. ⌜ r ≡ flip value ⌝ }
 {
     if value == 0 { 1 } else { 0 }

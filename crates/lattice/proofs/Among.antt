@@ -9,7 +9,7 @@ use native.Mathlib.Omega.{arith}
 use lib.Dec.{eqb}
 use borrow.Author.Tests.{eq-eqb, ne-eqb}
 use Rattle.lattice.specs.Position.{count}
-use Rattle.lattice.proofs.Counting.{count-same, count-none}
+use Rattle.lattice.proofs.Counting.{count-same, count-none, count-mono}
 use Rattle.lattice.proofs.Remainder.{add-same, cancel-same}
 use Rattle.lattice.specs.Lines.{among}
 
@@ -38,6 +38,11 @@ module _ (m : ℕ) where
   pub among-same : (y z n : ℕ) → y % m ≡ z % m → among m y n ≡ among m z n
   unfolding among
   among-same y z n e = ap (λ (r : ℕ). count (λ x. eqb (x % m) r) n) e
+
+  -- a longer stretch has no fewer
+  pub among-mono : (y i n : ℕ) → i ≤ n → among m y i ≤ among m y n
+  unfolding among
+  among-mono y i n l = count-mono (λ z. eqb (z % m) (y % m)) i n l
 
   pub among-next : (y n : ℕ) → among m (y + m) n ≡ among m y n
   among-next y n = among-same (y + m) y n (add-mod-right y m)

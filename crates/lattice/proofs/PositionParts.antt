@@ -1,12 +1,12 @@
 -- What the functions on lists of positions leave, put together.
 use Prim.Native.Nat.{ℕ, _+_, _-_, _/_, _%_, _<_, _≤_, zero-le}
 use mathlib.Core.Bool.{Bool, true, false, cond}
-use mathlib.Core.List.{List}
-use mathlib.Core.Path.{_≡_, sym}
+use mathlib.Core.List.{List, _++_}
+use mathlib.Core.Path.{_≡_, sym, _∙_}
 use native.Mathlib.Nat.{mod-lt, div-add-mod', div-le-self}
 use native.Mathlib.Omega.{arith}
 use lib.Dec.{ltb}
-use lib.ListN.{getD}
+use lib.ListN.{length, getD, List·getD-append}
 use borrow.Author.Tests.{lt-ltb, le-ltb}
 use Rattle.lattice.specs.Position.{Layout}
 use Rattle.lattice.specs.Lines.{Positions, Repeats, Gains, round}
@@ -47,3 +47,9 @@ quotient-most n m = div-le-self n m
 pub repeats-less : (m d wide far : ℕ) (e : List ℕ) → wide ≤ far → Repeats m d far e → Repeats m d wide e
 unfolding Repeats
 repeats-less m d wide far e l p y r = p y (omega arith)
+
+-- a list of gains with other entries behind it
+pub gains-front : (m n wide far : ℕ) (p rest : List ℕ) → wide ≤ length p → wide ≤ far → Gains m n far p
+    → Gains m n wide (p ++ rest)
+unfolding Gains
+gains-front m n wide far p rest l r gain z q = List·getD-append p rest 0 z (omega arith) ∙ gain z (omega arith)

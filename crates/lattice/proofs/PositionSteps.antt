@@ -15,7 +15,7 @@ use Rattle.lattice.proofs.Counting.{count-mono, count-most}
 use Rattle.lattice.proofs.Positions.{size-none}
 use Rattle.lattice.proofs.Remainder.{minus-below}
 use Rattle.lattice.specs.Lines.{HasPeriod, among, Positions, Repeats, Gains, Advanced, CanAdvance, round}
-use Rattle.lattice.proofs.Among.{among-none, among-next, among-before, among-after, among-shift, among-whole, among-more, among-many}
+use Rattle.lattice.proofs.Among.{among-none, among-next, among-before, among-after, among-shift, among-whole, among-more, among-many, among-mono}
 use Rattle.lattice.proofs.LineSizes.{line-size, line-next}
 use Rattle.lattice.proofs.Starts.{back-above, back-below}
 
@@ -85,32 +85,36 @@ round-most start step = bit (ltb start step)
     bit true = omega arith
     bit false = omega arith
 
--- at most one place of a period has a given remainder, and a longer stretch has no fewer
+-- at most one place of a period has a given remainder
 among-one : (m y n : ℕ) → 0 < m → n ≤ m → among m y n ≤ 1
 unfolding among
 among-one m y n some l = omega (arith, among-whole m some y, count-mono (λ z. eqb (z % m) (y % m)) n m l)
-
-among-mono : (m y i n : ℕ) → i ≤ n → among m y i ≤ among m y n
-unfolding among
-among-mono m y i n l = count-mono (λ z. eqb (z % m) (y % m)) i n l
 
 among-most : (m y n : ℕ) → among m y n ≤ n
 unfolding among
 among-most m y n = count-most (λ z. eqb (z % m) (y % m)) n
 
--- of w places in a row at most w / 2 + 1 have a given remainder, where m is at least 2
-pub stretch-most : (m start w y : ℕ) → 2 ≤ m → start < m → among m y (start + w) ≤ among m y start + (w / 2 + 1)
-stretch-most m start w y two l =
-    let some : 0 < m = omega arith in
-    let there : y + (m - start) + start ≡ y + m = omega arith in
+-- w places hold a given remainder at most w / m + 1 times
+pub among-few : (m y w : ℕ) → 0 < m → among m y w ≤ w / m + 1
+among-few m y w some =
     let whole : w / m * m + w % m ≡ w = div-add-mod' w m in
     let less : w % m < m = mod-lt w some in
     omega (
       arith,
+      ap (λ (n : ℕ). among m y n) whole,
+      among-many m some y (w / m) (w % m),
+      among-one m y (w % m) some (omega arith),
+    )
+
+-- of w places in a row at most w / 2 + 1 have a given remainder, where m is at least 2
+pub stretch-most : (m start w y : ℕ) → 2 ≤ m → start < m → among m y (start + w) ≤ among m y start + (w / 2 + 1)
+stretch-most m start w y two l =
+    let there : y + (m - start) + start ≡ y + m = omega arith in
+    let whole : w / m * m + w % m ≡ w = div-add-mod' w m in
+    omega (
+      arith,
       among-shift m y (y + (m - start)) start w (ap (λ (k : ℕ). k % m) there ∙ add-mod-right y m),
-      ap (λ (n : ℕ). among m (y + (m - start)) n) whole,
-      among-many m some (y + (m - start)) (w / m) (w % m),
-      among-one m (y + (m - start)) (w % m) some (omega arith),
+      among-few m (y + (m - start)) w (omega arith),
       mul-le-mul {n₁ = w / m} {m₁ = 2} {n₂ = w / m} {m₂ = m} (le-refl _) two,
     )
 

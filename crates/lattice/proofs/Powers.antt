@@ -1,5 +1,5 @@
 -- The powers of two, and how many of them there are up to a number.
-use Prim.Native.Nat.{ℕ, zero, suc, _+_, _^_, _<_, _≤_}
+use Prim.Native.Nat.{ℕ, zero, suc, _+_, _-_, _^_, _<_, _≤_}
 use mathlib.Core.Bool.{Bool, true, false, false≢true}
 use mathlib.Core.Logic.{⊎-elim}
 use mathlib.Core.Path.{_≡_, refl, sym, ap, _∙_}
@@ -11,7 +11,7 @@ use lib.Pow.{pow-mono}
 use borrow.Author.Tests.{eq-eqb, eqb-true}
 use Rattle.lattice.specs.Position.{anyBelow, isPower, checks}
 use Rattle.lattice.proofs.Bools.{or-true-left, or-true-right, or-cases, not-true}
-use Rattle.lattice.proofs.Counting.{count-yes, count-no, count-most}
+use Rattle.lattice.proofs.Counting.{count-yes, count-no, count-most, count-mono}
 
 -- some number below n passes the test: from a witness, and back
 pub any-below : (f : ℕ → Bool) (i n : ℕ) → i < n → f i ≡ true → anyBelow f n ≡ true
@@ -68,3 +68,23 @@ checks-other n e = count-no (λ i. isPower (i + 1)) n e
 pub checks-most : (n : ℕ) → checks n ≤ n
 unfolding checks
 checks-most n = count-most (λ i. isPower (i + 1)) n
+
+-- no fewer up to a greater number
+pub checks-mono : (i n : ℕ) → i ≤ n → checks i ≤ checks n
+unfolding checks
+checks-mono i n l = count-mono (λ k. isPower (k + 1)) i n l
+
+-- where two numbers have as many, none stands between
+pub no-power : (low high k : ℕ) → checks low ≡ checks high → low < k → k ≤ high → isPower k ≡ false
+no-power low high k same l r = not-true (isPower k) more
+  where
+    more : isPower k ≡ true → ⊥
+    more e =
+        let own : k - 1 + 1 ≡ k = omega arith in
+        omega (
+          arith,
+          checks-power (k - 1) (ap isPower own ∙ e),
+          ap checks own,
+          checks-mono low (k - 1) (omega arith),
+          checks-mono k high r,
+        )

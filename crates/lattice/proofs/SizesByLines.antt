@@ -68,11 +68,11 @@ module _ (s : Shape) (accepted : Accepted s) (pass : Pass) (same : pass ≡ pass
   abbrev pub starts : ℕ → ℕ
   starts l = lineStart (settingsOf s) (s .rows) l
 
-  settings-some : 0 < settingsOf s .m
+  pub settings-some : 0 < settingsOf s .m
   unfolding classesOf
   settings-some = classes-some s accepted
 
-  settings-are : pass .classes ≡ settingsOf s .m
+  pub settings-are : pass .classes ≡ settingsOf s .m
   unfolding classesOf
   settings-are = classes-are
 
@@ -107,7 +107,7 @@ module _ (s : Shape) (accepted : Accepted s) (pass : Pass) (same : pass ≡ pass
             (arith, lines-are)) less,
       )
 
-  all-cells : pass .lines * pass .columns ≡ cellsOf s
+  pub all-cells : pass .lines * pass .columns ≡ cellsOf s
   all-cells = rw (lines-are, columns-are) (omega arith)
 
   -- the size of a class below m

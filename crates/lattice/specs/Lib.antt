@@ -14,3 +14,5 @@ pub mod Answer
 pub mod Placing
 pub mod Testing
 pub mod Lines
+pub mod Listing
+pub mod CheckList

@@ -4,7 +4,6 @@ use mathlib.Core.Bool.{Bool, true, false, cond, not, _&&_, _||_}
 use mathlib.Core.List.{List}
 use lib.Dec.{eqb}
 use lib.ListN.{getD}
-use Rattle.lattice.specs.Shape.{maxClasses}
 
 -- how many of the numbers below n pass the test
 abbrev pub count : (ℕ → Bool) → ℕ → ℕ
@@ -67,6 +66,6 @@ holdsData L i = not (isCheck (size L (L .class i)) (position L i))
 unfoldable pub capacity : Layout → ℕ
 capacity L = count (holdsData L) (L .cells)
 
--- the number of cells that hold no check, where the list holds the size of each class
-unfoldable pub dataIn : List ℕ → ℕ
-dataIn sizes = sumBelow (λ a. dataCells (getD sizes a 0)) maxClasses
+-- the number of cells that hold no check, where the list holds the size of each of m classes
+unfoldable pub dataIn : List ℕ → ℕ → ℕ
+dataIn sizes m = sumBelow (λ a. dataCells (getD sizes a 0)) m

@@ -1,11 +1,11 @@
 // The capacity of a field: the sizes of its classes, and the cells of each that hold no check.
 ghost use mathlib.Core.Path.{_≡_};
-ghost use Prim.Native.Nat.{ℕ, _+_, _<_};
-ghost use lib.ListN.{length, getD};
+ghost use Prim.Native.Nat.{ℕ, _+_, _<_, _≤_};
+ghost use lib.ListN.{getD};
 ghost use Rattle.lattice.specs.Refusal.{beside, figure};
 ghost use Rattle.lattice.specs.Shape.{maxClasses, shapeNumber};
 ghost use Rattle.lattice.specs.Class.{layoutOf};
-ghost use Rattle.lattice.specs.Position.{size, checks, dataCells, capacity, dataIn};
+ghost use Rattle.lattice.specs.Position.{size, isPower, isCheck, checks, dataCells, capacity, dataIn};
 use crate::by_lines::sizes_by;
 use crate::refusal::Tested;
 use crate::shape::Shape;
@@ -15,6 +15,23 @@ pub fn checks(n: u32) -> u32
     ensures { λ r. ⌜ r ≡ checks n ⌝ }
 {
     32 - u32::leading_zeros(n)
+}
+
+// Is p a power of two?
+fn is_power(p: u32) -> bool
+    ensures { λ r. ⌜ r ≡ isPower p ⌝ }
+{
+    if p == 0 {
+        return false;
+    }
+    1u32 << (checks(p) - 1) == p
+}
+
+// Does the position hold a check in a class of that size?
+pub fn is_check(size: u32, position: u32) -> bool
+    ensures { λ r. ⌜ r ≡ isCheck size position ⌝ }
+{
+    is_power(position)
 }
 
 // The number of cells of a class of n cells that hold no check.
@@ -47,13 +64,16 @@ pub fn class_sizes(shape: Shape, sizes: &mut [u32; Shape::MAX_CLASSES])
     sizes_by(shape.pass(), sizes);
 }
 
-// The number of cells that hold no check, where `sizes` holds the size of each class.
-pub fn data_in(sizes: &[u32; Shape::MAX_CLASSES]) -> usize
-    ensures { λ r. ⌜ r ≡ dataIn (now (sizes .entry)) ⌝ }
+// The number of cells that hold no check, where `sizes` holds the size of each of that many classes; 0 for more than there can be.
+pub fn data_in(sizes: &[u32; Shape::MAX_CLASSES], classes: usize) -> usize
+    ensures { λ r. ⌜ (classes ≤ maxClasses → r ≡ dataIn (now (sizes .entry)) classes) ⌝ }
 {
+    if classes > Shape::MAX_CLASSES {
+        return 0;
+    }
     let mut sum: usize = 0;
     let mut a = 0;
-    while a < Shape::MAX_CLASSES {
+    while a < classes {
         sum += data_cells(sizes[a]) as usize;
         a += 1;
     }
@@ -67,6 +87,6 @@ impl Shape {
     {
         let mut sizes = [0u32; Shape::MAX_CLASSES];
         class_sizes(self, &mut sizes);
-        data_in(&sizes)
+        data_in(&sizes, self.classes())
     }
 }

@@ -1,6 +1,8 @@
 // Placing: the shape of a field, the interleaving class of a cell, the capacity, and the distance test.
 mod by_lines;
 pub mod capacity;
+pub mod cell_places;
+pub mod check_cells;
 pub mod class;
 pub mod distance;
 pub mod line;

@@ -15,7 +15,7 @@ use crate::line::next_line;
 use crate::shape::within;
 
 // 1 more below gap.
-fn raised(z: usize, gap: usize, up: u16) -> u16
+pub(crate) fn raised(z: usize, gap: usize, up: u16) -> u16
     requires { ⌜ up < 65535 ⌝ }
     ensures { λ r. ⌜ r ≡ up + cond (ltb z gap) 1 0 ⌝ }
 {
@@ -58,7 +58,7 @@ fn first_positions(e: &mut [u16], m: usize)
 }
 
 // What a stretch of n places of the table gives to each remainder.
-fn gains(p: &mut [u16], m: usize, n: usize)
+pub(crate) fn gains(p: &mut [u16], m: usize, n: usize)
     requires { ⌜ (0 < m) × (m ≤ length (now p)) × (length (now p) ≤ 4096) × (n < 32768) ⌝ }
     ensures { λ _. ⌜ Gains m n (length (now (p .entry))) (now (p .exit)) ⌝ }
 {

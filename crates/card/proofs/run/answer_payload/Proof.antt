@@ -1,18 +1,19 @@
-use borrow.Author.Needs.{needs}
+-- `answer_payload` meets its contract: a payload that no card holds is refused for its length, and any other is encoding's to refuse.
 use Prim.Native.Nat.{_≤_}
 use mathlib.Core.Bool.{true}
 use mathlib.Core.List.{_++_}
 use mathlib.Core.Path.{_≡_, sym, ap, subst, _∙_}
 use native.Mathlib.Omega.{arith}
 use lib.ListN.{length, take, drop, replicate}
+use borrow.Author.Needs.{needs}
 use Rattle.lattice.proofs.Bools.{failed, passed}
 use Rattle.codec.specs.Payload.{Bytes}
 use Rattle.codec.specs.Plan.{planBytes}
 use Rattle.card.specs.Parse.{payloadOk, payloadOf}
-use Rattle.card.specs.Program.{writtenText}
 use Rattle.card.specs.Card.{maxCardCells, maxCardBytes}
-use Rattle.card.proofs.StepProgram.{bad-payload, wrong-length, payload-written}
-use Rattle.card.proofs.StepCard.{cells-are, cells-fit, bytes-are, bytes-fit}
+use Rattle.card.specs.Working.{encodedText}
+use Rattle.card.proofs.StepProgram.{bad-payload, wrong-length, payload-read}
+use Rattle.card.proofs.StepCard.{cells-are, cells-fit, bytes-fit}
 use Rattle.card.proofs.StepReply.{answered-same}
 use Rattle.card.proofs.StepRun.{zeros-count, part-again, part-within, part-count, length-read, bytes-read}
 use Rattle.card.proofs.run.answer_payload.Statement.{statement}
@@ -21,26 +22,20 @@ use Rattle.card.proofs.run.answer_payload.Tie as tie
 ok : (c : tie.Else1) → payloadOk (c .before .before .before .before .args .input .now) (c .before .before .before .before .args .next) ≡ true
 ok c = passed _ _ (c .if1 .left) (c .before .payload-ok .ensures)
 
--- the length of the payload read, and of the plan's
+-- the length of the payload read
 bytes-read-are : (c : tie.After-payload-bytes) → length (payloadOf (c .before .before .before .before .before .args .input .now) (c .before .before .before .before .before .args .next)) ≡ c .payload-bytes .result
 bytes-read-are c = length-read _ _ ∙ sym (c .payload-bytes .ensures)
 
-bytes-planned : (c : tie.Else2) → c .before .before .payload-bytes .result ≡ planBytes (c .before .before .before .before .before .before .before .args .shape)
-bytes-planned c = c .if2 .left ∙ bytes-are _ _ (c .before .before .before .before .before .before .before .pre .0 .shaped) _ (c .before .capacity .ensures)
-
-bytes-room : (c : tie.Else2) → c .before .before .payload-bytes .result ≤ maxCardBytes
-bytes-room c = omega (arith, bytes-planned c, bytes-fit _ _ (c .before .before .before .before .before .before .before .pre .0 .shaped))
-
 cells-room : (c : tie.After-cells) → c .cells .result ≤ maxCardCells
-cells-room c = cells-fit _ _ (c .before .before .before .before .before .before .before .before .pre .0 .shaped) _ (c .cells .ensures)
+cells-room c = cells-fit _ _ (c .before .before .before .before .before .before .before .pre .0 .shaped) _ (c .cells .ensures)
 
 -- the part that was filled
-long : (c : tie.After-fill-payload) → length (c .fill-payload .last .1 .1 .0) ≡ c .before .before .before .before .before .payload-bytes .result
-long c = ap length (c .fill-payload .ensures) ∙ bytes-read-are (c .before .before .before .before .before)
+long : (c : tie.After-fill-payload) → length (c .fill-payload .last .1 .1 .0) ≡ c .before .before .before .before .payload-bytes .result
+long c = ap length (c .fill-payload .ensures) ∙ bytes-read-are (c .before .before .before .before)
 
 again : (c : tie.After-fill-payload)
-    → take (c .before .before .before .before .before .payload-bytes .result) (c .fill-payload .last .1 .1 .0 ++ drop (c .before .before .before .before .before .payload-bytes .result) (replicate maxCardBytes 0))
-    ≡ payloadOf (c .before .before .before .before .before .before .before .before .before .before .args .input .now) (c .before .before .before .before .before .before .before .before .before .before .args .next)
+    → take (c .before .before .before .before .payload-bytes .result) (c .fill-payload .last .1 .1 .0 ++ drop (c .before .before .before .before .payload-bytes .result) (replicate maxCardBytes 0))
+    ≡ payloadOf (c .before .before .before .before .before .before .before .before .before .args .input .now) (c .before .before .before .before .before .before .before .before .before .args .next)
 again c = part-again _ _ _ (long c) ∙ c .fill-payload .ensures
 
 payload-ok-requires : tie.Need-payload-ok-requires
@@ -53,13 +48,14 @@ same-length : tie.Need-same-length
 same-length c = search needs
 
 returns : tie.Need-returns
-returns c = answered-same (bad-payload _ _ _ (c .before .before .before .before .before .before .before .before .pre .0 .header) (c .before .before .before .before .before .before .before .before .pre .0 .shaped .card) (c .before .before .before .before .before .before .before .before .pre .1) (failed _ _ (c .before .before .before .before .if1 .taken) (c .before .before .before .before .before .payload-ok .ensures))) (c .before .before .refuse .ensures)
+returns c =
+    let p = c .before .before .before .before .before .before .before .before .pre in
+    answered-same
+    (bad-payload _ _ _ (p .0 .header) (p .0 .shaped .card) (p .1) (failed _ _ (c .before .before .before .before .if1 .taken) (c .before .before .before .before .before .payload-ok .ensures)))
+    (c .before .before .refuse .ensures)
 
 payload-bytes-requires : tie.Need-payload-bytes-requires
 payload-bytes-requires c κs = search needs
-
-capacity-requires : tie.Need-capacity-requires
-capacity-requires c κs = search needs
 
 refuse-requires-2 : tie.Need-refuse-requires-2
 refuse-requires-2 c κs = search needs
@@ -69,34 +65,32 @@ same-length-2 c = search needs
 
 returns-2 : tie.Need-returns-2
 returns-2 c =
+    let p = c .before .before .before .before .before .before .before .before .before .before .pre in
     answered-same
-    (wrong-length _ _ _ (c .before .before .before .before .before .before .before .before .before .before .before .pre .0 .header) (c .before .before .before .before .before .before .before .before .before .before .before .pre .0 .shaped .card) (c .before .before .before .before .before .before .before .before .before .before .before .pre .1)
-    (ok (c .before .before .before .before .before .before .before))
-    (λ e.
-    c .before .before .before .before .if2 .taken
-    (sym (bytes-read-are (c .before .before .before .before .before .before))
-    ∙ e
-    ∙ ap planBytes (sym (c .before .before .before .before .before .before .before .before .before .before .before .pre .0 .shaped .shape))
-    ∙ sym (bytes-are _ _ (c .before .before .before .before .before .before .before .before .before .before .before .pre .0 .shaped) _ (c .before .before .before .before .before .capacity .ensures)))))
+    (wrong-length _ _ _ (p .0 .header) (p .0 .shaped .card) (p .1) (ok (c .before .before .before .before .before .before))
+    (λ e. omega (arith, c .before .before .before .before .if2 .taken, bytes-read-are (c .before .before .before .before .before), bytes-fit _ _ (p .0 .shaped), ap planBytes (p .0 .shaped .shape))))
     (c .before .before .refuse2 .ensures)
 
 cells-requires : tie.Need-cells-requires
 cells-requires c κs = search needs
 
 array-borrow-prefix-payload : tie.Need-array-borrow-prefix-payload
-array-borrow-prefix-payload c = bytes-room (c .before)
+array-borrow-prefix-payload c = search needs
 
 slice-aggregate-fill-payload : tie.Need-slice-aggregate-fill-payload
-slice-aggregate-fill-payload c = zeros-count _ maxCardBytes (bytes-room (c .before .before))
+slice-aggregate-fill-payload c = zeros-count _ maxCardBytes (c .before .before .if2 .left)
 
 fill-payload-requires : tie.Need-fill-payload-requires
-fill-payload-requires c κs = (ok (c .before .before .before .before .before), sym (zeros-count _ maxCardBytes (bytes-room (c .before .before))) ∙ c .before .before .before .before .payload-bytes .ensures)
+fill-payload-requires c κs =
+    (ok (c .before .before .before .before), sym (zeros-count _ maxCardBytes (c .before .before .if2 .left)) ∙ c .before .before .before .payload-bytes .ensures)
 
 array-share-prefix-payload : tie.Need-array-share-prefix-payload
-array-share-prefix-payload c = part-within _ (c .before .fill-payload .last .1 .1 .0) (drop (c .before .before .before .before .before .before .payload-bytes .result) (replicate maxCardBytes 0)) (long (c .before))
+array-share-prefix-payload c =
+    part-within _ (c .before .fill-payload .last .1 .1 .0) (drop (c .before .before .before .before .before .payload-bytes .result) (replicate maxCardBytes 0)) (long (c .before))
 
 slice-aggregate-write-card : tie.Need-slice-aggregate-write-card
-slice-aggregate-write-card c = part-count _ (c .before .before .fill-payload .last .1 .1 .0) (drop (c .before .before .before .before .before .before .before .payload-bytes .result) (replicate maxCardBytes 0)) (long (c .before .before))
+slice-aggregate-write-card c =
+    part-count _ (c .before .before .fill-payload .last .1 .1 .0) (drop (c .before .before .before .before .before .before .payload-bytes .result) (replicate maxCardBytes 0)) (long (c .before .before))
 
 array-borrow-prefix-field : tie.Need-array-borrow-prefix-field
 array-borrow-prefix-field c = cells-room (c .before .before .before .before)
@@ -105,28 +99,24 @@ slice-aggregate-write-card-2 : tie.Need-slice-aggregate-write-card-2
 slice-aggregate-write-card-2 c = zeros-count _ maxCardCells (cells-room (c .before .before .before .before .before))
 
 write-card-requires : tie.Need-write-card-requires
-write-card-requires c κs = (
-  c .before .before .before .before .before .before .before .before .before .before .before .before .before .before .pre .0 .shaped,
-  (
-    subst Bytes (sym (again (c .before .before .before .before))) (bytes-read _ _ (ok (c .before .before .before .before .before .before .before .before .before .before))),
-    (
-      ap length (again (c .before .before .before .before)) ∙ bytes-read-are (c .before .before .before .before .before .before .before .before .before) ∙ bytes-planned (c .before .before .before .before .before .before .before),
-      sym (zeros-count _ maxCardCells (cells-room (c .before .before .before .before .before .before))) ∙ cells-are _ _ (c .before .before .before .before .before .before .before .before .before .before .before .before .before .before .pre .0 .shaped) _ (c .before .before .before .before .before .before .cells .ensures),
-    ),
-  ),
-)
+write-card-requires c κs =
+    let p = c .before .before .before .before .before .before .before .before .before .before .before .before .before .pre in (
+      p .0 .shaped,
+      (
+        subst Bytes (sym (again (c .before .before .before .before))) (bytes-read _ _ (ok (c .before .before .before .before .before .before .before .before .before))),
+        sym (zeros-count _ maxCardCells (cells-room (c .before .before .before .before .before .before))) ∙ cells-are _ _ (p .0 .shaped) _ (c .before .before .before .before .before .before .cells .ensures),
+      ),
+    )
 
 same-length-3 : tie.Need-same-length-3
 same-length-3 c = search needs
 
 returns-3 : tie.Need-returns-3
 returns-3 c =
+    let e = c .before .before .before .before .before .before .before .before .before .before .before .before .before .before .before .before .before in
     answered-same
-    (ap (writtenText (c .before .before .before .before .before .before .before .before .before .before .before .before .before .before .before .before .before .before .args .header)) (again (c .before .before .before .before .before .before .before .before))
-    ∙ sym
-    (payload-written _ _ _ (c .before .before .before .before .before .before .before .before .before .before .before .before .before .before .before .before .before .before .pre .0 .header) (c .before .before .before .before .before .before .before .before .before .before .before .before .before .before .before .before .before .before .pre .0 .shaped .card) (c .before .before .before .before .before .before .before .before .before .before .before .before .before .before .before .before .before .before .pre .1)
-    (ok (c .before .before .before .before .before .before .before .before .before .before .before .before .before .before))
-    (bytes-read-are (c .before .before .before .before .before .before .before .before .before .before .before .before .before) ∙ bytes-planned (c .before .before .before .before .before .before .before .before .before .before .before) ∙ ap planBytes (c .before .before .before .before .before .before .before .before .before .before .before .before .before .before .before .before .before .before .pre .0 .shaped .shape))))
+    (ap (encodedText (e .args .header)) (again (c .before .before .before .before .before .before .before .before))
+    ∙ sym (payload-read _ _ _ (e .pre .0 .header) (e .pre .0 .shaped .card) (e .pre .1) (ok (c .before .before .before .before .before .before .before .before .before .before .before .before .before))))
     (c .before .before .before .write-card .ensures)
 
 pub answer-payload-spec : {M : Type 1} → statement M
@@ -138,7 +128,6 @@ answer-payload-spec =
     same-length
     returns
     payload-bytes-requires
-    capacity-requires
     refuse-requires-2
     same-length-2
     returns-2

@@ -1,5 +1,8 @@
+-- `write_card` meets its contract: a refusal is encoding's, and else the field written is printed.
+use mathlib.Core.Path.{sym, ap, _∙_}
 use borrow.Author.Needs.{needs}
-use Rattle.card.proofs.StepCard.{encoded-cells, card-written}
+use Rattle.codec.specs.Answer.{encodeAnswerNumber}
+use Rattle.card.proofs.StepCard.{encoded-refused, encoded-length, encoded-done, encoded-cells, card-written}
 use Rattle.card.proofs.StepReply.{answered-same}
 use Rattle.card.proofs.run.write_card.Statement.{statement}
 use Rattle.card.proofs.run.write_card.Tie as tie
@@ -7,14 +10,24 @@ use Rattle.card.proofs.run.write_card.Tie as tie
 encode-requires : tie.Need-encode-requires
 encode-requires c κs = search needs
 
+enum-known-why : tie.Need-enum-known-why
+enum-known-why c = search needs
+
+refuse-requires : tie.Need-refuse-requires
+refuse-requires c κs = search needs
+
+enum-told : tie.Need-enum-told
+enum-told c = search needs
+
 classes-requires : tie.Need-classes-requires
 classes-requires c κs = search needs
 
 reply-field-requires : tie.Need-reply-field-requires
-reply-field-requires c κs = (
-  c .before .before .before .before .before .before .before .before .before .before .pre .0 .card,
-  encoded-cells _ _ (c .before .before .before .before .before .before .before .before .before .before .pre .0) _ _ _ (c .before .before .before .before .before .before .before .before .before .before .pre .1 .1 .0) (c .before .before .before .before .before .before .before .before .before .before .pre .1 .1 .1) (c .before .before .before .before .before .encode .ensures .leaves) (c .before .before .before .before .before .before .before .before .before .before .pre .1 .0),
-)
+reply-field-requires c κs =
+    let p = c .before .before .before .before .before .before .before .before .before .before .before .before .pre in
+    let made = c .before .before .before .before .before .before .before .encode .ensures in
+    let long = encoded-length _ _ (p .0) _ _ (p .1 .1) (sym (ap encodeAnswerNumber (c .before .before .before .enum-told .given .1)) ∙ made .number) in
+    (p .0 .card, encoded-cells _ _ (p .0) _ _ _ long (p .1 .1) (made .leaves) (p .1 .0))
 
 same-length : tie.Need-same-length
 same-length c = search needs
@@ -24,8 +37,26 @@ same-length-2 c = search needs
 
 returns : tie.Need-returns
 returns c =
+    let p = c .before .before .before .before .before .before .before .before .before .before .before .before .before .before .pre in
+    let why = c .before .before .before .before .before .why .given in
     answered-same
-    (card-written _ _ (c .before .before .before .before .before .before .before .before .before .before .before .before .before .pre .0) _ _ _ (c .before .before .before .before .before .before .before .before .before .before .before .before .before .pre .1 .1 .0) (c .before .before .before .before .before .before .before .before .before .before .before .before .before .pre .1 .1 .1) (c .before .before .before .before .before .before .before .before .encode .ensures .leaves) _ (c .before .before .before .before .before .classes .ensures))
+    (encoded-refused _ _ (p .0) _ _ (p .1 .1) (why .0 .0) (sym (ap encodeAnswerNumber (why .1)) ∙ c .before .before .before .before .before .before .before .before .before .encode .ensures .number))
+    (c .before .before .refuse .ensures)
+
+same-length-3 : tie.Need-same-length-3
+same-length-3 c = search needs
+
+same-length-4 : tie.Need-same-length-4
+same-length-4 c = search needs
+
+returns-2 : tie.Need-returns-2
+returns-2 c =
+    let p = c .before .before .before .before .before .before .before .before .before .before .before .before .before .before .before .pre in
+    let made = c .before .before .before .before .before .before .before .before .before .before .encode .ensures in
+    let none = sym (ap encodeAnswerNumber (c .before .before .before .before .before .before .enum-told .given .1)) ∙ made .number in
+    let long = encoded-length _ _ (p .0) _ _ (p .1 .1) none in
+    answered-same
+    (card-written _ _ (p .0) _ _ _ long (p .1 .1) (made .leaves) _ (c .before .before .before .before .before .classes .ensures) ∙ encoded-done _ _ (p .0) _ _ (p .1 .1) none)
     (c .before .before .reply-field .ensures)
 
 pub write-card-spec : {M : Type 1} → statement M
@@ -33,8 +64,14 @@ write-card-spec =
     tie.close
     (tie.spec
     encode-requires
+    enum-known-why
+    refuse-requires
+    enum-told
     classes-requires
     reply-field-requires
     same-length
     same-length-2
-    returns)
+    returns
+    same-length-3
+    same-length-4
+    returns-2)

@@ -44,7 +44,7 @@ enum-told c = search needs
 store-corrected-requires : tie.Need-store-corrected-requires
 store-corrected-requires c κs =
     let e = c .before .before in
-    (correct-taken _ _ (none e) .fits, e .before .before .correct-tests .ensures .1 .1 (ap testedNumber (e .enum-told .given .1)))
+    (correct-taken _ _ (none e), e .before .before .correct-tests .ensures .1 .1 (ap testedNumber (e .enum-told .given .1)))
 
 same-length-2 : tie.Need-same-length-2
 same-length-2 c = search needs

@@ -45,7 +45,7 @@ store-payload-requires : tie.Need-store-payload-requires
 store-payload-requires c κs =
     let e = c .before .before .before in
     let t = decode-taken _ _ _ (none e) in
-    (t .0 .fits, (e .before .before .decode-tests .ensures .1 .1 (ap testedNumber (e .enum-told .given .1)), (t .0 .cells, t .1)))
+    (t .0, (e .before .before .decode-tests .ensures .1 .1 (ap testedNumber (e .enum-told .given .1)), t .1))
 
 same-length-2 : tie.Need-same-length-2
 same-length-2 c = search needs

@@ -1,31 +1,25 @@
--- `cells_ok` meets its contract. The loop's invariant: the cells before i pass the test.
+-- `cells_ok` meets its contract. The loop's invariant: `most` tells whether the bytes before i are cells.
 use Prim.Native.Nat.{_-_, _≤_, zero-le}
 use native.Mathlib.Omega.{arith}
-use lib.ListN.{length}
-use Rattle.lattice.proofs.Bools.{failed, passed}
-use Rattle.codec.proofs.StepTest.{Passed, passed-none, passed-more, cellAt, cell-passes, cell-fails, cells-pass}
+use Rattle.codec.specs.Field.{fieldOf}
+use Rattle.codec.proofs.StepCells.{Tells, tells-none, tells-more, tells-all}
 use Rattle.codec.proofs.examine.cells_ok.Statement.{statement}
 use Rattle.codec.proofs.examine.cells_ok.Tie as tie
 
 abbrev Inv-loop : tie.InvT-loop
-Inv-loop field i₀ i = (i ≤ length field) × Passed (cellAt field) i
+Inv-loop field n most₀ i₀ most i = (i ≤ n) × Tells (fieldOf field) most i
 
 abbrev μ-loop : tie.MeasureT-loop
-μ-loop field i₀ i = length field - i
+μ-loop field n most₀ i₀ most i = n - i
 
 loop-holds : tie.Need-loop-holds Inv-loop μ-loop
-loop-holds c = (zero-le, passed-none _)
+loop-holds c = (zero-le, tells-none _)
 
-shared-slice-read-is-received : tie.Need-shared-slice-read-is-received Inv-loop μ-loop
-shared-slice-read-is-received c = omega arith
+cell-at-requires : tie.Need-cell-at-requires Inv-loop μ-loop
+cell-at-requires c κs = omega arith
 
-is-received-requires : tie.Need-is-received-requires Inv-loop μ-loop
-is-received-requires c κs = tt
-
-returns : tie.Need-returns Inv-loop μ-loop
-returns c =
-    let t = c .before .before .before in
-    cell-fails (t .before .before .before .args .field .now) _ (t .loop-test .taken) (failed _ _ (c .if1 .taken) (c .before .is-received .ensures))
+greater-requires : tie.Need-greater-requires Inv-loop μ-loop
+greater-requires c κs = tt
 
 add-i : tie.Need-add-i Inv-loop μ-loop
 add-i c = omega arith
@@ -35,14 +29,16 @@ loop-less c = omega arith
 
 loop-again : tie.Need-loop-again Inv-loop μ-loop
 loop-again c =
-    let t = c .before .before .before in (
-      omega arith,
-      passed-more _ _ (t .before .loop .inv .1)
-          (cell-passes (t .before .before .before .args .field .now) _ (passed _ _ (c .if1 .left) (c .before .is-received .ensures))),
-    )
+    let turn = c .before .before .before .loop in
+    (omega arith, tells-more _ _ _ _ _ (turn .inv .1) (c .before .cell-at .ensures) (c .greater .ensures))
 
-returns-2 : tie.Need-returns-2 Inv-loop μ-loop
-returns-2 c = cells-pass (c .before .before .before .args .field .now) _ (c .before .loop .inv .1) (c .before .loop .inv .0) (c .loop-test .left)
+is-received-requires : tie.Need-is-received-requires Inv-loop μ-loop
+is-received-requires c κs = tt
+
+returns : tie.Need-returns Inv-loop μ-loop
+returns c =
+    let end = c .before .before .loop in
+    tells-all _ _ _ _ _ (end .inv .1) (end .inv .0) (c .before .loop-test .left) (c .is-received .ensures)
 
 pub cells-ok-spec : {M : Type 1} → statement M
 cells-ok-spec =
@@ -51,10 +47,10 @@ cells-ok-spec =
     Inv-loop
     μ-loop
     loop-holds
-    shared-slice-read-is-received
-    is-received-requires
-    returns
+    cell-at-requires
+    greater-requires
     add-i
     loop-less
     loop-again
-    returns-2)
+    is-received-requires
+    returns)

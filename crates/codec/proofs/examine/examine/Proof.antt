@@ -1,113 +1,106 @@
 -- `examine` meets its contract.
 use mathlib.Core.Bool.{true}
-use mathlib.Core.Path.{_≡_, sym, _∙_}
-use native.Mathlib.Nat.{le-refl}
+use mathlib.Core.Path.{_≡_, sym, ap, _∙_}
+use native.Mathlib.Nat.{le-refl, le-of-eq}
 use native.Mathlib.Omega.{arith}
 use Rattle.lattice.specs.Shape.{cellsOf}
-use Rattle.lattice.proofs.Bools.{failed, passed}
 use Rattle.lattice.specs.Lines.{passOf}
+use Rattle.lattice.proofs.Bools.{failed, passed}
 use Rattle.lattice.proofs.LineSteps.{pass-accepted}
 use Rattle.lattice.proofs.SizesByLines.{classes-are, cells-are, most}
 use Rattle.codec.specs.Field.{fieldOf, cellsOk}
 use Rattle.codec.specs.Working.{Examined}
 use Rattle.codec.specs.Code.{fieldInReach}
-use Rattle.codec.proofs.CellValues.{received-cells}
-use Rattle.codec.proofs.FieldLists.{ok-received}
 use Rattle.codec.proofs.StepExamine.{cells-tested, number-cell, number-reach, number-padding, number-none}
 use Rattle.codec.proofs.StepReach.{all-reach}
 use Rattle.codec.proofs.examine.examine.Statement.{statement}
 use Rattle.codec.proofs.examine.examine.Tie as tie
 
--- the pass is the shape's own
-own : (c : tie.After-pass) → c .pass .result ≡ passOf (c .before .before .before .before .args .shape)
-own c = c .pass .ensures ∙ pass-accepted _ (c .before .before .before .before .pre .0 .accepted)
+-- the function's entry, from each test
+abbrev entry : tie.After-pass → tie.Start
+entry c = c .before .before
+
+-- the pass is the shape's own, and has the field's cells
+own : (c : tie.After-pass) → c .pass .result ≡ passOf (entry c .args .shape)
+own c = c .pass .ensures ∙ pass-accepted _ (entry c .pre .0 .accepted)
+
+all : (c : tie.After-pass) → c .pass .result .cells ≡ cellsOf (entry c .args .shape)
+all c = cells-are _ (entry c .pre .0 .accepted) _ (own c)
 
 examined : (c : tie.After-field-syndromes)
-    → Examined
-    (c .before .before .before .before .before .before .args .shape)
-    (c .before .before .before .before .before .before .args .field .now)
-    (c .before .before .before .before .before .before .args .sizes .now)
-    (c .field-syndromes .last .1 .1 .0)
+    → let e = entry (c .before .before .before .before) in
+    Examined (e .args .shape) (e .args .field .now) (e .args .sizes .now) (c .field-syndromes .last .1 .1 .0)
 examined c =
-    let e = c .before .before .before .before .before .before in
-    record { sized = e .pre .1 .0; held = c .field-syndromes .ensures (e .args .shape) (e .pre .0 .accepted) (own (c .before .before)) }
+    let e = entry (c .before .before .before .before) in
+    record { sized = e .pre .1 .0; held = c .field-syndromes .ensures (e .args .shape) (e .pre .0 .accepted) (own (c .before .before .before .before)) }
 
 cells : (c : tie.After-cells-ok)
-    → c .cells-ok .result ≡ cellsOk (fieldOf (c .before .before .args .field .now)) (cellsOf (c .before .before .args .shape))
-cells c = cells-tested _ (c .before .before .args .field .now) _ (c .before .before .pre .0) (c .cells-ok .ensures)
+    → let e = entry (c .before) in c .cells-ok .result ≡ cellsOk (fieldOf (e .args .field .now)) (cellsOf (e .args .shape))
+cells c = let e = entry (c .before) in c .cells-ok .ensures ∙ ap (cellsOk (fieldOf (e .args .field .now))) (all (c .before))
 
 reach : (c : tie.After-all-in-reach)
-    → c .all-in-reach .result ≡ fieldInReach (c .before .before .before .before .before .before .before .before .args .shape) (fieldOf (c .before .before .before .before .before .before .before .before .args .field .now))
+    → let e = entry (c .before .before .before .before .before .before) in c .all-in-reach .result ≡ fieldInReach (e .args .shape) (fieldOf (e .args .field .now))
 reach c =
-    let e = c .before .before .before .before .before .before .before .before in
+    let e = entry (c .before .before .before .before .before .before) in
     all-reach
     _
     (e .args .field .now)
     _ _ _ _
     (e .pre .0 .accepted)
     (examined (c .before .before))
-    (classes-are _ (e .pre .0 .accepted) _ (own (c .before .before .before .before)))
+    (classes-are _ (e .pre .0 .accepted) _ (own (c .before .before .before .before .before .before)))
     (c .all-in-reach .ensures)
 
-cells-hold : (c : tie.Else1) → cellsOk (fieldOf (c .before .before .before .args .field .now)) (cellsOf (c .before .before .before .args .shape)) ≡ true
+cells-hold : (c : tie.Else1)
+    → let e = entry (c .before .before) in cellsOk (fieldOf (e .args .field .now)) (cellsOf (e .args .shape)) ≡ true
 cells-hold c = passed _ _ (c .if1 .left) (cells (c .before))
 
-reach-holds : (c : tie.Else2) → fieldInReach (c .before .before .before .before .before .before .before .before .before .args .shape) (fieldOf (c .before .before .before .before .before .before .before .before .before .args .field .now)) ≡ true
+reach-holds : (c : tie.Else2)
+    → let e = entry (c .before .before .before .before .before .before .before) in fieldInReach (e .args .shape) (fieldOf (e .args .field .now)) ≡ true
 reach-holds c = passed _ _ (c .if2 .left) (reach (c .before))
-
-cells-ok-requires : tie.Need-cells-ok-requires
-cells-ok-requires c κs = tt
-
-returns : tie.Need-returns
-returns c = (number-cell _ _ (failed _ _ (c .if1 .taken) (cells (c .before))), λ z. absurd (omega arith))
 
 pass-requires : tie.Need-pass-requires
 pass-requires c κs = tt
 
+cells-ok-requires : tie.Need-cells-ok-requires
+cells-ok-requires c κs = le-of-eq (all c ∙ sym (entry c .pre .0 .long))
+
+returns : tie.Need-returns
+returns c = (number-cell _ _ (failed _ _ (c .if1 .taken) (cells (c .before))), λ z. absurd (omega arith))
+
 field-syndromes-requires : tie.Need-field-syndromes-requires
 field-syndromes-requires c κs =
-    let e = c .before .before .before .before .before in
-    let fits = e .pre .0 in
-    let all = passed _ _ (c .before .before .if1 .left) (c .before .before .before .cells-ok .ensures) in (
+    let e = entry (c .before .before .before) in
+    let fits = e .pre .0 in (
       (
-        record { shape = _; accepted = fits .accepted; same = own (c .before) },
-        fits .long ∙ sym (cells-are _ (fits .accepted) _ (own (c .before))),
+        record { shape = _; accepted = fits .accepted; same = own (c .before .before .before) },
+        fits .long ∙ sym (all (c .before .before .before)),
         rw (c .field-syndromes-arg .given .0 .1) (le-refl _),
       ),
-      (received-cells _ _ (ok-received _ _ all), e .pre .1 .1),
+      (cells-tested _ _ fits (cells-hold (c .before)), e .pre .1 .1),
     )
 
 all-in-reach-requires : tie.Need-all-in-reach-requires
-all-in-reach-requires c κs =
-    let e = c .before .before .before .before .before .before .before in
-    most _ (e .pre .0 .accepted) _ (own (c .before .before .before))
+all-in-reach-requires c κs = most _ (entry (c .before .before .before .before .before) .pre .0 .accepted) _ (own (c .before .before .before .before .before))
 
 returns-2 : tie.Need-returns-2
 returns-2 c = (
-  number-reach _ _ (cells-hold (c .before .before .before .before .before .before)) (failed _ _ (c .if2 .taken) (reach (c .before))),
+  number-reach _ _ (cells-hold (c .before .before .before .before .before)) (failed _ _ (c .if2 .taken) (reach (c .before))),
   λ z. absurd (omega arith),
 )
 
 padding-ok-requires : tie.Need-padding-ok-requires
-padding-ok-requires c κs = (c .before .before .before .before .before .before .before .before .before .before .pre .0, examined (c .before .before .before .before))
+padding-ok-requires c κs = (entry (c .before .before .before .before .before .before .before .before) .pre .0, examined (c .before .before .before .before))
 
 returns-3 : tie.Need-returns-3
 returns-3 c = (
-  number-padding
-      _ _
-      (cells-hold (c .before .before .before .before .before .before .before .before .before))
-      (reach-holds (c .before .before .before))
-      (failed _ _ (c .if3 .taken) (c .before .padding-ok .ensures)),
+  number-padding _ _ (cells-hold (c .before .before .before .before .before .before .before .before)) (reach-holds (c .before .before .before)) (failed _ _ (c .if3 .taken) (c .before .padding-ok .ensures)),
   λ z. absurd (omega arith),
 )
 
 returns-4 : tie.Need-returns-4
 returns-4 c = (
-  number-none
-      _ _
-      (cells-hold (c .before .before .before .before .before .before .before .before .before))
-      (reach-holds (c .before .before .before))
-      (passed _ _ (c .if3 .left) (c .before .padding-ok .ensures)),
+  number-none _ _ (cells-hold (c .before .before .before .before .before .before .before .before)) (reach-holds (c .before .before .before)) (passed _ _ (c .if3 .left) (c .before .padding-ok .ensures)),
   λ z. examined (c .before .before .before .before .before .before),
 )
 
@@ -115,9 +108,9 @@ pub examine-spec : {M : Type 1} → statement M
 examine-spec =
     tie.close
     (tie.spec
+    pass-requires
     cells-ok-requires
     returns
-    pass-requires
     field-syndromes-requires
     all-in-reach-requires
     returns-2

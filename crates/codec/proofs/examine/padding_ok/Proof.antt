@@ -1,135 +1,173 @@
--- `padding_ok` meets its contract. The loop's invariant: the counts and the rank are those of the cells before i, which pass the test.
-use Prim.Native.Nat.{_-_, _<_, _≤_, zero-le}
-use mathlib.Core.Path.{_≡_, sym, _∙_}
+-- `padding_ok` meets its contract. The loop's invariant: `behind` counts the cells from i on, the padding cells from i on
+-- pass the test, and `unseen` of the cells before i are padding.
+use Prim.Native.Nat.{_-_, _<_}
+use mathlib.Core.Path.{_≡_, refl}
 use native.Mathlib.Omega.{arith}
-use lib.ListN.{length}
 use borrow.Author.Tests.{not-true, not-false}
 use mir.Facts.{fits-lt, fits-lit}
 use Rattle.lattice.specs.Class.{layoutOf}
 use Rattle.lattice.specs.Position.{holdsData}
-use Rattle.lattice.specs.Shape.{maxCells}
+use Rattle.lattice.proofs.CapacityGiven.{classes-given}
+use Rattle.lattice.proofs.ClassAt.{at-cells}
 use Rattle.codec.specs.Decode.{correctedField}
-use Rattle.codec.specs.Working.{HoldsSizes, rankAt}
 use Rattle.codec.specs.Field.{fieldOf}
-use Rattle.codec.proofs.StepData.{data-is, rank-none, rank-more, rank-limit}
-use Rattle.codec.proofs.StepCorrected.{mended-is}
-use Rattle.codec.proofs.StepPadding.{right, right-is, bits-given, padding-passes, padding-fails}
-use Rattle.codec.proofs.StepPlace.{cell-below, cell-limit, counts-none, zeros}
-use Rattle.codec.proofs.StepTest.{Passed, passed-none, passed-more}
+use Rattle.codec.specs.Working.{HoldsRest, AtCellBack}
+use Rattle.codec.proofs.StepCorrected.{mended-at}
+use Rattle.codec.proofs.StepData.{data-at}
+use Rattle.codec.proofs.StepPadding.{PassedFrom, padding-start, padding-passes, left-some, padding-fails, padding-more}
+use Rattle.codec.proofs.StepPlace.{cell-limit, zeros}
+use Rattle.codec.proofs.StepPlaceBack.{rest-none, back-cell}
 use Rattle.codec.proofs.examine.padding_ok.Statement.{statement}
 use Rattle.codec.proofs.examine.padding_ok.Tie as tie
 
 abbrev Inv-loop : tie.InvT-loop
-Inv-loop shape field sizes syndromes placement bits counts₀ rank₀ i₀ counts rank i =
-    (i ≤ length field) × HoldsSizes (layoutOf shape) counts i × (rank ≡ rankAt shape i)
-    × Passed (right shape (correctedField shape (fieldOf field))) i
+Inv-loop shape field sizes syndromes placement behind₀ unseen₀ i₀ behind unseen i =
+    HoldsRest (layoutOf shape) behind i × PassedFrom (layoutOf shape) (correctedField shape (fieldOf field)) unseen i
 
 abbrev μ-loop : tie.MeasureT-loop
-μ-loop shape field sizes syndromes placement bits counts₀ rank₀ i₀ counts rank i = length field - i
+μ-loop shape field sizes syndromes placement behind₀ unseen₀ i₀ behind unseen i = i
 
-limit : (c : tie.In-loop Inv-loop μ-loop) → c .before .loop .i < maxCells
-limit c = cell-limit _ _ (c .before .before .before .before .before .pre .0 .long) _ (c .loop-test .taken) (c .before .before .before .before .before .pre .0 .accepted)
+-- where the placement is known, and the function's entry, from a turn of the loop
+abbrev placed : tie.At-loop Inv-loop μ-loop → tie.After-placement Inv-loop μ-loop
+placed c = c .before .before .before .before
 
--- the cell of a turn holds no check
+abbrev entry : tie.At-loop Inv-loop μ-loop → tie.Start Inv-loop μ-loop
+entry c = placed c .before .before
+
+-- a cell is left in each turn
+some : (c : tie.In-loop Inv-loop μ-loop) → 0 < c .before .loop .i
+some c = left-some _ _ _ _ (c .before .loop .inv .1) (c .loop-test .taken)
+
+-- the cell of a turn
+cell : (c : tie.In-loop Inv-loop μ-loop)
+    → let turn = c .before .loop in
+    let start = entry (c .before) in
+    AtCellBack (start .args .shape) (placed (c .before) .placement .result) (start .args .sizes .now) (turn .behind) (turn .i - 1)
+cell c =
+    let turn = c .before .loop in
+    let start = entry (c .before) in
+    back-cell
+    _ _ _ _ _
+    (start .pre .0 .accepted)
+    (placed (c .before) .placement .ensures)
+    (start .pre .1 .sized)
+    (turn .inv .0)
+    (some c)
+    (turn .inv .1 .within)
+
+-- it holds no check
 held : (c : tie.After-holds-data Inv-loop μ-loop)
-    → c .holds-data .result
-    ≡ holdsData (layoutOf (c .before .before .before .before .before .before .before .before .args .shape)) (c .before .before .before .before .loop .i)
-held c = data-is _ _ (c .before .before .before .before .before .before .before .before .pre .1 .sized) _ _ _ _ (c .before .place-of .ensures) _ (c .holds-data .ensures)
+    → let turn = c .before .before .before .before in
+    c .holds-data .result ≡ holdsData (layoutOf (entry turn .args .shape)) (turn .loop .i - 1)
+held c =
+    let sized = entry (c .before .before .before .before) .pre .1 .sized in
+    data-at _ _ sized _ _ _ (c .before .place-back .ensures .0) _ (c .holds-data .ensures)
 
--- the test of a turn
-tested : (c : tie.After-is-right Inv-loop μ-loop)
-    → c .is-right .result ≡ right (c .before .before .before .before .before .before .before .before .before .before .before .args .shape) (correctedField (c .before .before .before .before .before .before .before .before .before .before .before .args .shape) (fieldOf (c .before .before .before .before .before .before .before .before .before .before .before .args .field .now))) (c .before .before .before .before .before .before .before .loop .i)
-tested c =
-    right-is
-    _ _ _ _ _ _ _ _
-    (held (c .before .before .before))
-    (c .before .before .before .before .before .before .before .loop .inv .2)
-    (bits-given
+-- its value after correction
+value : (c : tie.After-corrected-value Inv-loop μ-loop)
+    → let turn = c .before .before .before .before .before .before in
+    c .corrected-value .result
+    ≡ correctedField (entry turn .args .shape) (fieldOf (entry turn .args .field .now)) (turn .loop .i - 1)
+value c =
+    let start = entry (c .before .before .before .before .before .before) in
+    mended-at
     _
-    (c .before .before .before .before .before .before .before .before .before .before .before .args .sizes .now)
+    (start .args .field .now)
     _
-    (c .before .before .before .before .before .before .before .before .before .before .before .pre .0 .accepted)
-    (c .before .before .before .before .before .before .before .before .before .before .before .pre .1 .sized)
-    (c .before .before .before .before .before .before .before .before .data-in .ensures))
-    (mended-is
+    (start .pre .1 .held)
+    _ _ _
+    (c .before .before .before .place-back .ensures .0)
     _
-    (c .before .before .before .before .before .before .before .before .before .before .before .args .field .now)
-    _
-    (c .before .before .before .before .before .before .before .before .before .before .before .pre .1 .held)
-    _ _ _ _
-    (c .before .before .before .before .place-of .ensures)
-    _
-    (c .before .corrected-value .ensures))
-    (c .is-right .ensures)
+    (rw (c .before .cell-at .ensures) at (c .corrected-value .ensures))
 
 placement-requires : tie.Need-placement-requires Inv-loop μ-loop
 placement-requires c κs = tt
 
+classes-requires : tie.Need-classes-requires Inv-loop μ-loop
+classes-requires c κs = tt
+
 data-in-requires : tie.Need-data-in-requires Inv-loop μ-loop
 data-in-requires c κs = tt
 
-mul-bits : tie.Need-mul-bits Inv-loop μ-loop
-mul-bits c = omega arith
+cells-requires : tie.Need-cells-requires Inv-loop μ-loop
+cells-requires c κs = tt
 
 loop-holds : tie.Need-loop-holds Inv-loop μ-loop
-loop-holds c = (zero-le, counts-none _ _ zeros, rank-none _, passed-none _)
+loop-holds c =
+    let start = c .before .before .before .before .before in
+    let accepted = start .pre .0 .accepted in
+    let sized = start .pre .1 .sized in
+    let own = c .before .before .classes .ensures in
+    let all = at-cells _ accepted _ (c .cells .ensures) in
+    let amount = c .before .data-in .ensures (rw own (classes-given _)) in
+    (rest-none _ _ _ zeros all, padding-start _ _ (start .args .sizes .now) _ _ accepted sized _ own amount all)
 
-cast-place-of : tie.Need-cast-place-of Inv-loop μ-loop
-cast-place-of c = fits-lt (limit (c .before)) (fits-lit tt)
+sub-i : tie.Need-sub-i Inv-loop μ-loop
+sub-i c = some c
 
-place-of-requires : tie.Need-place-of-requires Inv-loop μ-loop
-place-of-requires c κs =
-    record {
-      accepted = c .before .before .before .before .before .before .pre .0 .accepted;
-      placement = c .before .before .before .before .placement .ensures;
-      below = cell-below (c .before .before .before .before .before .before .args .shape) _ (c .before .before .before .before .before .before .pre .0 .long) _ (c .before .loop-test .taken);
-      counted = c .before .before .loop .inv .1;
-    }
+cast-place-back : tie.Need-cast-place-back Inv-loop μ-loop
+cast-place-back c =
+    let at = cell (c .before) in
+    fits-lt (cell-limit _ _ refl _ (at .below) (at .accepted)) (fits-lit tt)
+
+place-back-requires : tie.Need-place-back-requires Inv-loop μ-loop
+place-back-requires c κs = cell (c .before)
 
 holds-data-requires : tie.Need-holds-data-requires Inv-loop μ-loop
-holds-data-requires c κs = c .place-of .ensures .below
+holds-data-requires c κs = c .place-back .ensures .0 .below
 
-shared-slice-read-corrected-value : tie.Need-shared-slice-read-corrected-value Inv-loop μ-loop
-shared-slice-read-corrected-value c = omega arith
+cell-at-requires : tie.Need-cell-at-requires Inv-loop μ-loop
+cell-at-requires c κs =
+    let turn = c .before .before .before in
+    rw (entry (turn .before) .pre .0 .long) (cell turn .below)
 
 corrected-value-requires : tie.Need-corrected-value-requires Inv-loop μ-loop
 corrected-value-requires c κs = tt
+
+sub-is-right : tie.Need-sub-is-right Inv-loop μ-loop
+sub-is-right c = c .before .before .before .before .before .loop-test .taken
 
 is-right-requires : tie.Need-is-right-requires Inv-loop μ-loop
 is-right-requires c κs = tt
 
 returns : tie.Need-returns Inv-loop μ-loop
 returns c =
+    let turn = c .before .before .before .before .before .before .before in
     padding-fails
+    _ _ _ _
+    (turn .before .loop .inv .1)
+    (turn .loop-test .taken)
     _ _ _
-    (cell-below (c .before .before .before .before .before .before .before .before .before .before .before .before .args .shape) _ (c .before .before .before .before .before .before .before .before .before .before .before .before .pre .0 .long) _ (c .before .before .before .before .before .before .before .loop-test .taken))
-    (sym (tested (c .before)) ∙ not-true _ (c .if1 .taken))
+    (held (c .before .before .before .before))
+    (value (c .before .before))
+    (c .before .is-right .ensures)
+    (not-true _ (c .if1 .taken))
 
-count-if-requires : tie.Need-count-if-requires Inv-loop μ-loop
-count-if-requires c κs = rank-limit _ _ _ (limit (c .before .before .before .before .before .before .before)) (c .before .before .before .before .before .before .before .before .loop .inv .2)
-
-add-i : tie.Need-add-i Inv-loop μ-loop
-add-i c = omega arith
+less-if-requires : tie.Need-less-if-requires Inv-loop μ-loop
+less-if-requires c κs = c .before .before .before .before .before .before .before .loop-test .taken
 
 loop-less : tie.Need-loop-less Inv-loop μ-loop
-loop-less c = omega arith
+loop-less c = omega (arith, some (c .before .before .before .before .before .before .before .before))
 
 loop-again : tie.Need-loop-again Inv-loop μ-loop
-loop-again c = (
-  omega arith,
-  c .before .before .before .before .before .before .place-of .ensures .counted,
-  rank-more _ _ _ _ _ (c .before .before .before .before .before .before .before .before .before .loop .inv .2) (held (c .before .before .before .before .before)) (c .count-if .ensures),
-  passed-more _ _ (c .before .before .before .before .before .before .before .before .before .loop .inv .3) (sym (tested (c .before .before)) ∙ not-false _ (c .before .if1 .left)),
-)
+loop-again c =
+    let turn = c .before .before .before .before .before .before .before .before in (
+      c .before .before .before .before .before .before .place-back .ensures .1,
+      padding-more
+          _ _ _ _
+          (turn .before .loop .inv .1)
+          (turn .loop-test .taken)
+          _ _ _
+          (held (c .before .before .before .before .before))
+          (value (c .before .before .before))
+          (c .before .before .is-right .ensures)
+          (not-false _ (c .before .if1 .left))
+          _
+          (c .less-if .ensures),
+    )
 
 returns-2 : tie.Need-returns-2 Inv-loop μ-loop
-returns-2 c =
-    padding-passes
-    _ _ _ _
-    (c .before .before .before .before .before .pre .0 .long)
-    (c .before .loop .inv .3)
-    (c .before .loop .inv .0)
-    (c .loop-test .left)
+returns-2 c = padding-passes _ _ _ _ (c .before .loop .inv .1) (c .loop-test .left)
 
 pub padding-ok-spec : {M : Type 1} → statement M
 padding-ok-spec =
@@ -138,18 +176,20 @@ padding-ok-spec =
     Inv-loop
     μ-loop
     placement-requires
+    classes-requires
     data-in-requires
-    mul-bits
+    cells-requires
     loop-holds
-    cast-place-of
-    place-of-requires
+    sub-i
+    cast-place-back
+    place-back-requires
     holds-data-requires
-    shared-slice-read-corrected-value
+    cell-at-requires
     corrected-value-requires
+    sub-is-right
     is-right-requires
     returns
-    count-if-requires
-    add-i
+    less-if-requires
     loop-less
     loop-again
     returns-2)

@@ -8,6 +8,7 @@ use Rattle.lattice.specs.declared.refusal.Refusal.the-variants as why
 use Rattle.lattice.specs.Shape.{Accepted, cellsOf}
 use Rattle.lattice.specs.Class.{layoutOf}
 use Rattle.lattice.proofs.Answers.{told, told-none, some-number, other-reason, passed-reason, length-outside}
+use Rattle.lattice.proofs.CapacityGiven.{classes-given}
 use Rattle.lattice.proofs.Limits.{number-other}
 use Rattle.codec.specs.Plan.{planBytes}
 use Rattle.codec.specs.Working.{HoldsSizes}
@@ -25,10 +26,12 @@ module _ (c : tie.After-class-sizes) where
   sized : HoldsSizes (layoutOf (c .before .before .before .before .before .before .before .args .shape)) (c .class-sizes .last .1 .0) (cellsOf (c .before .before .before .before .before .before .before .args .shape))
   sized = sizes-given _ _ _ accepted (c .class-sizes .ensures)
 
-planned : (c : tie.After-data-in) → c .data-in .result / 8 ≡ planBytes (c .before .before .before .before .before .before .before .before .before .args .shape)
-planned c = bytes-given _ _ _ (accepted (c .before .before)) (sized (c .before .before)) (c .data-in .ensures)
+planned : (c : tie.After-data-in) → c .data-in .result / 8 ≡ planBytes (c .before .before .before .before .before .before .before .before .before .before .args .shape)
+planned c =
+    let own = c .before .classes .ensures in
+    bytes-given _ _ _ _ (accepted (c .before .before .before)) (sized (c .before .before .before)) own (c .data-in .ensures (rw own (classes-given _)))
 
-bytes : (c : tie.Else1) → length (c .before .before .before .before .before .before .before .before .before .before .args .payload .now) ≡ planBytes (c .before .before .before .before .before .before .before .before .before .before .args .shape)
+bytes : (c : tie.Else1) → length (c .before .before .before .before .before .before .before .before .before .before .before .args .payload .now) ≡ planBytes (c .before .before .before .before .before .before .before .before .before .before .before .args .shape)
 bytes c = c .if1 .left ∙ planned (c .before)
 
 tests-requires : tie.Need-tests-requires
@@ -49,12 +52,15 @@ enum-told c = search needs
 class-sizes-requires : tie.Need-class-sizes-requires
 class-sizes-requires c κs = search needs
 
+classes-requires : tie.Need-classes-requires
+classes-requires c κs = search needs
+
 data-in-requires : tie.Need-data-in-requires
 data-in-requires c κs = search needs
 
 returns-2 : tie.Need-returns-2
 returns-2 c = (
-  sym (payload-number _ _ _ (accepted (c .before .before .before)) (λ e. c .if1 .taken (e ∙ sym (planned (c .before))))),
+  sym (payload-number _ _ _ (accepted (c .before .before .before .before)) (λ e. c .if1 .taken (e ∙ sym (planned (c .before))))),
   (other-reason refl why.OutsideShape (λ e. omega arith), λ z. absurd (omega arith)),
 )
 
@@ -65,7 +71,7 @@ returns-3 : tie.Need-returns-3
 returns-3 c =
     let e = c .before .before in (
       sym
-          (field-number _ _ _ (accepted (e .before .before .before)) (bytes e)
+          (field-number _ _ _ (accepted (e .before .before .before .before)) (bytes e)
           (λ z. c .if2 .taken (z ∙ sym (cells-given _ _ (c .before .cells .ensures))))),
       (length-outside, λ z. absurd (omega arith)),
     )
@@ -73,7 +79,7 @@ returns-3 c =
 returns-4 : tie.Need-returns-4
 returns-4 c =
     let e = c .before .before in
-    let k = e .before .before .before in
+    let k = e .before .before .before .before in
     let cells = c .if2 .left ∙ cells-given _ _ (c .before .cells .ensures) in (
       sym (fit-number _ _ _ (accepted k) (bytes e) cells),
       (
@@ -94,6 +100,7 @@ length-tests-spec =
     returns
     enum-told
     class-sizes-requires
+    classes-requires
     data-in-requires
     returns-2
     cells-requires

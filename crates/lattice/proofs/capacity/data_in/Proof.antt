@@ -1,20 +1,23 @@
 -- `data_in` meets its contract. The loop's invariant: the sum is that of the data cells of the classes before a.
 use Prim.Native.Nat.{_*_, _≤_, _-_, zero-le}
 use mathlib.Core.Path.{_≡_, refl, ap, _∙_}
+use native.Mathlib.Nat.{le-antisymm}
 use native.Mathlib.Omega.{arith}
 use lib.ListN.{getD}
 use Rattle.lattice.specs.Position.{sumBelow, dataCells, dataIn}
-use Rattle.lattice.specs.Shape.{maxClasses}
 use Rattle.lattice.proofs.Counting.{sum-more}
 use Rattle.lattice.proofs.capacity.data_in.Statement.{statement}
 use Rattle.lattice.proofs.capacity.data_in.Tie as tie
 
 abbrev Inv-loop : tie.InvT-loop
-Inv-loop sizes sum₀ a₀ sum a =
-    (a ≤ maxClasses) × (sum ≤ 4294967295 * a) × (sum ≡ sumBelow (λ b. dataCells (getD sizes b 0)) a)
+Inv-loop sizes classes sum₀ a₀ sum a =
+    (a ≤ classes) × (sum ≤ 4294967295 * a) × (sum ≡ sumBelow (λ b. dataCells (getD sizes b 0)) a)
 
 abbrev μ-loop : tie.MeasureT-loop
-μ-loop sizes sum₀ a₀ sum a = maxClasses - a
+μ-loop sizes classes sum₀ a₀ sum a = classes - a
+
+returns : tie.Need-returns Inv-loop μ-loop
+returns c = λ few. absurd (omega arith)
 
 loop-holds : tie.Need-loop-holds Inv-loop μ-loop
 loop-holds c = (zero-le, zero-le, refl)
@@ -41,23 +44,21 @@ loop-less : tie.Need-loop-less Inv-loop μ-loop
 loop-less c = omega arith
 
 loop-again : tie.Need-loop-again Inv-loop μ-loop
-loop-again c = (
-  omega arith,
-  omega arith,
-  sum-more
-      (λ b. dataCells (getD (c .before .before .before .before .args .sizes .now) b 0))
-      (c .before .before .before .loop .a)
-      (c .before .before .before .loop .sum)
-      (c .data-cells .result)
-      (c .before .before .before .loop .inv .2)
-      (c .data-cells .ensures),
-)
+loop-again c =
+    let turn = c .before .before .before .loop in (
+      omega arith,
+      omega arith,
+      sum-more (λ b. dataCells (getD (c .before .before .before .before .before .args .sizes .now) b 0)) (turn .a) (turn .sum) (c .data-cells .result) (turn .inv .2)
+          (c .data-cells .ensures),
+    )
 
-returns : tie.Need-returns Inv-loop μ-loop
+returns-2 : tie.Need-returns-2 Inv-loop μ-loop
 unfolding dataIn
-returns c =
-    let a : c .before .loop .a ≡ maxClasses = omega arith in
-    c .before .loop .inv .2 ∙ ap (sumBelow (λ b. dataCells (getD (c .before .before .args .sizes .now) b 0))) a
+returns-2 c =
+    let turn = c .before .loop in
+    λ few.
+    turn .inv .2
+    ∙ ap (sumBelow (λ b. dataCells (getD (c .before .before .before .args .sizes .now) b 0))) (le-antisymm (turn .inv .0) (c .loop-test .left))
 
 pub data-in-spec : {M : Type 1} → statement M
 data-in-spec =
@@ -65,6 +66,7 @@ data-in-spec =
     (tie.spec
     Inv-loop
     μ-loop
+    returns
     loop-holds
     mul-data-cells
     element-copy-out-data-cells
@@ -74,4 +76,4 @@ data-in-spec =
     add-a
     loop-less
     loop-again
-    returns)
+    returns-2)

@@ -1,21 +1,25 @@
 -- `Shape::capacity` meets its contract.
 use mathlib.Core.Path.{_∙_}
-use lib.ListN.{replicate, getD-replicate}
-use Rattle.lattice.proofs.CapacityGiven.{capacity-given}
+use lib.ListN.{replicate}
+use Rattle.lattice.specs.Shape.{maxClasses}
+use Rattle.lattice.proofs.CapacityGiven.{classes-given, capacity-given}
 use Rattle.lattice.proofs.shape.Shape.capacity.Statement.{statement}
 use Rattle.lattice.proofs.shape.Shape.capacity.Tie as tie
-use Rattle.lattice.specs.Shape.{maxClasses}
 
 class-sizes-requires : tie.Need-class-sizes-requires
 class-sizes-requires c κs = tt
+
+classes-requires : tie.Need-classes-requires
+classes-requires c κs = tt
 
 data-in-requires : tie.Need-data-in-requires
 data-in-requires c κs = tt
 
 returns : tie.Need-returns
 returns c =
-    c .data-in .ensures
-    ∙ capacity-given _ (replicate maxClasses 0) (c .before .before .class-sizes .last .1 .0) (λ a l. getD-replicate maxClasses a 0 0 l) (c .before .before .class-sizes .ensures)
+    let s = c .before .before .before .before .before .args .self in
+    c .data-in .ensures (rw (c .before .classes .ensures) (classes-given s))
+    ∙ capacity-given s (replicate maxClasses 0) (c .before .before .before .class-sizes .last .1 .0) _ (c .before .before .before .class-sizes .ensures) (c .before .classes .ensures)
 
 pub capacity-spec : {M : Type 1} → statement M
-capacity-spec = tie.close (tie.spec class-sizes-requires data-in-requires returns)
+capacity-spec = tie.close (tie.spec class-sizes-requires classes-requires data-in-requires returns)

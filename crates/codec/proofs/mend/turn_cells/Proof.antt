@@ -1,0 +1,83 @@
+-- `turn_cells` meets its contract. The loop's invariant: the classes below a are mended.
+use Prim.Native.Nat.{ℕ, _-_, _≤_, zero-le}
+use mathlib.Core.Path.{_≡_, refl, ap, _∙_}
+use native.Mathlib.Nat.{le-antisymm}
+use native.Mathlib.Omega.{arith}
+use lib.ListN.{length}
+use borrow.Author.Needs.{needs}
+use Rattle.lattice.specs.Position.{Layout}
+use Rattle.codec.specs.Field.{fieldOf, Same}
+use Rattle.codec.specs.Packing.{turnedAt, mendedTo, Damaged}
+use Rattle.codec.proofs.DamagedCells.{turned-same, mended-none, mended-more}
+use Rattle.codec.proofs.mend.turn_cells.Statement.{statement}
+use Rattle.codec.proofs.mend.turn_cells.Tie as tie
+
+abbrev Inv-loop : tie.InvT-loop
+Inv-loop m damaged field₀ a₀ field a =
+    (a ≤ m) × (length field ≡ length field₀)
+    × ((L : Layout) → L .cells ≡ length field₀ → Damaged L m (fieldOf field₀) damaged
+    → Same (fieldOf field) (mendedTo L (fieldOf field₀) a) (length field₀))
+
+abbrev μ-loop : tie.MeasureT-loop
+μ-loop m damaged field₀ a₀ field a = m - a
+
+loop-holds : tie.Need-loop-holds Inv-loop μ-loop
+loop-holds c = (zero-le, refl, λ L same damaged. mended-none L _ _)
+
+mul-wide-32 : tie.Need-mul-wide-32 Inv-loop μ-loop
+mul-wide-32 c = search needs
+
+element-copy-out-wide-32 : tie.Need-element-copy-out-wide-32 Inv-loop μ-loop
+element-copy-out-wide-32 c = search needs
+
+wide-32-requires : tie.Need-wide-32-requires Inv-loop μ-loop
+wide-32-requires c κs = tt
+
+turn-cell-requires : tie.Need-turn-cell-requires Inv-loop μ-loop
+turn-cell-requires c κs = search needs
+
+add-a : tie.Need-add-a Inv-loop μ-loop
+add-a c = search needs
+
+loop-less : tie.Need-loop-less Inv-loop μ-loop
+loop-less c = omega arith
+
+loop-again : tie.Need-loop-again Inv-loop μ-loop
+loop-again c =
+    let turn = c .before .before .before .before .before .before .before .loop in
+    let one = c .before .before .turn-cell in (
+      omega arith,
+      one .kept .0 ∙ turn .inv .1,
+      λ L same damaged i l.
+          one .ensures i (omega (arith, turn .inv .1))
+          ∙ ap (λ (x : ℕ). turnedAt (fieldOf (turn .field)) x i) (c .before .before .before .wide-32 .ensures)
+          ∙ turned-same _ _ _ _ (turn .inv .2 L same damaged) i l
+          ∙ mended-more L _ _ _ damaged (turn .a) (c .before .before .before .before .before .before .loop-test .taken) i (omega arith),
+    )
+
+same-length : tie.Need-same-length Inv-loop μ-loop
+same-length c = c .before .loop .inv .1
+
+returns : tie.Need-returns Inv-loop μ-loop
+returns c =
+    let turn = c .before .loop in
+    let f = fieldOf (c .before .before .before .args .field .now) in
+    λ L same damaged i l.
+    turn .inv .2 L same damaged i l ∙ ap (λ (a : ℕ). mendedTo L f a i) (le-antisymm (turn .inv .0) (c .loop-test .left))
+
+pub turn-cells-spec : {M : Type 1} → statement M
+turn-cells-spec =
+    tie.close
+    (tie.spec
+    Inv-loop
+    μ-loop
+    loop-holds
+    mul-wide-32
+    element-copy-out-wide-32
+    wide-32-requires
+    turn-cell-requires
+    add-a
+    loop-less
+    loop-again
+    same-length
+    returns)
