@@ -1,7 +1,8 @@
 //! Varmintfoil: a payload in a field of black and white cells that outlives any one hole of at most t connected cells.
 //!
-//! The codec itself is proved and lies in the static library that `rt staticlib varmintfoil` writes at the repository's root; this is
-//! a safe wrapper over it. Nothing handed to it can upset it: each operation succeeds or gives its first listed [`Refusal`].
+//! The codec itself is proved and lies in the static library that `rt staticlib varmintfoil` writes at the repository's root;
+//! this is a safe wrapper over it. Nothing handed to it can upset it: each operation succeeds or gives its first listed
+//! [`Refusal`].
 //!
 #![cfg_attr(feature = "archive", doc = "```")]
 #![cfg_attr(not(feature = "archive"), doc = "```ignore")]
@@ -24,8 +25,8 @@
 //! # Ok::<(), Refusal>(())
 //! ```
 //!
-//! Beside the wrapper stand [`reference`], a reference implementation that the tests compare it with, and [`plain`], the baseline of the
-//! benchmark.
+//! Beside the wrapper stand [`reference`], a reference implementation that the tests compare it with, and two that the benchmark
+//! does: [`same`], the library's own text as Rust, and [`plain`], the fastest plain Rust.
 
 #![deny(unsafe_code)]
 
@@ -35,6 +36,7 @@ pub mod ffi;
 pub mod plain;
 pub mod reference;
 mod refusal;
+pub mod same;
 #[cfg(feature = "archive")]
 mod wrapper;
 

@@ -86,9 +86,9 @@ impl Codec for Wrapper {
 fn plans() {
     let mut random = Random::new(1);
     let mut tally = Tally::default();
-    let large = large_shapes();
+    let listed: Vec<Numbers> = large_shapes().into_iter().chain(edges::edge_shapes()).collect();
     for round in 0..TIMES {
-        let shape = if round < large.len() { large[round] } else { any_shape(&mut random) };
+        let shape = if round < listed.len() { listed[round] } else { any_shape(&mut random) };
         let answer = shape.plan();
         let figures = ffi::plan(numbers(&shape));
         let expected = match answer {
@@ -157,6 +157,11 @@ fn large_fields() {
 #[test]
 fn long_classes() {
     compare_long_classes::<Proved>();
+}
+
+#[test]
+fn edges_of_the_classes() {
+    edges::compare_edges::<Proved>(2);
 }
 
 #[test]

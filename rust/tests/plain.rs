@@ -64,6 +64,11 @@ fn long_classes() {
 }
 
 #[test]
+fn edges_of_the_classes() {
+    edges::compare_edges::<Plain>(1);
+}
+
+#[test]
 fn clusters_are_undone() {
     undo_clusters::<Plain>(10_000);
     undo_clusters::<Reference>(10_000);

@@ -2,6 +2,8 @@
 
 #![allow(dead_code)]
 
+pub mod edges;
+
 use varmintfoil::reference;
 
 /// A xorshift generator.

@@ -1,6 +1,7 @@
 // Flat shapes, stacks and refused shapes.
-ghost use Prim.Native.Nat.{_<_};
+ghost use Prim.Native.Nat.{_+_, _<_, _≤_};
 use crate::cases::random;
+use crate::second::settings;
 use lattice::shape::Shape;
 
 fn shape_of(columns: u16, rows: u16, planes: u16, strength: u16) -> Shape {
@@ -19,7 +20,11 @@ const STACKS: usize = 64;
 
 const ODD: usize = 20;
 
-pub(crate) const SHAPES: usize = FLAT + STACKS + ODD;
+const FLAT_EDGES: usize = 192;
+
+const STACK_EDGES: usize = 48;
+
+pub(crate) const SHAPES: usize = FLAT + STACKS + ODD + FLAT_EDGES + STACK_EDGES;
 
 // Case k of the flat shapes: each strength from 1 to 32, each with a small, a middling and a large field.
 fn flat(k: usize) -> Shape
@@ -98,13 +103,70 @@ fn odd(k: usize) -> Shape {
     }
 }
 
-// Shape k: the flat ones, the stacks, and the odd ones.
-pub(crate) fn shape(k: usize) -> Shape {
+// A side of about x cells.
+fn side(x: u64) -> u16
+    ensures { λ r. ⌜ (0 < r) × (r ≤ 256) ⌝ }
+{
+    if x == 0 {
+        1
+    } else if x <= 256 {
+        x as u16
+    } else {
+        256
+    }
+}
+
+// As many rows as a small field has room for.
+fn rows_beside(columns: u16, planes: u16) -> u16 {
+    let line = settings::times(columns, planes);
+    if line == 0 {
+        return 1;
+    }
+    side(512 / line)
+}
+
+// Shape `kind` at the edges of the classes: one column, one row, and one column less than classes, as many, and one above a
+// multiple of them.
+fn edge(kind: usize, planes: u16, strength: u16) -> Shape {
+    let m = settings::settings_of(shape_of(1, 1, planes, strength)).m as u64;
+    let columns = match kind {
+        0 => 1,
+        1 => side(2 * m + 1),
+        2 => if 1 < m { side(m - 1) } else { 2 },
+        3 => side(m),
+        4 => side(m + 1),
+        _ => side(2 * m + 1),
+    };
+    let rows = if kind == 1 {
+        1
+    } else {
+        rows_beside(columns, planes)
+    };
+    shape_of(columns, rows, planes, strength)
+}
+
+// Case k of the edges: each strength from 1 to 32 in one plane, then each from 1 to 8 in two planes or three.
+fn edge_case(k: usize) -> Shape
+    requires { do ⌜ k < (← ⟦FLAT_EDGES⟧) + (← ⟦STACK_EDGES⟧) ⌝ }
+{
+    if k < FLAT_EDGES {
+        return edge(k % 6, 1, (k / 6 + 1) as u16);
+    }
+    let j = k - FLAT_EDGES;
+    edge(j % 6, (2 + j % 2) as u16, (j / 6 + 1) as u16)
+}
+
+// Shape k: the flat ones, the stacks, the odd ones, and those at the edges of the classes.
+pub(crate) fn shape(k: usize) -> Shape
+    requires { do ⌜ k < (← ⟦SHAPES⟧) ⌝ }
+{
     if k < FLAT {
         flat(k)
     } else if k < FLAT + STACKS {
         stack(k - FLAT)
-    } else {
+    } else if k < FLAT + STACKS + ODD {
         odd(k - FLAT - STACKS)
+    } else {
+        edge_case(k - FLAT - STACKS - ODD)
     }
 }

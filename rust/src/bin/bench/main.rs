@@ -1,0 +1,106 @@
+//! The benchmark: encode, decode and correct of the proved library, of its text as Rust, of the fastest plain Rust and of
+//! liquid-dsp, and a copy of the cells, all in one run and by turns. Each figure is a median; decode and correct get a field
+//! with a hole of t cells.
+
+mod contest;
+mod liquid;
+mod program;
+mod turns;
+
+use contest::{Card, Each};
+use turns::Standing;
+
+/// Columns, rows, planes and strength of the fields measured.
+const FIELDS: [[usize; 4]; 8] = [
+    [256, 256, 1, 3],
+    [256, 256, 1, 8],
+    [256, 256, 1, 16],
+    [256, 256, 1, 32],
+    [64, 64, 16, 6],
+    [128, 128, 1, 8],
+    [32, 32, 1, 3],
+    [16, 16, 4, 4],
+];
+
+/// The strength of the growth table.
+const GROWTH: usize = 8;
+
+fn name([w, h, d, _]: [usize; 4]) -> String {
+    if d == 1 {
+        format!("{w} x {h}")
+    } else {
+        format!("{w} x {h} x {d}")
+    }
+}
+
+/// A figure, or a dash where there is none.
+fn figure(value: Option<f64>, width: usize, digits: usize) -> String {
+    value.map_or(format!("{:>width$}", "-"), |value| format!("{value:>width$.digits$}"))
+}
+
+/// One row: nanoseconds for each byte of payload, then the proved library's time divided by each other's.
+fn print_row(field: [usize; 4], operation: &str, bytes: usize, standings: Each<Option<Standing>>) {
+    print!("{:<13} {:>2} {operation:<8}", name(field), field[3]);
+    for standing in &standings {
+        print!("{}", figure(standing.map(|standing| standing.time / bytes as f64), 8, 2));
+    }
+    print!(" |");
+    for standing in &standings[1..] {
+        print!("{}", figure(standing.map(|standing| standing.ratio), 8, 2));
+    }
+    println!();
+}
+
+fn print_fields() {
+    println!("{:<13} {:>2} {:<8}{:>40} |{:>32}", "field", "t", "", "nanoseconds for a byte of payload", "proved /");
+    println!(
+        "{:<13} {:>2} {:<8}{:>8}{:>8}{:>8}{:>8}{:>8} |{:>8}{:>8}{:>8}{:>8}",
+        "", "", "", "proved", "same", "plain", "liquid", "copy", "same", "plain", "liquid", "copy"
+    );
+    for field in FIELDS {
+        let [w, h, d, t] = field;
+        let card = Card::new(w, h, d, t);
+        for (operation, standings) in card.operations() {
+            print_row(field, operation, card.shape.payload_bytes(), standings);
+        }
+    }
+}
+
+fn print_growth() {
+    println!(
+        "Growth at t = {GROWTH}, proved: microseconds for a call, and the factor for four times the cells, where 4 is linear:"
+    );
+    println!("{:<10} {:>9} {:>7} {:>9} {:>7} {:>9} {:>7}", "field", "encode", "", "decode", "", "correct", "");
+    let mut all: Vec<[f64; 3]> = Vec::new();
+    for side in [32, 64, 128, 256] {
+        let times = Card::new(side, side, 1, GROWTH).operations().map(|(_, standings)| standings[0].unwrap().time);
+        print!("{:<10}", format!("{side} x {side}"));
+        for (i, time) in times.iter().enumerate() {
+            let factor = all.last().map(|before| time / before[i]);
+            print!(" {:>9.2} {}", time / 1000.0, factor.map_or(format!("{:>7}", ""), |factor| figure(Some(factor), 7, 2)));
+        }
+        println!();
+        all.push(times);
+    }
+    print!("{:<10}", "in all");
+    for (first, last) in all[0].iter().zip(all[all.len() - 1]) {
+        print!(" {:>9} {:>7.1}", "", last / first);
+    }
+    println!("   (64 times the cells)");
+}
+
+fn main() {
+    println!("Medians. proved: the proved library; same: its text as Rust; plain: the fastest plain Rust; liquid: liquid-dsp,");
+    println!("SECDED(72,64) with interleaver; copy: a copy of the cells.");
+    if !liquid::LINKED {
+        println!(
+            "liquid-dsp is left out: it was not there at the build (Debian: libliquid-dev; then touch build.rs and build again)."
+        );
+    }
+    println!();
+    print_fields();
+    println!();
+    print_growth();
+    println!();
+    program::print();
+}
