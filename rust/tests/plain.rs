@@ -5,38 +5,10 @@ mod common;
 use common::*;
 use varmintfoil::{plain, reference};
 
-struct Plain;
+codec!(Plain, plain);
 
-impl Codec for Plain {
-    fn encode(s: &Numbers, payload: &[u8], field: &mut [u8]) -> Result<(), usize> {
-        plain::encode(s.w, s.h, s.d, s.t, payload, field)
-    }
-
-    fn decode(s: &Numbers, payload: &mut [u8], field: &[u8]) -> Result<usize, usize> {
-        plain::decode(s.w, s.h, s.d, s.t, payload, field)
-    }
-
-    fn correct(s: &Numbers, field: &mut [u8]) -> Result<usize, usize> {
-        plain::correct(s.w, s.h, s.d, s.t, field)
-    }
-}
-
-/// The reference implementation itself, for the tests that compare with no other.
-struct Reference;
-
-impl Codec for Reference {
-    fn encode(s: &Numbers, payload: &[u8], field: &mut [u8]) -> Result<(), usize> {
-        reference::encode(s.w, s.h, s.d, s.t, payload, field)
-    }
-
-    fn decode(s: &Numbers, payload: &mut [u8], field: &[u8]) -> Result<usize, usize> {
-        reference::decode(s.w, s.h, s.d, s.t, payload, field)
-    }
-
-    fn correct(s: &Numbers, field: &mut [u8]) -> Result<usize, usize> {
-        reference::correct(s.w, s.h, s.d, s.t, field)
-    }
-}
+// The reference implementation itself, for the tests that compare with no other.
+codec!(Reference, reference);
 
 #[test]
 fn encodings() {

@@ -5,21 +5,7 @@ mod common;
 use common::*;
 use varmintfoil::same;
 
-struct Same;
-
-impl Codec for Same {
-    fn encode(s: &Numbers, payload: &[u8], field: &mut [u8]) -> Result<(), usize> {
-        same::encode(s.w, s.h, s.d, s.t, payload, field)
-    }
-
-    fn decode(s: &Numbers, payload: &mut [u8], field: &[u8]) -> Result<usize, usize> {
-        same::decode(s.w, s.h, s.d, s.t, payload, field)
-    }
-
-    fn correct(s: &Numbers, field: &mut [u8]) -> Result<usize, usize> {
-        same::correct(s.w, s.h, s.d, s.t, field)
-    }
-}
+codec!(Same, same);
 
 #[test]
 fn encodings() {

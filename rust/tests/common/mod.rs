@@ -302,6 +302,30 @@ pub trait Codec {
     fn correct(shape: &Numbers, field: &mut [u8]) -> Result<usize, usize>;
 }
 
+/// Names an implementation whose three operations are functions of a module, on the four numbers of the shape.
+#[allow(unused_macros)]
+macro_rules! codec {
+    ($name:ident, $module:ident) => {
+        struct $name;
+
+        impl Codec for $name {
+            fn encode(s: &Numbers, payload: &[u8], field: &mut [u8]) -> Result<(), usize> {
+                $module::encode(s.w, s.h, s.d, s.t, payload, field)
+            }
+
+            fn decode(s: &Numbers, payload: &mut [u8], field: &[u8]) -> Result<usize, usize> {
+                $module::decode(s.w, s.h, s.d, s.t, payload, field)
+            }
+
+            fn correct(s: &Numbers, field: &mut [u8]) -> Result<usize, usize> {
+                $module::correct(s.w, s.h, s.d, s.t, field)
+            }
+        }
+    };
+}
+#[allow(unused_imports)]
+pub(crate) use codec;
+
 /// One encoding, with all final bytes.
 pub fn compare_encode<C: Codec>(shape: &Numbers, payload: &[u8], field: &[u8], tally: &mut Tally) {
     let mut expected = field.to_vec();
