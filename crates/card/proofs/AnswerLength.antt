@@ -7,7 +7,7 @@ use native.Mathlib.Decide.{ℕ-discrete, decLe}
 use native.Mathlib.Nat.{mul-le-mul, mul-le-mul-right}
 use native.Mathlib.Omega.{arith}
 use lib.ListN.{length, length-append}
-use Rattle.lattice.proofs.Limits.{strength-stack, strength-most}
+use Rattle.lattice.proofs.theory.Limits.{strength-stack, strength-most}
 use Rattle.codec.specs.Plan.{planClasses}
 use Rattle.codec.specs.Encode.{encodedField}
 use Rattle.codec.specs.Decode.{decodeCount, decodeLeaves}

@@ -1,10 +1,12 @@
 -- The worked card of document 01 and a witness of each refusal, by computation of the definitions.
 use mathlib.Core.Path.{refl}
-use Rattle.lattice.specs.Shape.{inRange, maxStrength, sizeOk, strengthOk, shapeNumber}
+use Rattle.lattice.specs.Shape.{maxStrength, sizeOk, strengthOk, shapeNumber}
+use Rattle.lattice.specs.Range.{inRange}
 use Rattle.lattice.specs.Settings.{oddSettings, evenSettings, flatSettings, settingsFor}
 use Rattle.lattice.specs.Cell.{cellAt}
 use Rattle.lattice.specs.Class.{minusMod, classWith, classesOf, classOf}
-use Rattle.lattice.specs.Position.{sizeTo, position, isPower, isCheck, checks, holdsData, capacity}
+use Rattle.lattice.specs.Position.{sizeTo, position}
+use Rattle.lattice.specs.Check.{isPower, isCheck, checks, holdsData, capacity}
 use Rattle.codec.specs.Field.{isCell, isReceived, cellsOk, differences}
 use Rattle.codec.specs.Hamming.{tagsOf, isTag, inReach, allInReach, corrected}
 use Rattle.codec.specs.Payload.{payloadBytes, rank, payloadBit, padding, dataValue, dataField, encoded, paddingOk, heldPayload}

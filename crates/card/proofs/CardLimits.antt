@@ -3,10 +3,10 @@ use Prim.Native.Nat.{_*_, _<_, _≤_}
 use native.Mathlib.Nat.{mul-le-mul}
 use native.Mathlib.Omega.{arith}
 use Rattle.lattice.specs.Shape.{maxSide, maxPlanes, cellsOf}
-use Rattle.lattice.specs.Position.{capacity, holdsData}
+use Rattle.lattice.specs.Check.{capacity, holdsData}
 use Rattle.lattice.specs.Class.{layoutOf}
-use Rattle.lattice.proofs.Counting.{count-most}
-use Rattle.lattice.proofs.Limits.{Legal, legal, strength-most}
+use Rattle.lattice.proofs.theory.Counting.{count-most}
+use Rattle.lattice.proofs.theory.Limits.{Legal, legal, strength-most}
 use Rattle.codec.specs.Payload.{payloadBytes}
 use Rattle.codec.specs.Plan.{planBytes}
 use Rattle.codec.proofs.Accepted.{plan-bytes}

@@ -8,9 +8,9 @@ use Rattle.lattice.specs.declared.shape.Shape.{Shape}
 use Rattle.lattice.specs.Shape.{maxClasses, Accepted, cellsOf}
 use Rattle.lattice.specs.Class.{layoutOf}
 use Rattle.lattice.specs.Refusal.{beside, figure}
-use Rattle.lattice.proofs.Counting.{count-most}
-use Rattle.lattice.proofs.CapacityGiven.{classes-given}
-use Rattle.lattice.proofs.ClassBelow.{classes-stack-most}
+use Rattle.lattice.proofs.theory.Counting.{count-most}
+use Rattle.lattice.proofs.theory.CapacityGiven.{classes-given}
+use Rattle.lattice.proofs.theory.ClassBelow.{classes-stack-most}
 use Rattle.codec.specs.Field.{fieldOf, differences}
 use Rattle.codec.specs.Payload.{payloadBytes, heldPayload}
 use Rattle.codec.specs.Plan.{planClasses, planBytes}

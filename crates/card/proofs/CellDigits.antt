@@ -5,7 +5,7 @@ use mathlib.Core.Path.{_≡_, ap, _∙_}
 use native.Mathlib.Omega.{arith}
 use lib.Dec.{leb}
 use borrow.Author.Tests.{le-leb, lt-leb, leb-true}
-use Rattle.lattice.proofs.Bools.{and-true, and-left, and-right}
+use Rattle.lattice.proofs.theory.Bools.{and-true, and-left, and-right}
 use Rattle.codec.specs.Field.{isReceived}
 use Rattle.card.specs.Parse.{isCellDigit}
 

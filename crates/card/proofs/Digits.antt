@@ -7,7 +7,7 @@ use mathlib.Core.Path.{_≡_, refl, sym, ap, _∙_}
 use native.Mathlib.Nat.{add-zero, pow-suc, not-suc-le-zero, le-refl, eq-or-lt-of-le, le-of-suc-le-suc}
 use native.Mathlib.Omega.{arith}
 use lib.ListN.{length, getD, length-append}
-use Rattle.lattice.proofs.Limits.{in-range, range-low, range-high}
+use Rattle.lattice.proofs.theory.Limits.{in-range, range-low, range-high}
 use Rattle.card.specs.Text.{digits}
 use Rattle.card.specs.Parse.{isDigit, digitRun, digitsValue}
 use Rattle.card.proofs.StandsAt.{StandsAt, stands-left, stands-right, stands-both, stands-one, one-stands}

@@ -9,9 +9,9 @@ use native.Mathlib.Nat.{not-suc-le-zero}
 use native.Mathlib.Omega.{arith}
 use borrow.Author.Tests.{lt-ltb, le-ltb}
 use lib.ListN.{length, getD}
-use Rattle.lattice.specs.Shape.{inRange}
-use Rattle.lattice.proofs.Bools.{or-true-left, or-true-right, or-cases}
-use Rattle.lattice.proofs.Limits.{in-range, range-low, range-high}
+use Rattle.lattice.specs.Range.{inRange}
+use Rattle.lattice.proofs.theory.Bools.{or-true-left, or-true-right, or-cases}
+use Rattle.lattice.proofs.theory.Limits.{in-range, range-low, range-high}
 use Rattle.codec.specs.Payload.{Bytes}
 use Rattle.card.specs.Text.{hexDigit, hexText}
 use Rattle.card.specs.Parse.{isHex, hexValue}

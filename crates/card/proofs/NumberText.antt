@@ -9,9 +9,9 @@ use native.Mathlib.Omega.{arith}
 use borrow.Author.Tests.{eq-eqb, eqb-true, eqb-false, ne-eqb, not-true}
 use lib.Dec.{eqb}
 use lib.ListN.{length, getD}
-use Rattle.lattice.specs.Shape.{inRange}
-use Rattle.lattice.proofs.Bools.{and-true, and-left, and-right, or-true-left, or-true-right, or-cases}
-use Rattle.lattice.proofs.Limits.{in-range, range-low, range-high, range-below}
+use Rattle.lattice.specs.Range.{inRange}
+use Rattle.lattice.proofs.theory.Bools.{and-true, and-left, and-right, or-true-left, or-true-right, or-cases}
+use Rattle.lattice.proofs.theory.Limits.{in-range, range-low, range-high, range-below}
 use Rattle.card.specs.declared.line.Line.{Line}
 use Rattle.card.specs.declared.line.Line.the-variants as line
 use Rattle.card.specs.Text.{digits, digitCount, decimal, feed}

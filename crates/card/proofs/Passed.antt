@@ -7,7 +7,7 @@ use native.Mathlib.Omega.{arith}
 use lib.Dec.{leb}
 use lib.ListN.{length}
 use Rattle.lattice.specs.Shape.{shapeNumber, cellsOf}
-use Rattle.lattice.proofs.Answers.{unless-zero, or-else-zero}
+use Rattle.lattice.proofs.theory.Answers.{unless-zero, or-else-zero}
 use Rattle.card.specs.declared.header.Header.{Header}
 use Rattle.card.specs.declared.header.HeaderAnswer.{HeaderAnswer}
 use Rattle.card.specs.declared.header.HeaderAnswer.the-variants as head

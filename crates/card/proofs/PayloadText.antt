@@ -8,8 +8,8 @@ use native.Mathlib.Omega.{arith}
 use borrow.Author.Tests.{lt-ltb, ltb-true, eq-eqb, eqb-true}
 use lib.Dec.{ltb, eqb, lit≤}
 use lib.ListN.{length, getD, drop, length-append}
-use Rattle.lattice.specs.Position.{allBelow}
-use Rattle.lattice.proofs.Bools.{and-true, and-left, and-right}
+use Rattle.lattice.specs.Counting.{allBelow}
+use Rattle.lattice.proofs.theory.Bools.{and-true, and-left, and-right}
 use Rattle.codec.specs.Payload.{Bytes}
 use Rattle.codec.proofs.AllBelow.{all-below, below-all}
 use Rattle.codec.proofs.FieldLists.{getD-listOf, getD-listOf-behind, length-listOf, list-field}

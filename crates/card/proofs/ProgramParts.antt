@@ -7,7 +7,7 @@ use mathlib.Core.Path.{_≡_, _∙_, ap}
 use borrow.Author.Tests.{le-leb}
 use lib.ListN.{length, length-replicate}
 use Rattle.lattice.specs.Shape.{cellsOf}
-use Rattle.lattice.proofs.Answers.{beside-zero, beside-other}
+use Rattle.lattice.proofs.theory.Answers.{beside-zero, beside-other}
 use Rattle.codec.specs.Plan.{planBytes}
 use Rattle.codec.specs.Encode.{encodeNumber}
 use Rattle.codec.specs.Decode.{decodeNumber}

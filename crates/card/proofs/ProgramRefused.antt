@@ -10,9 +10,9 @@ use lib.ListN.{length}
 use Rattle.lattice.specs.Refusal.{listed, unless}
 use Rattle.lattice.specs.Shape.{shapeConditions, cellsOf}
 use Rattle.lattice.specs.Class.{layoutOf}
-use Rattle.lattice.proofs.Answers.{unless-zero}
-use Rattle.lattice.proofs.Due.{Due, first-due, due-none, due-test, due-skip, due-append, due-settled}
-use Rattle.lattice.proofs.Refusals.{at-most, shape-due}
+use Rattle.lattice.proofs.theory.Answers.{unless-zero}
+use Rattle.lattice.proofs.theory.Due.{Due, first-due, due-none, due-test, due-skip, due-append, due-settled}
+use Rattle.lattice.proofs.theory.RefusalTests.{at-most, shape-due}
 use Rattle.codec.specs.Field.{fieldOf}
 use Rattle.codec.specs.Code.{fieldInReach}
 use Rattle.codec.specs.Payload.{paddingOk}

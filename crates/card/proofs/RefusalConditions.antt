@@ -10,8 +10,8 @@ use Rattle.lattice.specs.declared.shape.Shape.{Shape}
 use Rattle.lattice.specs.Refusal.{Condition, listedAt}
 use Rattle.lattice.specs.Shape.{cellsOf}
 use Rattle.lattice.specs.Class.{layoutOf}
-use Rattle.lattice.proofs.Due.{Decides, decides-same, Due, SameConditions, due-same}
-use Rattle.lattice.proofs.Refusals.{at-most}
+use Rattle.lattice.proofs.theory.Due.{Decides, decides-same, Due, SameConditions, due-same}
+use Rattle.lattice.proofs.theory.RefusalTests.{at-most}
 use Rattle.codec.specs.Field.{Field, fieldOf}
 use Rattle.codec.specs.Code.{fieldInReach}
 use Rattle.codec.specs.Payload.{Bytes, paddingOk}

@@ -9,8 +9,8 @@ use native.Mathlib.Omega.{arith}
 use borrow.Author.Tests.{eq-eqb, eqb-true}
 use lib.Dec.{eqb}
 use lib.ListN.{length, getD}
-use Rattle.lattice.specs.Position.{allBelow}
-use Rattle.lattice.proofs.Bools.{and-true, and-left, and-right}
+use Rattle.lattice.specs.Counting.{allBelow}
+use Rattle.lattice.proofs.theory.Bools.{and-true, and-left, and-right}
 use Rattle.codec.specs.Field.{fieldOf, isReceived, Received}
 use Rattle.codec.proofs.AllBelow.{all-below, below-all}
 use Rattle.codec.proofs.FieldLists.{getD-listOf, length-listOf, list-field}

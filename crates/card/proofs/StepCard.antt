@@ -12,10 +12,10 @@ use Rattle.lattice.specs.Refusal.{refusalNumber, figure}
 use Rattle.lattice.specs.Answer.{IsNewShape}
 use Rattle.lattice.specs.Shape.{maxSide, maxPlanes, shapeNumber, Accepted, cellsOf}
 use Rattle.lattice.specs.Class.{classesOf, layoutOf}
-use Rattle.lattice.specs.Position.{capacity}
-use Rattle.lattice.proofs.Answers.{beside-zero, refused}
-use Rattle.lattice.proofs.ClassAt.{at-cells}
-use Rattle.lattice.proofs.NewShapes.{new-accepted, new-shape}
+use Rattle.lattice.specs.Check.{capacity}
+use Rattle.lattice.proofs.theory.Answers.{beside-zero, refused}
+use Rattle.lattice.proofs.theory.ClassAt.{at-cells}
+use Rattle.lattice.proofs.theory.NewShapes.{new-accepted, new-shape}
 use Rattle.codec.specs.Payload.{Bytes}
 use Rattle.codec.specs.Plan.{planClasses, planCapacity, planBytes}
 use Rattle.codec.specs.Encode.{encodeNumber, encodedField, encodeLeaves}

@@ -10,9 +10,9 @@ use lib.Dec.{eqb, lit<}
 use lib.ListN.{length, getD}
 use borrow.Author.Count.{below-none, below-more}
 use borrow.Author.Tests.{eq-eqb, ne-eqb, eqb-true}
-use Rattle.lattice.specs.Shape.{inRange}
-use Rattle.lattice.proofs.Bools.{and-left, and-right}
-use Rattle.lattice.proofs.Limits.{range-low, range-high}
+use Rattle.lattice.specs.Range.{inRange}
+use Rattle.lattice.proofs.theory.Bools.{and-left, and-right}
+use Rattle.lattice.proofs.theory.Limits.{range-low, range-high}
 use Rattle.card.specs.declared.line.Line.{Line}
 use Rattle.card.specs.declared.line.Line.the-variants as line
 use Rattle.card.specs.Parse.{isDigit, digitRun, digitsValue, numberEnds, numberAt, keyAt, lineAt}

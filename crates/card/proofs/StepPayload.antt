@@ -8,10 +8,10 @@ use native.Mathlib.Nat.{add-assoc}
 use native.Mathlib.Omega.{arith}
 use lib.ListN.{length, getD}
 use borrow.Author.Tests.{eq-eqb, ne-eqb, lt-ltb, le-ltb}
-use Rattle.lattice.specs.Shape.{inRange}
-use Rattle.lattice.specs.Position.{allBelow}
-use Rattle.lattice.proofs.Bools.{or-cases}
-use Rattle.lattice.proofs.Limits.{range-low, range-high}
+use Rattle.lattice.specs.Range.{inRange}
+use Rattle.lattice.specs.Counting.{allBelow}
+use Rattle.lattice.proofs.theory.Bools.{or-cases}
+use Rattle.lattice.proofs.theory.Limits.{range-low, range-high}
 use Rattle.card.specs.Text.{payloadKey}
 use Rattle.card.specs.Parse.{keyAt, isHex, hexValue, hexCount, payloadOk, payloadOf}
 use Rattle.card.proofs.StandsAt.{at-key, byte-inside}

@@ -9,7 +9,7 @@ use Rattle.lattice.specs.declared.refusal.Refusal.{Refusal}
 use Rattle.lattice.specs.declared.refusal.Refusal.the-variants as why
 use Rattle.lattice.specs.Refusal.{refusalNumber}
 use Rattle.lattice.specs.Shape.{shapeNumber, Accepted, cellsOf}
-use Rattle.lattice.proofs.Answers.{some-number, earlier-told}
+use Rattle.lattice.proofs.theory.Answers.{some-number, earlier-told}
 use Rattle.codec.specs.Plan.{planBytes}
 use Rattle.codec.specs.Encode.{encodeNumber}
 use Rattle.card.specs.declared.header.Header.{Header}

@@ -8,7 +8,7 @@ use native.Mathlib.Omega.{arith}
 use lib.Dec.{eqb}
 use lib.ListN.{length, getD}
 use borrow.Author.Tests.{eq-eqb, ne-eqb}
-use Rattle.lattice.specs.Position.{allBelow}
+use Rattle.lattice.specs.Counting.{allBelow}
 use Rattle.lattice.specs.Shape.{maxSide, maxCells}
 use Rattle.codec.proofs.StepTest.{Passed, passed-all, failed-at}
 use Rattle.card.specs.Text.{rowKey, feed}

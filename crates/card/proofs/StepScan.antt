@@ -6,7 +6,7 @@ use mathlib.Core.Path.{_≡_, sym, _∙_}
 use lib.Dec.{eqb}
 use lib.ListN.{length, getD, List·getD-eq-default}
 use borrow.Author.Tests.{eq-eqb, ne-eqb}
-use Rattle.lattice.specs.Position.{allBelow}
+use Rattle.lattice.specs.Counting.{allBelow}
 use Rattle.codec.proofs.StepTest.{Passed, passed-all, failed-at}
 use Rattle.card.specs.Parse.{keyAt}
 

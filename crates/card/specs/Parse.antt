@@ -4,8 +4,8 @@ use mathlib.Core.Bool.{Bool, cond, not, _&&_, _||_}
 use mathlib.Core.List.{List, [], _∷_, _++_}
 use lib.Dec.{leb, ltb, eqb}
 use lib.ListN.{length, getD}
-use Rattle.lattice.specs.Shape.{inRange}
-use Rattle.lattice.specs.Position.{allBelow}
+use Rattle.lattice.specs.Range.{inRange}
+use Rattle.lattice.specs.Counting.{allBelow}
 use Rattle.codec.specs.Field.{listOf, isReceived}
 use Rattle.card.specs.declared.line.Line.{Line}
 use Rattle.card.specs.declared.line.Line.the-variants as line

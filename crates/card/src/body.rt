@@ -3,7 +3,7 @@ ghost use mathlib.Core.Bool.{true};
 ghost use mathlib.Core.Path.{_≡_};
 ghost use Prim.Native.Nat.{_+_, _-_, _*_, _/_, _≤_};
 ghost use lib.ListN.{length, getD};
-ghost use Rattle.lattice.specs.Position.{allBelow};
+ghost use Rattle.lattice.specs.Counting.{allBelow};
 ghost use Rattle.card.specs.Text.{payloadKey};
 ghost use Rattle.card.specs.Parse.{keyAt, isHex, hexValue, hexCount, payloadOk, payloadOf, isCellDigit, rowOk, rowsOk, cellsAt};
 ghost use Rattle.card.specs.Working.{CellsFit};

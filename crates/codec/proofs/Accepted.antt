@@ -8,8 +8,8 @@ use Rattle.lattice.specs.declared.shape.Shape.{Shape}
 use Rattle.lattice.specs.Shape.{Accepted, cellsOf}
 use Rattle.lattice.specs.Cell.{cellAt}
 use Rattle.lattice.specs.Class.{classesOf, classAt, layoutOf}
-use Rattle.lattice.proofs.Answers.{beside-zero}
-use Rattle.lattice.proofs.ClassBelow.{class-below}
+use Rattle.lattice.proofs.theory.Answers.{beside-zero}
+use Rattle.lattice.proofs.theory.ClassBelow.{class-below}
 use Rattle.codec.specs.Payload.{payloadBytes}
 use Rattle.codec.specs.Plan.{planNumber, planClasses, planCapacity, planBytes, planCells}
 use Rattle.codec.specs.Encode.{encodeNumber}

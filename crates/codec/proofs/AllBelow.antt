@@ -6,8 +6,8 @@ use mathlib.Core.Path.{_≡_, refl, sym, ap, ap₂, _∙_}
 use native.Mathlib.Nat.{le-refl, not-suc-le-zero, eq-or-lt-of-le, le-of-suc-le-suc}
 use native.Mathlib.Numerals.{add-one}
 use native.Mathlib.Omega.{arith}
-use Rattle.lattice.specs.Position.{allBelow}
-use Rattle.lattice.proofs.Bools.{and-true, and-left, and-right}
+use Rattle.lattice.specs.Counting.{allBelow}
+use Rattle.lattice.proofs.theory.Bools.{and-true, and-left, and-right}
 
 pub all-step : (f : ℕ → Bool) (n : ℕ) → allBelow f (n + 1) ≡ (f n && allBelow f n)
 all-step f n = rw (add-one n)

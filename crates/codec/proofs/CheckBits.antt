@@ -8,8 +8,9 @@ use native.Mathlib.Nat.{le-refl, not-suc-le-zero, eq-or-lt-of-le, le-of-suc-le-s
 use native.Mathlib.Numerals.{add-one}
 use native.Mathlib.Omega.{arith}
 use lib.Bits.{bitXor, xor-zero-r}
-use Rattle.lattice.specs.Position.{Layout, size, position, checks, holdsData}
-use Rattle.lattice.proofs.Positions.{position-rises, position-one}
+use Rattle.lattice.specs.Position.{Layout, size, position}
+use Rattle.lattice.specs.Check.{checks, holdsData}
+use Rattle.lattice.proofs.theory.Positions.{position-rises, position-one}
 use Rattle.codec.specs.Field.{Field, Cells}
 use Rattle.codec.specs.Hamming.{tagsOf, syndromeTo, syndrome, Codeword}
 use Rattle.codec.proofs.CellValues.{cell-most, zero-cell, cond-cell}

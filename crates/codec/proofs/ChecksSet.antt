@@ -11,11 +11,12 @@ use lib.Pow.{pow-mono, pow-pos}
 use lib.Seq.{getD-set-same, getD-set-other}
 use borrow.Author.Tests.{lt-ltb, le-ltb}
 use Rattle.lattice.specs.Shape.{maxClasses}
-use Rattle.lattice.specs.Position.{Layout, position, checks, holdsData}
+use Rattle.lattice.specs.Position.{Layout, position}
+use Rattle.lattice.specs.Check.{checks, holdsData}
 use Rattle.lattice.specs.Listing.{checksTo, placeOf}
-use Rattle.lattice.proofs.BitLength.{bit-length}
-use Rattle.lattice.proofs.Positions.{position-most, size-most}
-use Rattle.lattice.proofs.Runs.{checks-check, checks-mono, check-at}
+use Rattle.lattice.proofs.theory.BitLength.{bit-length}
+use Rattle.lattice.proofs.theory.Positions.{position-most, size-most}
+use Rattle.lattice.proofs.theory.Runs.{checks-check, checks-mono, check-at}
 use Rattle.codec.specs.Field.{Field, fieldOf, Same}
 use Rattle.codec.specs.Hamming.{tagsOf, syndrome}
 use Rattle.codec.specs.Payload.{dataField, encoded}

@@ -10,8 +10,8 @@ use native.Mathlib.Omega.{arith}
 use lib.Dec.{eqb}
 use borrow.Author.Tests.{eq-eqb, ne-eqb, eqb-true}
 use Rattle.lattice.specs.Position.{Layout}
-use Rattle.lattice.proofs.Bools.{and-true, and-left, and-right, or-cases, or-true-left, or-true-right}
-use Rattle.lattice.proofs.Powers.{any-below, below-any}
+use Rattle.lattice.proofs.theory.Bools.{and-true, and-left, and-right, or-cases, or-true-left, or-true-right}
+use Rattle.lattice.proofs.theory.Powers.{any-below, below-any}
 use Rattle.codec.specs.Field.{Field, Cells, Same, flip, isCell}
 use Rattle.codec.specs.Hamming.{Tags, Tells, syndrome, Codeword, Lawful, Near, Nearest, isTag, inReach, corrected}
 use Rattle.codec.proofs.CellValues.{cell-most, most-cell}

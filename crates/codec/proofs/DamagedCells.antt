@@ -14,12 +14,13 @@ use borrow.Author.Tests.{eq-eqb, ne-eqb, lt-ltb, le-ltb}
 use Rattle.lattice.specs.declared.shape.Shape.{Shape}
 use Rattle.lattice.specs.Shape.{Accepted, cellsOf}
 use Rattle.lattice.specs.Class.{classesOf, layoutOf}
-use Rattle.lattice.specs.Position.{Layout, count, sumBelow, size, position}
+use Rattle.lattice.specs.Position.{Layout, size, position}
+use Rattle.lattice.specs.Counting.{count, sumBelow}
 use Rattle.lattice.specs.Listing.{IsCellAt, CellsAt}
-use Rattle.lattice.proofs.Counting.{count-same, sum-same}
-use Rattle.lattice.proofs.Limits.{legal}
-use Rattle.lattice.proofs.Positions.{by-class}
-use Rattle.lattice.proofs.ClassBelow.{classes-limit}
+use Rattle.lattice.proofs.theory.Counting.{count-same, sum-same}
+use Rattle.lattice.proofs.theory.Limits.{legal}
+use Rattle.lattice.proofs.theory.Positions.{by-class}
+use Rattle.lattice.proofs.theory.ClassBelow.{classes-limit}
 use Rattle.codec.specs.Field.{Field, Cells, Same, flip, differences}
 use Rattle.codec.specs.Hamming.{tagsOf, syndrome, corrected}
 use Rattle.codec.specs.Code.{fieldInReach}

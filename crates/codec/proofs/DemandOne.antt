@@ -13,9 +13,10 @@ use Rattle.lattice.specs.declared.shape.Shape.{Shape}
 use Rattle.lattice.specs.Refusal.{unless}
 use Rattle.lattice.specs.Shape.{Accepted, shapeRefusals, cellsOf}
 use Rattle.lattice.specs.Class.{classesOf, layoutOf}
-use Rattle.lattice.proofs.Answers.{beside-other}
-use Rattle.lattice.proofs.Due.{Decides, Due, due-none, due-test, due-append, due-settled}
-use Rattle.lattice.proofs.Refusals.{shape-due, shapeRefused}
+use Rattle.lattice.proofs.theory.Answers.{beside-other}
+use Rattle.lattice.proofs.theory.Due.{Decides, Due, due-none, due-test, due-append, due-settled}
+use Rattle.lattice.proofs.theory.RefusalTests.{shape-due}
+use Rattle.lattice.proofs.theorems.Refused.{shapeRefused}
 use Rattle.codec.specs.Field.{Field, fieldOf, Cells, cellsOk}
 use Rattle.codec.specs.Payload.{paddingOk}
 use Rattle.codec.specs.Plan.{planNumber, planClasses, planCapacity, planBytes, planCells}

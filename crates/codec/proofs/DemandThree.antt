@@ -8,9 +8,9 @@ use Rattle.lattice.specs.Refusal.{figure}
 use Rattle.lattice.specs.Shape.{cellsOf}
 use Rattle.lattice.specs.Cell.{cellAt, cellNumber}
 use Rattle.lattice.specs.Class.{classesOf, classAt}
-use Rattle.lattice.proofs.Numbering.{numbering}
-use Rattle.lattice.proofs.ClusterClasses.{clusterClasses}
-use Rattle.lattice.proofs.LabelsNeeded.{labelsNeeded}
+use Rattle.lattice.proofs.theorems.Numbering.{numbering}
+use Rattle.lattice.proofs.theorems.Clusters.{clusterClasses}
+use Rattle.lattice.proofs.theorems.Labels.{labelsNeeded}
 use Rattle.codec.specs.Plan.{planNumber, planClasses}
 use Rattle.codec.specs.Recovery.{Recovery, ClassesNeeded}
 use Rattle.codec.proofs.RecoveryByClass.{recoveryByClass}

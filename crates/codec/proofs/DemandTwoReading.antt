@@ -7,7 +7,7 @@ use lib.ListN.{length}
 use Rattle.lattice.specs.declared.shape.Shape.{Shape}
 use Rattle.lattice.specs.Shape.{cellsOf}
 use Rattle.lattice.specs.Class.{layoutOf}
-use Rattle.lattice.proofs.Answers.{beside-zero}
+use Rattle.lattice.proofs.theory.Answers.{beside-zero}
 use Rattle.codec.specs.Field.{Field, fieldOf, listOf}
 use Rattle.codec.specs.Payload.{PaddingRight, heldPayload}
 use Rattle.codec.specs.Code.{NearestTo}

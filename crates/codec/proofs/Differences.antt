@@ -5,7 +5,7 @@ use mathlib.Core.Path.{_≡_, refl, sym, ap, ap₂, _∙_}
 use native.Mathlib.Decide.{ℕ-discrete}
 use lib.Dec.{eqb}
 use borrow.Author.Tests.{eq-eqb, ne-eqb}
-use Rattle.lattice.proofs.Counting.{count-same, count-none}
+use Rattle.lattice.proofs.theory.Counting.{count-same, count-none}
 use Rattle.codec.specs.Field.{Field, Cells, Same, differences}
 use Rattle.codec.specs.Hamming.{Tags, Tells, Nearest, corrected}
 use Rattle.codec.proofs.Correction.{nearest-corrected}

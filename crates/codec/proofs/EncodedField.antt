@@ -4,7 +4,8 @@ use mathlib.Core.Bool.{Bool, true, false, cond}
 use mathlib.Core.List.{List}
 use mathlib.Core.Path.{_≡_, refl, sym, ap, _∙_}
 use native.Mathlib.Omega.{arith}
-use Rattle.lattice.specs.Position.{Layout, position, holdsData}
+use Rattle.lattice.specs.Position.{Layout, position}
+use Rattle.lattice.specs.Check.{holdsData}
 use Rattle.codec.specs.Field.{Field, Cells, Same}
 use Rattle.codec.specs.Hamming.{tagsOf, syndrome, Codeword, Lawful}
 use Rattle.codec.specs.Payload.{rank, dataValue, dataField, encoded, Carries}

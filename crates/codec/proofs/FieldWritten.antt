@@ -8,10 +8,11 @@ use lib.ListN.{length, getD}
 use Rattle.lattice.specs.declared.shape.Shape.{Shape}
 use Rattle.lattice.specs.Shape.{maxClasses, Accepted, cellsOf}
 use Rattle.lattice.specs.Class.{layoutOf}
-use Rattle.lattice.specs.Position.{holdsData, size}
+use Rattle.lattice.specs.Position.{size}
+use Rattle.lattice.specs.Check.{holdsData}
 use Rattle.lattice.specs.Listing.{maxChecks, ListsChecks, HoldsPlaces}
-use Rattle.lattice.proofs.ClassBelow.{classes-limit, class-below}
-use Rattle.lattice.proofs.Limits.{legal}
+use Rattle.lattice.proofs.theory.ClassBelow.{classes-limit, class-below}
+use Rattle.lattice.proofs.theory.Limits.{legal}
 use Rattle.codec.specs.Field.{fieldOf, Cells, Same}
 use Rattle.codec.specs.Hamming.{tagsOf}
 use Rattle.codec.specs.Payload.{rank, dataField, encoded}

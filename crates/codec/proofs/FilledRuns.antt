@@ -10,9 +10,10 @@ use native.Mathlib.Omega.{arith}
 use lib.Dec.{ltb}
 use lib.ListN.{length, getD, set}
 use lib.Seq.{getD-set-same, getD-set-other}
-use Rattle.lattice.specs.Position.{Layout, holdsData}
+use Rattle.lattice.specs.Position.{Layout}
+use Rattle.lattice.specs.Check.{holdsData}
 use Rattle.lattice.specs.Listing.{checksTo, ListsChecks, Run}
-use Rattle.lattice.proofs.Runs.{checks-mono, checks-most, checks-check, run-checks, run-part, next-run, last-run}
+use Rattle.lattice.proofs.theory.Runs.{checks-mono, checks-most, checks-check, run-checks, run-part, next-run, last-run}
 use Rattle.codec.specs.Payload.{payloadBytes, payloadBit, padding, rank, dataValue, dataField}
 use Rattle.codec.specs.Working.{valueAt}
 use Rattle.codec.specs.Filling.{ValuesPut, EndsRun, DataPut, AtRun}

@@ -12,9 +12,10 @@ use lib.Dec.{eqb}
 use lib.ListN.{length, getD, set}
 use lib.Seq.{getD-set-same, getD-set-other}
 use borrow.Author.Tests.{eq-eqb, ne-eqb}
-use Rattle.lattice.specs.Position.{Layout, holdsData}
+use Rattle.lattice.specs.Position.{Layout}
+use Rattle.lattice.specs.Check.{holdsData}
 use Rattle.lattice.specs.Listing.{checksTo, ListsChecks}
-use Rattle.lattice.proofs.Runs.{check-at}
+use Rattle.lattice.proofs.theory.Runs.{check-at}
 use Rattle.codec.specs.Field.{Field, Cells, Same, flip}
 use Rattle.codec.specs.Payload.{Bytes, payloadBytes, rank, payloadBit, heldPayload}
 use Rattle.codec.specs.Packing.{BitFlipped, HoldsBits, turnedAt}

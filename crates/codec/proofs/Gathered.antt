@@ -10,10 +10,11 @@ use lib.Dec.{eqb}
 use lib.ListN.{length, getD, set, length-set}
 use lib.Seq.{getD-set-same, getD-set-other}
 use borrow.Author.Tests.{eq-eqb, ne-eqb}
-use Rattle.lattice.specs.Position.{Layout, holdsData}
+use Rattle.lattice.specs.Position.{Layout}
+use Rattle.lattice.specs.Check.{holdsData}
 use Rattle.lattice.specs.Listing.{checksTo, Run}
-use Rattle.lattice.proofs.Counting.{count-not}
-use Rattle.lattice.proofs.Runs.{run-checks}
+use Rattle.lattice.proofs.theory.Counting.{count-not}
+use Rattle.lattice.proofs.theory.Runs.{run-checks}
 use Rattle.codec.specs.Field.{Field, Cells}
 use Rattle.codec.specs.Payload.{rank, heldByte}
 use Rattle.codec.specs.Packing.{BeginsByte, fourAt, eightAt, HoldsBytes, BitStored}

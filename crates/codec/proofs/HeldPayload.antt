@@ -7,7 +7,8 @@ use native.Mathlib.Decide.{decLt}
 use native.Mathlib.Omega.{arith}
 use lib.ListN.{getD, length}
 use lib.Pow.{pow-mono}
-use Rattle.lattice.specs.Position.{Layout, holdsData}
+use Rattle.lattice.specs.Position.{Layout}
+use Rattle.lattice.specs.Check.{holdsData}
 use Rattle.codec.specs.Field.{Field, Cells, Same}
 use Rattle.codec.specs.Payload.{Bytes, payloadBytes, rank, payloadBit, dataValue, encoded, Carries, PaddingRight, heldByte, heldPayload}
 use Rattle.codec.proofs.CellValues.{cell-most}

@@ -18,7 +18,7 @@ use Rattle.lattice.specs.Shape.{Accepted}
 use Rattle.lattice.specs.Class.{classesOf, layoutOf}
 use Rattle.lattice.specs.Position.{Layout}
 use Rattle.lattice.specs.Lines.{AtLine}
-use Rattle.lattice.proofs.AtLine.{at-class, at-position}
+use Rattle.lattice.proofs.theory.AtLine.{at-class, at-position}
 use Rattle.codec.specs.Field.{Field}
 use Rattle.codec.specs.Hamming.{Tags, tagsOf, term, syndromeTo}
 use Rattle.codec.specs.Lines.{xorBelow, folded, Taken, LineTaken}

@@ -13,11 +13,11 @@ use Rattle.lattice.specs.Shape.{maxCells, maxClasses, Accepted, cellsOf}
 use Rattle.lattice.specs.Cell.{cellAt}
 use Rattle.lattice.specs.Class.{classesOf, classAt, layoutOf}
 use Rattle.lattice.specs.Lines.{passOf, Room, AtLine}
-use Rattle.lattice.proofs.AtLine.{line-room, at-room}
-use Rattle.lattice.proofs.ClassBelow.{class-below}
-use Rattle.lattice.proofs.Limits.{legal}
-use Rattle.lattice.proofs.LineCounts.{zeros-at}
-use Rattle.lattice.proofs.SizesByLines.{classes-are, columns-are, lines-are, cells-are, most}
+use Rattle.lattice.proofs.theory.AtLine.{line-room, at-room}
+use Rattle.lattice.proofs.theory.ClassBelow.{class-below}
+use Rattle.lattice.proofs.theory.Limits.{legal}
+use Rattle.lattice.proofs.theory.LineCounts.{zeros-at}
+use Rattle.lattice.proofs.theory.SizesByLines.{classes-are, columns-are, lines-are, cells-are, most}
 use Rattle.codec.specs.Field.{Field, Cells}
 use Rattle.codec.specs.Hamming.{tagsOf, syndrome}
 use Rattle.codec.specs.Working.{HoldsZeros, HoldsSyndromes}

@@ -9,8 +9,8 @@ use Rattle.lattice.specs.declared.shape.Shape.{Shape}
 use Rattle.lattice.specs.Shape.{maxCells, Accepted, cellsOf}
 use Rattle.lattice.specs.Class.{layoutOf}
 use Rattle.lattice.specs.Listing.{checksTo, ListsChecks}
-use Rattle.lattice.proofs.Limits.{legal}
-use Rattle.lattice.proofs.Runs.{checks-most}
+use Rattle.lattice.proofs.theory.Limits.{legal}
+use Rattle.lattice.proofs.theory.Runs.{checks-most}
 
 module _ (s : Shape) (checks : List ℕ) (amount cells : ℕ) (own : cells ≡ cellsOf s)
     (lists : ListsChecks (layoutOf s) (cellsOf s) amount checks) where

@@ -12,10 +12,11 @@ use Rattle.lattice.specs.declared.shape.Shape.{Shape}
 use Rattle.lattice.specs.Refusal.{figure}
 use Rattle.lattice.specs.Shape.{maxClasses, shapeNumber, Accepted, cellsOf}
 use Rattle.lattice.specs.Class.{classesOf, layoutOf}
-use Rattle.lattice.specs.Position.{Layout, count}
+use Rattle.lattice.specs.Position.{Layout}
+use Rattle.lattice.specs.Counting.{count}
 use Rattle.lattice.specs.Listing.{CellsAt}
-use Rattle.lattice.proofs.Answers.{beside-zero}
-use Rattle.lattice.proofs.ClassBelow.{classes-limit}
+use Rattle.lattice.proofs.theory.Answers.{beside-zero}
+use Rattle.lattice.proofs.theory.ClassBelow.{classes-limit}
 use Rattle.codec.specs.Field.{Field, fieldOf, listOf, Cells, Same}
 use Rattle.codec.specs.Decode.{correctedField, correctedCount}
 use Rattle.codec.specs.Payload.{payloadBytes, rank, heldByte, heldPayload}

@@ -12,7 +12,7 @@ use lib.Seq.{getD-set-same, getD-set-other}
 use borrow.Author.Tests.{eq-eqb}
 use Rattle.lattice.specs.Shape.{maxClasses}
 use Rattle.lattice.specs.Position.{Layout, sizeTo, position}
-use Rattle.lattice.proofs.Counting.{count-all}
+use Rattle.lattice.proofs.theory.Counting.{count-all}
 use Rattle.codec.specs.Field.{Field}
 use Rattle.codec.specs.Hamming.{tagsOf, syndromeTo}
 use Rattle.codec.specs.Working.{HoldsZeros, HoldsSyndromes}

@@ -5,8 +5,9 @@ use mathlib.Core.List.{List}
 use mathlib.Core.Path.{_≡_, refl, sym, _∙_}
 use lib.Dec.{eqb}
 use borrow.Author.Tests.{eq-eqb, eqb-true, le-leb, leb-true}
-use Rattle.lattice.specs.Position.{Layout, holdsData}
-use Rattle.lattice.proofs.Bools.{and-true, and-left, and-right}
+use Rattle.lattice.specs.Position.{Layout}
+use Rattle.lattice.specs.Check.{holdsData}
+use Rattle.lattice.proofs.theory.Bools.{and-true, and-left, and-right}
 use Rattle.codec.specs.Field.{Field, Same}
 use Rattle.codec.specs.Payload.{payloadBytes, rank, padding, Carries, PaddingRight, isPadding, paddingOk}
 use Rattle.codec.proofs.AllBelow.{all-below, below-all}

@@ -5,7 +5,9 @@ use mathlib.Core.Path.{_≡_, refl}
 use native.Mathlib.Omega.{arith}
 use borrow.Author.Tests.{leb-true, leb-false}
 use lib.Dec.{leb}
-use Rattle.lattice.specs.Position.{count, Layout, holdsData}
+use Rattle.lattice.specs.Position.{Layout}
+use Rattle.lattice.specs.Check.{holdsData}
+use Rattle.lattice.specs.Counting.{count}
 use Rattle.codec.specs.Payload.{payloadBytes, rank, isPadding}
 use Rattle.codec.specs.Writing.{PaddingFew}
 use Rattle.codec.proofs.Ranks.{bytes-least, rank-zero, rank-data-suc, rank-check-suc, rank-all}

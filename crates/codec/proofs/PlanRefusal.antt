@@ -5,7 +5,7 @@ use native.Mathlib.Nat.{zero-div}
 use Rattle.lattice.specs.declared.refusal.Refusal.{Refusal}
 use Rattle.lattice.specs.declared.shape.Shape.{Shape}
 use Rattle.lattice.specs.Refusal.{refusalNumber}
-use Rattle.lattice.proofs.Answers.{refused}
+use Rattle.lattice.proofs.theory.Answers.{refused}
 use Rattle.codec.specs.declared.plan.PlanAnswer.the-variants as plan
 use Rattle.codec.specs.Plan.{planNumber, planClasses, planCapacity, planBytes, planCells}
 use Rattle.codec.specs.Answer.{IsPlan}

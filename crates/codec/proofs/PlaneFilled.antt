@@ -8,7 +8,7 @@ use Rattle.lattice.specs.declared.shape.Shape.{Shape}
 use Rattle.lattice.specs.Shape.{maxCells}
 use Rattle.lattice.specs.Class.{layoutOf}
 use Rattle.lattice.specs.Listing.{checksTo}
-use Rattle.lattice.proofs.Limits.{legal}
+use Rattle.lattice.proofs.theory.Limits.{legal}
 use Rattle.codec.specs.Payload.{dataField}
 use Rattle.codec.specs.Filling.{DataPut, ToFill, ChecksListed, AtPlane, Filled, planeCells}
 use Rattle.codec.proofs.StepList.{filled-cells}

@@ -11,8 +11,8 @@ use Rattle.lattice.specs.declared.shape.Shape.{Shape}
 use Rattle.lattice.specs.Shape.{maxCells, Accepted, cellsOf}
 use Rattle.lattice.specs.Class.{layoutOf}
 use Rattle.lattice.specs.Listing.{checksTo}
-use Rattle.lattice.proofs.Limits.{legal}
-use Rattle.lattice.proofs.Runs.{checks-none}
+use Rattle.lattice.proofs.theory.Limits.{legal}
+use Rattle.lattice.proofs.theory.Runs.{checks-none}
 use Rattle.codec.specs.Field.{listOf}
 use Rattle.codec.specs.Payload.{dataField}
 use Rattle.codec.specs.Filling.{AtPlane, Filled, planeCells, dataBuffer}

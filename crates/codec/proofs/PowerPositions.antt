@@ -6,10 +6,11 @@ use mathlib.Core.Path.{_≡_, ap, subst}
 use native.Mathlib.Omega.{arith}
 use lib.Pow.{pow-pos, pow-mono}
 use borrow.Author.Tests.{not-false}
-use Rattle.lattice.specs.Position.{Layout, size, position, isPower, isCheck, checks, holdsData}
-use Rattle.lattice.proofs.Powers.{power, exponent}
-use Rattle.lattice.proofs.BitLength.{checksAreBitLength}
-use Rattle.lattice.proofs.Positions.{position-some}
+use Rattle.lattice.specs.Position.{Layout, size, position}
+use Rattle.lattice.specs.Check.{isPower, isCheck, checks, holdsData}
+use Rattle.lattice.proofs.theory.Powers.{power, exponent}
+use Rattle.lattice.proofs.theorems.Capacity.{checksAreBitLength}
+use Rattle.lattice.proofs.theory.Positions.{position-some}
 
 -- the numbers that pass the test are 2 to the power of some k
 pub power-iff : (p : ℕ) → (isPower p ≡ true) ↔ ((k : ℕ) × (2 ^ k ≡ p))

@@ -5,8 +5,9 @@ use mathlib.Core.Path.{_≡_, refl, ap, ap₂, _∙_}
 use native.Mathlib.Nat.{not-suc-le-zero}
 use native.Mathlib.Numerals.{add-one}
 use native.Mathlib.Omega.{arith}
-use Rattle.lattice.specs.Position.{Layout, holdsData, capacity}
-use Rattle.lattice.proofs.Counting.{count-yes, count-no, count-most, count-more, count-reach}
+use Rattle.lattice.specs.Position.{Layout}
+use Rattle.lattice.specs.Check.{holdsData, capacity}
+use Rattle.lattice.proofs.theory.Counting.{count-yes, count-no, count-most, count-more, count-reach}
 use Rattle.codec.specs.Payload.{rank, payloadBytes}
 
 -- eight bits of the capacity make a byte, and fewer than eight are left

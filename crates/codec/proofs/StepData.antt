@@ -7,7 +7,8 @@ use lib.ListN.{getD}
 use Rattle.lattice.specs.declared.shape.Shape.{Shape}
 use Rattle.lattice.specs.Shape.{cellsOf}
 use Rattle.lattice.specs.Class.{layoutOf}
-use Rattle.lattice.specs.Position.{sizeTo, isCheck, holdsData}
+use Rattle.lattice.specs.Position.{sizeTo}
+use Rattle.lattice.specs.Check.{isCheck, holdsData}
 use Rattle.codec.specs.Working.{HoldsSizes, AtPlace}
 
 -- with the array of the sizes

@@ -9,7 +9,7 @@ use Rattle.lattice.specs.declared.shape.Shape.{Shape}
 use Rattle.lattice.specs.Refusal.{unless}
 use Rattle.lattice.specs.Shape.{cellsOf}
 use Rattle.lattice.specs.Class.{layoutOf}
-use Rattle.lattice.proofs.Answers.{unless-zero}
+use Rattle.lattice.proofs.theory.Answers.{unless-zero}
 use Rattle.codec.specs.Field.{Field, fieldOf, Cells, Received, cellsOk}
 use Rattle.codec.specs.Payload.{paddingOk}
 use Rattle.codec.specs.Decode.{correctedField, fieldNumber}

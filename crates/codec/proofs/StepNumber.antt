@@ -11,9 +11,9 @@ use Rattle.lattice.specs.declared.shape.Shape.{Shape}
 use Rattle.lattice.specs.Refusal.{refusalNumber, unless, orElse, figure}
 use Rattle.lattice.specs.Shape.{shapeNumber, Accepted, cellsOf}
 use Rattle.lattice.specs.Class.{classesOf, layoutOf}
-use Rattle.lattice.specs.Position.{capacity, dataIn}
-use Rattle.lattice.proofs.Answers.{earlier-told, unless-zero, or-else-zero, beside-zero}
-use Rattle.lattice.proofs.CapacityGiven.{capacity-accepted}
+use Rattle.lattice.specs.Check.{capacity, dataIn}
+use Rattle.lattice.proofs.theory.Answers.{earlier-told, unless-zero, or-else-zero, beside-zero}
+use Rattle.lattice.proofs.theory.CapacityGiven.{capacity-accepted}
 use Rattle.codec.specs.Field.{fieldOf}
 use Rattle.codec.specs.Payload.{payloadBytes}
 use Rattle.codec.specs.Plan.{planCapacity, planBytes, planCells}

@@ -10,8 +10,10 @@ use Rattle.lattice.specs.declared.shape.Shape.{Shape}
 use Rattle.lattice.specs.Refusal.{figure}
 use Rattle.lattice.specs.Shape.{shapeNumber, Accepted, cellsOf}
 use Rattle.lattice.specs.Class.{classesOf, layoutOf}
-use Rattle.lattice.specs.Position.{Layout, allBelow, holdsData, capacity, dataIn}
-use Rattle.lattice.proofs.CapacityGiven.{capacity-accepted}
+use Rattle.lattice.specs.Position.{Layout}
+use Rattle.lattice.specs.Check.{holdsData, capacity, dataIn}
+use Rattle.lattice.specs.Counting.{allBelow}
+use Rattle.lattice.proofs.theory.CapacityGiven.{capacity-accepted}
 use Rattle.codec.specs.Field.{Field}
 use Rattle.codec.specs.Payload.{payloadBytes, padding, rank, isPadding, paddingOk}
 use Rattle.codec.specs.Working.{HoldsSizes, rightAt}

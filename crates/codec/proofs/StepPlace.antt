@@ -10,8 +10,8 @@ use Rattle.lattice.specs.Refusal.{beside}
 use Rattle.lattice.specs.Shape.{maxCells, maxClasses, shapeNumber, Accepted, cellsOf}
 use Rattle.lattice.specs.Class.{layoutOf}
 use Rattle.lattice.specs.Position.{sizeTo}
-use Rattle.lattice.proofs.Answers.{beside-zero}
-use Rattle.lattice.proofs.Limits.{legal}
+use Rattle.lattice.proofs.theory.Answers.{beside-zero}
+use Rattle.lattice.proofs.theory.Limits.{legal}
 use Rattle.codec.specs.Working.{HoldsZeros, HoldsSizes, Stored}
 
 -- a store into an array

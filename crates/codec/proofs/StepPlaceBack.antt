@@ -11,8 +11,8 @@ use Rattle.lattice.specs.Shape.{maxClasses, Accepted, cellsOf}
 use Rattle.lattice.specs.Cell.{cellAt}
 use Rattle.lattice.specs.Class.{classAt, layoutOf, placementOf, classBy}
 use Rattle.lattice.specs.Position.{Layout, sizeTo, size}
-use Rattle.lattice.proofs.ClassAt.{at-class, at-below}
-use Rattle.lattice.proofs.Positions.{size-own, size-other, position-size}
+use Rattle.lattice.proofs.theory.ClassAt.{at-class, at-below}
+use Rattle.lattice.proofs.theory.Positions.{size-own, size-other, position-size}
 use Rattle.codec.specs.Working.{HoldsZeros, HoldsSizes, HoldsRest, Stored, AtCellBack, AtPlace}
 
 -- behind the last cell there is none

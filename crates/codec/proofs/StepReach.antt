@@ -9,8 +9,8 @@ use lib.ListN.{getD}
 use Rattle.lattice.specs.declared.shape.Shape.{Shape}
 use Rattle.lattice.specs.Shape.{Accepted}
 use Rattle.lattice.specs.Class.{classesOf, layoutOf}
-use Rattle.lattice.specs.Position.{allBelow}
-use Rattle.lattice.proofs.ClassBelow.{classes-limit}
+use Rattle.lattice.specs.Counting.{allBelow}
+use Rattle.lattice.proofs.theory.ClassBelow.{classes-limit}
 use Rattle.codec.specs.Field.{fieldOf}
 use Rattle.codec.specs.Hamming.{inReach, allInReach}
 use Rattle.codec.specs.Working.{Examined}

@@ -3,8 +3,8 @@ use Prim.Native.Nat.{ℕ, _+_, _<_, _≤_}
 use mathlib.Core.Bool.{Bool, true, false}
 use mathlib.Core.Path.{_≡_, refl, sym, ap, _∙_}
 use native.Mathlib.Nat.{le-antisymm}
-use Rattle.lattice.specs.Position.{allBelow}
-use Rattle.lattice.proofs.Bools.{and-true}
+use Rattle.lattice.specs.Counting.{allBelow}
+use Rattle.lattice.proofs.theory.Bools.{and-true}
 use Rattle.codec.proofs.AllBelow.{all-step, fails-below}
 
 -- the numbers below n pass the test

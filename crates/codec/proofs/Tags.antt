@@ -8,7 +8,7 @@ use native.Mathlib.Omega.{arith}
 use lib.Dec.{leb}
 use borrow.Author.Tests.{le-leb, lt-leb}
 use Rattle.lattice.specs.Position.{Layout, size, position}
-use Rattle.lattice.proofs.Positions.{position-least, position-most, position-one, position-some}
+use Rattle.lattice.proofs.theory.Positions.{position-least, position-most, position-one, position-some}
 use Rattle.codec.specs.Field.{Field}
 use Rattle.codec.specs.Hamming.{Tells, tagsOf, syndrome, inReach}
 use Rattle.codec.proofs.Correction.{Reached, reach-means, means-reach}

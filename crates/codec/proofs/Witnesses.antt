@@ -8,14 +8,16 @@ use native.Mathlib.Omega.{arith}
 use borrow.Author.Tests.{eqb-true}
 use lib.Dec.{eqb, lit<}
 use lib.ListN.{length}
-use Rattle.lattice.specs.Shape.{inRange, maxStrength, sizeOk, strengthOk, shapeNumber, Accepted, cellsOf}
+use Rattle.lattice.specs.Shape.{maxStrength, sizeOk, strengthOk, shapeNumber, Accepted, cellsOf}
+use Rattle.lattice.specs.Range.{inRange}
 use Rattle.lattice.specs.Settings.{oddSettings, flatSettings, settingsFor}
 use Rattle.lattice.specs.Cell.{Cell, cellAt, cellNumber}
 use Rattle.lattice.specs.Class.{minusMod, classWith, classOf, classAt, layoutOf}
-use Rattle.lattice.specs.Position.{Layout, sizeTo, size, position, isPower, isCheck, holdsData, capacity}
-use Rattle.lattice.proofs.Bools.{and-left, and-right}
-use Rattle.lattice.proofs.Numbering.{numbering}
-use Rattle.lattice.proofs.Witnesses.{field, corner, OfThree}
+use Rattle.lattice.specs.Position.{Layout, sizeTo, size, position}
+use Rattle.lattice.specs.Check.{isPower, isCheck, holdsData, capacity}
+use Rattle.lattice.proofs.theory.Bools.{and-left, and-right}
+use Rattle.lattice.proofs.theorems.Numbering.{numbering}
+use Rattle.lattice.proofs.examples.Placing.{field, corner, OfThree}
 use Rattle.codec.specs.Field.{fieldOf}
 use Rattle.codec.specs.Hamming.{tagsOf, syndrome}
 use Rattle.codec.specs.Payload.{Bytes, Carries, PaddingRight}

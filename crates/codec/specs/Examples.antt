@@ -7,7 +7,7 @@ use Rattle.lattice.specs.declared.shape.Shape.{Shape}
 use Rattle.lattice.specs.Settings.{flatSettings}
 use Rattle.lattice.specs.Cell.{cell}
 use Rattle.lattice.specs.Class.{classWith}
-use Rattle.lattice.specs.Position.{checks}
+use Rattle.lattice.specs.Check.{checks}
 use Rattle.lattice.specs.Order.{triple, origin}
 use Rattle.lattice.specs.DistanceTest.{testNumber, verdict, foundTriple, triplesTried}
 use Rattle.codec.specs.Plan.{planNumber, planCapacity, planBytes}

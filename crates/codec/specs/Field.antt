@@ -6,7 +6,7 @@ use mathlib.Core.Logic.{_⊎_, _↔_}
 use mathlib.Core.Path.{_≡_}
 use lib.Dec.{leb, eqb}
 use lib.ListN.{getD}
-use Rattle.lattice.specs.Position.{count, allBelow}
+use Rattle.lattice.specs.Counting.{count, allBelow}
 
 abbrev pub Field : Type 0
 Field = ℕ → ℕ

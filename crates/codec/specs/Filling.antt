@@ -10,7 +10,8 @@ use lib.ListN.{length, getD, drop}
 use Rattle.lattice.specs.declared.shape.Shape.{Shape}
 use Rattle.lattice.specs.Shape.{maxCells, Accepted, cellsOf}
 use Rattle.lattice.specs.Class.{layoutOf}
-use Rattle.lattice.specs.Position.{Layout, holdsData}
+use Rattle.lattice.specs.Position.{Layout}
+use Rattle.lattice.specs.Check.{holdsData}
 use Rattle.lattice.specs.Listing.{maxChecks, checksTo, ListsChecks, HoldsPlaces, Run}
 use Rattle.codec.specs.Field.{Field, fieldOf, listOf, Same}
 use Rattle.codec.specs.Payload.{payloadBytes, dataField, encoded}

@@ -5,7 +5,8 @@ use mathlib.Core.Logic.{_≢_}
 use mathlib.Core.Path.{_≡_}
 use lib.Bits.{bitXor}
 use lib.Dec.{eqb}
-use Rattle.lattice.specs.Position.{Layout, position, anyBelow, allBelow}
+use Rattle.lattice.specs.Position.{Layout, position}
+use Rattle.lattice.specs.Counting.{anyBelow, allBelow}
 use Rattle.codec.specs.Field.{Field, Cells, flip}
 
 -- a tag for each cell, by its byte number

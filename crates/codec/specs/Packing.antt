@@ -6,7 +6,8 @@ use mathlib.Core.List.{List}
 use mathlib.Core.Path.{_≡_}
 use lib.Dec.{eqb, ltb}
 use lib.ListN.{length, getD}
-use Rattle.lattice.specs.Position.{Layout, holdsData}
+use Rattle.lattice.specs.Position.{Layout}
+use Rattle.lattice.specs.Check.{holdsData}
 use Rattle.codec.specs.Field.{Field, flip}
 use Rattle.codec.specs.Hamming.{tagsOf, syndrome, corrected}
 use Rattle.codec.specs.Payload.{rank, payloadBit, heldByte}

@@ -5,7 +5,9 @@ use mathlib.Core.List.{List}
 use mathlib.Core.Path.{_≡_}
 use lib.Dec.{leb, ltb, eqb}
 use lib.ListN.{getD}
-use Rattle.lattice.specs.Position.{Layout, position, count, allBelow, holdsData, capacity}
+use Rattle.lattice.specs.Position.{Layout, position}
+use Rattle.lattice.specs.Check.{holdsData, capacity}
+use Rattle.lattice.specs.Counting.{count, allBelow}
 use Rattle.codec.specs.Field.{Field, listOf}
 use Rattle.codec.specs.Hamming.{tagsOf, syndrome}
 

@@ -4,7 +4,7 @@ use Rattle.lattice.specs.declared.shape.Shape.{Shape}
 use Rattle.lattice.specs.Refusal.{figure}
 use Rattle.lattice.specs.Shape.{shapeNumber, cellsOf}
 use Rattle.lattice.specs.Class.{classesOf, layoutOf}
-use Rattle.lattice.specs.Position.{capacity}
+use Rattle.lattice.specs.Check.{capacity}
 
 -- the number: the constructor's
 abbrev pub planNumber : Shape → ℕ

@@ -6,7 +6,8 @@ use lib.ListN.{length}
 use Rattle.lattice.specs.declared.shape.Shape.{Shape}
 use Rattle.lattice.specs.Shape.{Accepted, cellsOf}
 use Rattle.lattice.specs.Class.{layoutOf}
-use Rattle.lattice.specs.Position.{Layout, count}
+use Rattle.lattice.specs.Position.{Layout}
+use Rattle.lattice.specs.Counting.{count}
 use Rattle.codec.specs.Field.{Field, fieldOf, Same}
 use Rattle.codec.specs.Payload.{Bytes, Carries, payloadBit, isPadding}
 use Rattle.codec.specs.Code.{LawfulField}

@@ -6,7 +6,7 @@ ghost use lib.ListN.{getD, length};
 ghost use Rattle.lattice.specs.Refusal.{testedNumber};
 ghost use Rattle.lattice.specs.Shape.{maxClasses, cellsOf};
 ghost use Rattle.lattice.specs.Class.{layoutOf};
-ghost use Rattle.lattice.specs.Position.{allBelow};
+ghost use Rattle.lattice.specs.Counting.{allBelow};
 ghost use Rattle.codec.specs.Field.{fieldOf, cellsOk};
 ghost use Rattle.codec.specs.Payload.{paddingOk};
 ghost use Rattle.codec.specs.Decode.{correctedField, fieldNumber};

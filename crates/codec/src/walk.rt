@@ -6,7 +6,7 @@ ghost use lib.Dec.{eqb};
 ghost use lib.ListN.{getD, length};
 ghost use Rattle.lattice.specs.Shape.{maxCells, maxClasses};
 ghost use Rattle.lattice.specs.Class.{layoutOf};
-ghost use Rattle.lattice.specs.Position.{isCheck};
+ghost use Rattle.lattice.specs.Check.{isCheck};
 ghost use Rattle.codec.specs.Field.{flip};
 ghost use Rattle.codec.specs.Payload.{payloadBit, padding};
 ghost use Rattle.codec.specs.Working.{HoldsRest, Stored, AtCellBack, AtPlace};

@@ -10,7 +10,8 @@ use Rattle.lattice.specs.declared.shape.Shape.{Shape}
 use Rattle.lattice.specs.Shape.{maxClasses, Accepted}
 use Rattle.lattice.specs.Settings.{settingsOf}
 use Rattle.lattice.specs.Class.{layoutOf}
-use Rattle.lattice.specs.Position.{Layout, size, isPower}
+use Rattle.lattice.specs.Position.{Layout, size}
+use Rattle.lattice.specs.Check.{isPower}
 use Rattle.lattice.specs.Lines.{passOf, IsLine}
 use Rattle.lattice.specs.Listing.{maxChecks, ListsChecks, HoldsPlaces, Counts}
 

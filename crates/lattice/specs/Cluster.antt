@@ -1,7 +1,6 @@
 -- Joined cells, clusters and distance: source document 002, definition 1.1.
-use Prim.Native.Nat.{ℕ, _+_, _-_, _≤_, _<_}
+use Prim.Native.Nat.{ℕ, _+_, _-_, _≤_}
 use mathlib.Core.List.{List, List·Memᴰ}
-use mathlib.Core.Logic.{_↔_}
 use mathlib.Core.Path.{_≡_}
 use lib.ListN.{length}
 use Rattle.lattice.specs.declared.shape.Shape.{Shape}
@@ -44,7 +43,3 @@ pub record Together (s : Shape) (t : ℕ) (x y : Cell) : Type 1 where
   pub small : AtMost t set
   pub first : set x
   pub second : set y
-
--- Theorem. Two cells of the field lie in some cluster of at most t cells exactly when their distance is below t.
-abbrev pub ClusterDistance : Type 1
-ClusterDistance = (s : Shape) (t : ℕ) (x y : Cell) → InField s x → InField s y → Together s t x y ↔ (distance x y < t)

@@ -10,7 +10,7 @@ use Rattle.lattice.specs.declared.distance.Triple.{Triple}
 use Rattle.lattice.specs.declared.distance.Scan.{Scan}
 use Rattle.lattice.specs.Refusal.{Listed, listed, unless, beside, figure}
 use Rattle.lattice.specs.Settings.{settings}
-use Rattle.lattice.specs.Shape.{inRange, Outside}
+use Rattle.lattice.specs.Range.{inRange, Outside}
 use Rattle.lattice.specs.Order.{order, origin}
 
 -- the settings fail at a triple: column − b × row − c × plane is divisible by m

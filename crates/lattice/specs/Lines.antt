@@ -14,7 +14,8 @@ use Rattle.lattice.specs.Refusal.{beside}
 use Rattle.lattice.specs.Shape.{maxCells, shapeNumber, Accepted, cellsOf}
 use Rattle.lattice.specs.Settings.{settingsOf}
 use Rattle.lattice.specs.Class.{minusMod, layoutOf}
-use Rattle.lattice.specs.Position.{Layout, count, sumBelow, sizeTo}
+use Rattle.lattice.specs.Position.{Layout, sizeTo}
+use Rattle.lattice.specs.Counting.{count, sumBelow}
 
 -- a layout by lines of w cells: the classes of line l are those of one table from `start l` on, moved by `offset l`
 pub record ByLines (L : Layout) (w lines : ℕ) (table start offset : ℕ → ℕ) : Type 0 where

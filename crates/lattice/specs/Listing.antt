@@ -7,7 +7,9 @@ use mathlib.Core.Logic.{_⊎_}
 use mathlib.Core.Path.{_≡_}
 use lib.ListN.{getD}
 use Rattle.lattice.specs.Shape.{maxCells, maxClasses}
-use Rattle.lattice.specs.Position.{Layout, count, size, sizeTo, position, checks, holdsData}
+use Rattle.lattice.specs.Position.{Layout, size, sizeTo, position}
+use Rattle.lattice.specs.Check.{checks, holdsData}
+use Rattle.lattice.specs.Counting.{count}
 
 -- no accepted shape has more cells that hold a check
 abbrev pub maxChecks : ℕ

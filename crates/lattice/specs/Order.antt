@@ -1,10 +1,9 @@
 -- The order in which the distance test tries difference triples (row, plane, column): rising by row, then plane, then column.
-use Prim.Native.Nat.{ℕ, zero, suc, _+_, _-_, _<_, _≤_}
+use Prim.Native.Nat.{ℕ, zero, suc, _+_, _-_}
 use mathlib.Core.List.{List, [], _∷_, _++_, map}
 use mathlib.Core.Logic.{_⊎_}
 use mathlib.Core.Path.{_≡_}
 use lib.IntN.{ℤ, pos, negℤ, sucℤ, natAbs, _-ℤ_}
-use lib.ListN.{length, getD}
 use Rattle.lattice.specs.declared.distance.Triple.{Triple}
 
 abbrev pub triple : ℤ → ℤ → ℤ → Triple
@@ -65,14 +64,3 @@ Before x y =
     Less (x .row) (y .row)
     ⊎ (((x .row ≡ y .row) × Less (x .plane) (y .plane))
     ⊎ ((x .row ≡ y .row) × (x .plane ≡ y .plane) × Less (x .column) (y .column)))
-
--- Theorem. For every t the order lists exactly the triples of absolute sum 1 to t − 1 whose first number that is not 0 is positive,
--- each exactly once, and rising.
-pub record OrderLists : Type 0 where
-  pub listed : (t k : ℕ) → k < length (order t)
-      → Leading (getD (order t) k origin) × (1 ≤ magnitude (getD (order t) k origin)) × (magnitude (getD (order t) k origin) < t)
-  pub complete : (t : ℕ) (x : Triple) → Leading x → magnitude x < t
-      → (k : ℕ) × (k < length (order t)) × (getD (order t) k origin ≡ x)
-  pub once : (t j k : ℕ) → j < length (order t) → k < length (order t)
-      → getD (order t) j origin ≡ getD (order t) k origin → j ≡ k
-  pub rising : (t j k : ℕ) → j < k → k < length (order t) → Before (getD (order t) j origin) (getD (order t) k origin)

@@ -5,9 +5,10 @@ use mathlib.Core.List.{List, [], _∷_}
 use mathlib.Core.Logic.{_⊎_}
 use mathlib.Core.Path.{_≡_}
 use lib.Dec.{leb, eqb}
-use Rattle.lattice.specs.Refusal.{Listed, Condition, numbered, listedAt, unless, orElse}
 use Rattle.lattice.specs.declared.shape.Shape.{Shape}
 use Rattle.lattice.specs.declared.shape.ShapeNumbers.{ShapeNumbers}
+use Rattle.lattice.specs.Refusal.{Listed, Condition, numbered, listedAt, unless, orElse}
+use Rattle.lattice.specs.Range.{inRange, Outside}
 
 -- the shape of numbers of any size: the definitions below say which are refused
 abbrev pub shapeFrom : ShapeNumbers → Shape
@@ -37,10 +38,6 @@ maxClasses = 512
 unfoldable pub maxStrength : ℕ → ℕ
 maxStrength d = cond (eqb d 1) maxFlatStrength maxStackStrength
 
--- x is at least `low` and at most `high`
-unfoldable pub inRange : ℕ → ℕ → ℕ → Bool
-inRange low high x = leb low x && leb x high
-
 unfoldable pub sizeOk : ℕ → ℕ → ℕ → Bool
 sizeOk w h d = inRange 1 maxSide w && inRange 1 maxSide h && inRange 1 maxPlanes d && leb (w * h * d) maxCells
 
@@ -65,10 +62,6 @@ afterShape s later = orElse (shapeNumber s) later
 -- W × H × D
 abbrev pub cellsOf : Shape → ℕ
 cellsOf s = s .columns * s .rows * s .planes
-
--- each refusal's condition by itself
-abbrev pub Outside : ℕ → ℕ → ℕ → Type 0
-Outside low high x = (x < low) ⊎ (high < x)
 
 -- 1: W, H, D or their product outside the limits
 unfoldable pub BadSize : ℕ → ℕ → ℕ → Type 0

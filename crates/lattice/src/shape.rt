@@ -1,7 +1,8 @@
 // The shape of a field: its limits, its constructor and its number of cells.
 ghost use mathlib.Core.Path.{_≡_};
 ghost use Rattle.lattice.specs.Refusal.{testedNumber, figure};
-ghost use Rattle.lattice.specs.Shape.{maxSide, maxPlanes, maxCells, maxFlatStrength, maxStackStrength, maxClasses, maxStrength, inRange, sizeOk, strengthOk, shapeFrom, shapeNumber, cellsOf};
+ghost use Rattle.lattice.specs.Shape.{maxSide, maxPlanes, maxCells, maxFlatStrength, maxStackStrength, maxClasses, maxStrength, sizeOk, strengthOk, shapeFrom, shapeNumber, cellsOf};
+ghost use Rattle.lattice.specs.Range.{inRange};
 ghost use Rattle.lattice.specs.Answer.{IsNewShape, newNumber};
 use crate::refusal::Refusal;
 use crate::refusal::Tested;

@@ -1,6 +1,6 @@
 use Prim.Native.Nat.{_-_, _≤_, zero-le}
 use native.Mathlib.Omega.{arith}
-use Rattle.lattice.proofs.Bools.{failed, passed}
+use Rattle.lattice.proofs.theory.Bools.{failed, passed}
 use Rattle.codec.proofs.StepTest.{Passed, passed-none, passed-more}
 use Rattle.card.specs.Parse.{isCellDigit}
 use Rattle.card.proofs.StepScan.{testAt, test-passes, test-fails, test-all}

@@ -4,7 +4,7 @@ use mathlib.Core.Bool.{true}
 use mathlib.Core.Path.{_≡_}
 use native.Mathlib.Omega.{arith}
 use lib.ListN.{length}
-use Rattle.lattice.proofs.Bools.{failed, passed}
+use Rattle.lattice.proofs.theory.Bools.{failed, passed}
 use Rattle.card.specs.Parse.{keyAt}
 use Rattle.card.specs.Text.{payloadKey}
 use Rattle.card.proofs.StepPayload.{payload-no-key, payload-inside, payload-short, payload-unended, payload-odd, payload-digits}

@@ -1,6 +1,6 @@
 use borrow.Author.Needs.{needs}
 use native.Mathlib.Omega.{arith}
-use Rattle.lattice.proofs.Bools.{failed, passed}
+use Rattle.lattice.proofs.theory.Bools.{failed, passed}
 use Rattle.card.proofs.StepRows.{row-no-key, row-other, row-ends}
 use Rattle.card.proofs.body.row_ok.Statement.{statement}
 use Rattle.card.proofs.body.row_ok.Tie as tie

@@ -1,5 +1,5 @@
 use borrow.Author.Needs.{needs}
-use Rattle.lattice.proofs.Bools.{failed, passed}
+use Rattle.lattice.proofs.theory.Bools.{failed, passed}
 use Rattle.card.proofs.StepNumber.{ends-range, ends-other, ends-one, ends-more}
 use Rattle.card.proofs.line.number_ends.Statement.{statement}
 use Rattle.card.proofs.line.number_ends.Tie as tie

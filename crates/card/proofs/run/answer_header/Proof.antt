@@ -1,7 +1,7 @@
 -- `answer_header` meets its contract: a refusal is the constructor's, and else the later tests follow.
 use mathlib.Core.Path.{sym, _∙_}
 use borrow.Author.Needs.{needs}
-use Rattle.lattice.proofs.NewShapes.{new-refused, new-accepted}
+use Rattle.lattice.proofs.theory.NewShapes.{new-refused, new-accepted}
 use Rattle.card.specs.Working.{BodyRead}
 use Rattle.card.proofs.StepProgram.{bad-shape, too-many}
 use Rattle.card.proofs.StepCard.{new-many, new-card}

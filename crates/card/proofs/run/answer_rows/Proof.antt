@@ -4,7 +4,7 @@ use mathlib.Core.List.{_++_}
 use mathlib.Core.Path.{_≡_, sym, ap, _∙_}
 use native.Mathlib.Omega.{arith}
 use lib.ListN.{length, take, drop, replicate}
-use Rattle.lattice.proofs.Bools.{failed, passed}
+use Rattle.lattice.proofs.theory.Bools.{failed, passed}
 use Rattle.codec.specs.Plan.{planBytes}
 use Rattle.card.specs.Program.{cellsIn}
 use Rattle.card.specs.Working.{decodedText}

@@ -6,7 +6,7 @@ use borrow.Author.Needs.{needs}
 use Rattle.codec.specs.Correct.{correctNumber, correctCount, correctLeaves}
 use Rattle.lattice.specs.declared.refusal.Refusal.the-variants as why
 use Rattle.lattice.specs.Refusal.{testedNumber}
-use Rattle.lattice.proofs.Answers.{refused, done, told, told-none, kept-reason}
+use Rattle.lattice.proofs.theory.Answers.{refused, done, told, told-none, kept-reason}
 use Rattle.codec.proofs.StepNumber.{correct-taken}
 use Rattle.codec.proofs.StepPlace.{zeros}
 use Rattle.codec.proofs.correct.correct.Statement.{statement}

@@ -5,8 +5,8 @@ use borrow.Author.Needs.{needs}
 use Rattle.lattice.specs.declared.refusal.Refusal.the-variants as why
 use Rattle.lattice.specs.Shape.{Accepted}
 use Rattle.codec.specs.Working.{FieldFits}
-use Rattle.lattice.proofs.Answers.{told, told-none, some-number, other-reason, length-outside}
-use Rattle.lattice.proofs.Limits.{number-other}
+use Rattle.lattice.proofs.theory.Answers.{told, told-none, some-number, other-reason, length-outside}
+use Rattle.lattice.proofs.theory.Limits.{number-other}
 use Rattle.codec.proofs.Accepted.{plan-cells, correct-number}
 use Rattle.codec.proofs.StepExamine.{field-other}
 use Rattle.codec.proofs.StepNumber.{cells-given, correct-refused, correct-length}

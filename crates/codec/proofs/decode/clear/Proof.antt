@@ -4,7 +4,7 @@ use mathlib.Core.Path.{_≡_, refl}
 use native.Mathlib.Nat.{not-suc-le-zero}
 use native.Mathlib.Omega.{arith}
 use lib.ListN.{length, getD, length-set}
-use Rattle.lattice.proofs.Tables.{zeros-more, zeros-all}
+use Rattle.lattice.proofs.theory.Tables.{zeros-more, zeros-all}
 use Rattle.codec.proofs.decode.clear.Statement.{statement}
 use Rattle.codec.proofs.decode.clear.Tie as tie
 

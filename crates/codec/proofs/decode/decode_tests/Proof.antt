@@ -1,7 +1,7 @@
 -- `decode_tests` meets its contract: the tests of the lengths, then the field's own.
 use mathlib.Core.Path.{_≡_, sym, ap, _∙_}
 use borrow.Author.Needs.{needs}
-use Rattle.lattice.proofs.Answers.{told, told-none, some-number, other-reason, kept-reason, earlier-told, none-earlier}
+use Rattle.lattice.proofs.theory.Answers.{told, told-none, some-number, other-reason, kept-reason, earlier-told, none-earlier}
 use Rattle.lattice.specs.declared.refusal.Refusal.the-variants as why
 use Rattle.lattice.specs.Refusal.{testedNumber}
 use Rattle.codec.specs.Working.{lengthNumber}

@@ -3,7 +3,7 @@ use mathlib.Core.Path.{_≡_, _∙_}
 use native.Mathlib.Omega.{arith}
 use borrow.Author.Needs.{needs}
 use Rattle.lattice.specs.Shape.{cellsOf}
-use Rattle.lattice.proofs.ClassAt.{at-cells}
+use Rattle.lattice.proofs.theory.ClassAt.{at-cells}
 use Rattle.codec.specs.Code.{tagsAt}
 use Rattle.codec.proofs.CellValues.{received-cells}
 use Rattle.codec.proofs.Correction.{corrected-cells}

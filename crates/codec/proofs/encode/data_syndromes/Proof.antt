@@ -2,8 +2,8 @@
 use mathlib.Core.Path.{_≡_, sym, _∙_}
 use native.Mathlib.Nat.{le-refl}
 use Rattle.lattice.specs.Lines.{passOf}
-use Rattle.lattice.proofs.LineSteps.{pass-accepted}
-use Rattle.lattice.proofs.SizesByLines.{cells-are}
+use Rattle.lattice.proofs.theory.NextLine.{pass-accepted}
+use Rattle.lattice.proofs.theory.SizesByLines.{cells-are}
 use Rattle.codec.proofs.encode.data_syndromes.Statement.{statement}
 use Rattle.codec.proofs.encode.data_syndromes.Tie as tie
 

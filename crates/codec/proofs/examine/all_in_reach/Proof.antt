@@ -4,7 +4,7 @@ use mathlib.Core.Path.{_≡_, refl}
 use native.Mathlib.Omega.{arith}
 use borrow.Author.Needs.{needs}
 use borrow.Author.Tests.{le-leb, lt-leb}
-use Rattle.lattice.specs.Position.{allBelow}
+use Rattle.lattice.specs.Counting.{allBelow}
 use Rattle.lattice.specs.Shape.{maxClasses}
 use Rattle.codec.proofs.AllBelow.{last-fails, last-passes, none-left}
 use Rattle.codec.proofs.StepReach.{reaches}

@@ -5,9 +5,9 @@ use native.Mathlib.Nat.{le-refl, le-of-eq}
 use native.Mathlib.Omega.{arith}
 use Rattle.lattice.specs.Shape.{cellsOf}
 use Rattle.lattice.specs.Lines.{passOf}
-use Rattle.lattice.proofs.Bools.{failed, passed}
-use Rattle.lattice.proofs.LineSteps.{pass-accepted}
-use Rattle.lattice.proofs.SizesByLines.{classes-are, cells-are, most}
+use Rattle.lattice.proofs.theory.Bools.{failed, passed}
+use Rattle.lattice.proofs.theory.NextLine.{pass-accepted}
+use Rattle.lattice.proofs.theory.SizesByLines.{classes-are, cells-are, most}
 use Rattle.codec.specs.Field.{fieldOf, cellsOk}
 use Rattle.codec.specs.Working.{Examined}
 use Rattle.codec.specs.Code.{fieldInReach}

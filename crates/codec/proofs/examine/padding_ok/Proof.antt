@@ -6,9 +6,9 @@ use native.Mathlib.Omega.{arith}
 use borrow.Author.Tests.{not-true, not-false}
 use mir.Facts.{fits-lt, fits-lit}
 use Rattle.lattice.specs.Class.{layoutOf}
-use Rattle.lattice.specs.Position.{holdsData}
-use Rattle.lattice.proofs.CapacityGiven.{classes-given}
-use Rattle.lattice.proofs.ClassAt.{at-cells}
+use Rattle.lattice.specs.Check.{holdsData}
+use Rattle.lattice.proofs.theory.CapacityGiven.{classes-given}
+use Rattle.lattice.proofs.theory.ClassAt.{at-cells}
 use Rattle.codec.specs.Decode.{correctedField}
 use Rattle.codec.specs.Field.{fieldOf}
 use Rattle.codec.specs.Working.{HoldsRest, AtCellBack}

@@ -1,7 +1,7 @@
 -- `plane_cells` meets its contract.
 use borrow.Author.Needs.{needs}
 use mir.Facts.{fits-below}
-use Rattle.lattice.proofs.Widths.{product-16-16}
+use Rattle.lattice.proofs.theory.Widths.{product-16-16}
 use Rattle.codec.proofs.fill.plane_cells.Statement.{statement}
 use Rattle.codec.proofs.fill.plane_cells.Tie as tie
 

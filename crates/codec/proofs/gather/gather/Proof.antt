@@ -9,7 +9,7 @@ use mir.Facts.{fits-lt, fits-lit}
 use Rattle.lattice.specs.Class.{layoutOf}
 use Rattle.lattice.specs.Listing.{checksTo, ListsChecks}
 use Rattle.lattice.specs.Position.{Layout}
-use Rattle.lattice.proofs.Runs.{checks-none, next-run, last-run, behind-check}
+use Rattle.lattice.proofs.theory.Runs.{checks-none, next-run, last-run, behind-check}
 use Rattle.codec.specs.Field.{fieldOf}
 use Rattle.codec.specs.Packing.{HoldsBytes}
 use Rattle.codec.proofs.Gathered.{gathered-none, gathered-check}

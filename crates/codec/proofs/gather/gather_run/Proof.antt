@@ -6,7 +6,7 @@ use native.Mathlib.Omega.{arith}
 use lib.ListN.{length}
 use Rattle.lattice.specs.Listing.{Run}
 use Rattle.lattice.specs.Position.{Layout}
-use Rattle.lattice.proofs.Runs.{run-part}
+use Rattle.lattice.proofs.theory.Runs.{run-part}
 use Rattle.codec.specs.Field.{fieldOf}
 use Rattle.codec.specs.Packing.{HoldsBytes}
 use Rattle.codec.proofs.gather.gather_run.Statement.{statement}

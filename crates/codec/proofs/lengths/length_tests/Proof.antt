@@ -7,9 +7,9 @@ use lib.ListN.{length}
 use Rattle.lattice.specs.declared.refusal.Refusal.the-variants as why
 use Rattle.lattice.specs.Shape.{Accepted, cellsOf}
 use Rattle.lattice.specs.Class.{layoutOf}
-use Rattle.lattice.proofs.Answers.{told, told-none, some-number, other-reason, passed-reason, length-outside}
-use Rattle.lattice.proofs.CapacityGiven.{classes-given}
-use Rattle.lattice.proofs.Limits.{number-other}
+use Rattle.lattice.proofs.theory.Answers.{told, told-none, some-number, other-reason, passed-reason, length-outside}
+use Rattle.lattice.proofs.theory.CapacityGiven.{classes-given}
+use Rattle.lattice.proofs.theory.Limits.{number-other}
 use Rattle.codec.specs.Plan.{planBytes}
 use Rattle.codec.specs.Working.{HoldsSizes}
 use Rattle.codec.proofs.Accepted.{plan-bytes, plan-cells}

@@ -5,7 +5,7 @@ use native.Mathlib.Omega.{arith}
 use borrow.Author.Needs.{needs}
 use Rattle.lattice.specs.Position.{Layout}
 use Rattle.lattice.specs.Listing.{checksTo, ListsChecks}
-use Rattle.lattice.proofs.Runs.{checks-mono, listed-before, listed-behind}
+use Rattle.lattice.proofs.theory.Runs.{checks-mono, listed-before, listed-behind}
 use Rattle.codec.proofs.mend.checks_before.Statement.{statement}
 use Rattle.codec.proofs.mend.checks_before.Tie as tie
 

@@ -7,8 +7,8 @@ use native.Mathlib.Omega.{arith}
 use lib.Dec.{eqb}
 use lib.ListN.{getD}
 use borrow.Author.Needs.{needs}
-use Rattle.lattice.specs.Position.{count}
-use Rattle.lattice.proofs.Counting.{count-step, count-most}
+use Rattle.lattice.specs.Counting.{count}
+use Rattle.lattice.proofs.theory.Counting.{count-step, count-most}
 use Rattle.codec.proofs.mend.count_damaged.Statement.{statement}
 use Rattle.codec.proofs.mend.count_damaged.Tie as tie
 

@@ -2,7 +2,7 @@
 use native.Mathlib.Omega.{arith}
 use borrow.Author.Needs.{needs}
 use Rattle.codec.proofs.FlippedBits.{bits-outside, bits-listed, bits-unlisted}
-use Rattle.lattice.proofs.Runs.{checks-most}
+use Rattle.lattice.proofs.theory.Runs.{checks-most}
 use Rattle.codec.proofs.mend.flip_at.Statement.{statement}
 use Rattle.codec.proofs.mend.flip_at.Tie as tie
 

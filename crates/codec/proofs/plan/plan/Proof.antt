@@ -3,7 +3,7 @@ use Prim.Native.Nat.{ℕ, _/_}
 use mathlib.Core.Path.{sym, ap}
 use borrow.Author.Needs.{needs}
 use Rattle.codec.specs.Plan.{planClasses, planCapacity, planBytes, planCells}
-use Rattle.lattice.proofs.Answers.{told, told-none}
+use Rattle.lattice.proofs.theory.Answers.{told, told-none}
 use Rattle.codec.proofs.PlanRefusal.{plan-refused}
 use Rattle.codec.proofs.plan.plan.Statement.{statement}
 use Rattle.codec.proofs.plan.plan.Tie as tie

@@ -3,7 +3,7 @@ use mathlib.Core.Path.{subst}
 use native.Mathlib.Omega.{arith}
 use borrow.Author.Needs.{needs}
 use Rattle.lattice.specs.Class.{layoutOf}
-use Rattle.lattice.proofs.SizesByLines.{cells-are, some}
+use Rattle.lattice.proofs.theory.SizesByLines.{cells-are, some}
 use Rattle.codec.specs.Field.{fieldOf}
 use Rattle.codec.specs.Working.{HoldsSyndromes}
 use Rattle.codec.proofs.LinesTaken.{pass-cells, pass-alone}

@@ -6,7 +6,7 @@ use native.Mathlib.Omega.{arith}
 use lib.ListN.{length, getD, length-set}
 use lib.Seq.{getD-set-other}
 use borrow.Author.Needs.{needs}
-use Rattle.lattice.proofs.LineCounts.{place-next}
+use Rattle.lattice.proofs.theory.LineCounts.{place-next}
 use Rattle.codec.specs.Lines.{folded}
 use Rattle.codec.proofs.LineTaken.{fold-none, fold-more}
 use Rattle.codec.proofs.syndromes.fold.Statement.{statement}

@@ -8,9 +8,9 @@ use Rattle.lattice.specs.declared.shape.Shape.{Shape}
 use Rattle.lattice.specs.Shape.{maxCells, maxClasses, Accepted}
 use Rattle.lattice.specs.Settings.{settingsOf}
 use Rattle.lattice.specs.Lines.{lineStart, passOf, startsAt, IsLine}
-use Rattle.lattice.proofs.LineCounts.{Counted, counted-none, counted-more, starts-most}
-use Rattle.lattice.proofs.LineSteps.{pass-first}
-use Rattle.lattice.proofs.SizesByLines.{most, starts-below, lines-most}
+use Rattle.lattice.proofs.theory.LineCounts.{Counted, counted-none, counted-more, starts-most}
+use Rattle.lattice.proofs.theory.NextLine.{pass-first}
+use Rattle.lattice.proofs.theory.SizesByLines.{most, starts-below, lines-most}
 use Rattle.lattice.proofs.by_lines.count_starts.Statement.{statement}
 use Rattle.lattice.proofs.by_lines.count_starts.Tie as tie
 

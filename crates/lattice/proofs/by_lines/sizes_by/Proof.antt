@@ -8,8 +8,8 @@ use borrow.Author.Needs.{needs}
 use Rattle.lattice.specs.Shape.{maxCells, maxClasses}
 use Rattle.lattice.specs.Settings.{settingsOf}
 use Rattle.lattice.specs.Lines.{lineStart}
-use Rattle.lattice.proofs.LineCounts.{starts-most, zeros-at}
-use Rattle.lattice.proofs.SizesByLines.{some, most, lines-most, base-most, sums-less, sizes-right}
+use Rattle.lattice.proofs.theory.LineCounts.{starts-most, zeros-at}
+use Rattle.lattice.proofs.theory.SizesByLines.{some, most, lines-most, base-most, sums-less, sizes-right}
 use Rattle.lattice.proofs.by_lines.sizes_by.Statement.{statement}
 use Rattle.lattice.proofs.by_lines.sizes_by.Tie as tie
 

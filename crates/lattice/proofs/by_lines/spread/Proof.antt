@@ -4,7 +4,7 @@ use mathlib.Core.Path.{_≡_, refl}
 use native.Mathlib.Omega.{arith}
 use lib.ListN.{length, getD, length-set}
 use Rattle.lattice.specs.Shape.{maxCells}
-use Rattle.lattice.proofs.Stores.{store-more, store-left}
+use Rattle.lattice.proofs.theory.Stores.{store-more, store-left}
 use Rattle.lattice.proofs.by_lines.spread.Statement.{statement}
 use Rattle.lattice.proofs.by_lines.spread.Tie as tie
 

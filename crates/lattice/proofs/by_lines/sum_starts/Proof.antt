@@ -6,7 +6,7 @@ use native.Mathlib.Omega.{arith}
 use lib.ListN.{length, getD, length-set}
 use Rattle.lattice.specs.Shape.{maxCells}
 use Rattle.lattice.specs.Lines.{Sums}
-use Rattle.lattice.proofs.LineCounts.{place-next, sums-none, sums-more}
+use Rattle.lattice.proofs.theory.LineCounts.{place-next, sums-none, sums-more}
 use Rattle.lattice.proofs.by_lines.sum_starts.Statement.{statement}
 use Rattle.lattice.proofs.by_lines.sum_starts.Tie as tie
 

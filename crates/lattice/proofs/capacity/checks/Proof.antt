@@ -2,7 +2,7 @@
 use native.Mathlib.Omega.{arith}
 use lib.Count.{leading-le}
 use mir.Facts.{fits-lt-pow}
-use Rattle.lattice.proofs.BitLength.{checks-leading}
+use Rattle.lattice.proofs.theory.BitLength.{checks-leading}
 use Rattle.lattice.proofs.capacity.checks.Statement.{statement}
 use Rattle.lattice.proofs.capacity.checks.Tie as tie
 

@@ -4,8 +4,8 @@ use native.Mathlib.Nat.{le-refl}
 use borrow.Author.Needs.{needs}
 use Rattle.lattice.specs.Shape.{Accepted}
 use Rattle.lattice.specs.Lines.{passOf}
-use Rattle.lattice.proofs.Answers.{refused, done, told, told-none}
-use Rattle.lattice.proofs.LineSteps.{pass-accepted}
+use Rattle.lattice.proofs.theory.Answers.{refused, done, told, told-none}
+use Rattle.lattice.proofs.theory.NextLine.{pass-accepted}
 use Rattle.lattice.proofs.capacity.class_sizes.Statement.{statement}
 use Rattle.lattice.proofs.capacity.class_sizes.Tie as tie
 

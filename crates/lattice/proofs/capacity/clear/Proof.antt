@@ -5,7 +5,7 @@ use native.Mathlib.Nat.{not-suc-le-zero}
 use native.Mathlib.Omega.{arith}
 use lib.ListN.{length, getD, length-set}
 use borrow.Author.Needs.{needs}
-use Rattle.lattice.proofs.Tables.{zeros-more, zeros-all}
+use Rattle.lattice.proofs.theory.Tables.{zeros-more, zeros-all}
 use Rattle.lattice.proofs.capacity.clear.Statement.{statement}
 use Rattle.lattice.proofs.capacity.clear.Tie as tie
 

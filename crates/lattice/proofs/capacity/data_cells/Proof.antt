@@ -1,8 +1,8 @@
 -- `data_cells` meets its contract.
 use borrow.Author.Needs.{needs}
 use mathlib.Core.Path.{sym}
-use Rattle.lattice.proofs.CapacitySum.{data-cells}
-use Rattle.lattice.proofs.Powers.{checks-most}
+use Rattle.lattice.proofs.theory.CapacityByClass.{data-cells}
+use Rattle.lattice.proofs.theory.Powers.{checks-most}
 use Rattle.lattice.proofs.capacity.data_cells.Statement.{statement}
 use Rattle.lattice.proofs.capacity.data_cells.Tie as tie
 

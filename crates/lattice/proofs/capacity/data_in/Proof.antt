@@ -4,8 +4,9 @@ use mathlib.Core.Path.{_≡_, refl, ap, _∙_}
 use native.Mathlib.Nat.{le-antisymm}
 use native.Mathlib.Omega.{arith}
 use lib.ListN.{getD}
-use Rattle.lattice.specs.Position.{sumBelow, dataCells, dataIn}
-use Rattle.lattice.proofs.Counting.{sum-more}
+use Rattle.lattice.specs.Check.{dataCells, dataIn}
+use Rattle.lattice.specs.Counting.{sumBelow}
+use Rattle.lattice.proofs.theory.Counting.{sum-more}
 use Rattle.lattice.proofs.capacity.data_in.Statement.{statement}
 use Rattle.lattice.proofs.capacity.data_in.Tie as tie
 

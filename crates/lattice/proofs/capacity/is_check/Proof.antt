@@ -1,6 +1,6 @@
 -- `is_check` meets its contract.
 use borrow.Author.Needs.{needs}
-use Rattle.lattice.specs.Position.{isCheck}
+use Rattle.lattice.specs.Check.{isCheck}
 use Rattle.lattice.proofs.capacity.is_check.Statement.{statement}
 use Rattle.lattice.proofs.capacity.is_check.Tie as tie
 

@@ -1,7 +1,7 @@
 -- `is_power` meets its contract.
 use borrow.Author.Needs.{needs}
 use mir.Facts.{fits-lt-pow}
-use Rattle.lattice.proofs.PowerTest.{not-power, bits-some, bits-few, power-test}
+use Rattle.lattice.proofs.theory.PowerTest.{not-power, bits-some, bits-few, power-test}
 use Rattle.lattice.proofs.capacity.is_power.Statement.{statement}
 use Rattle.lattice.proofs.capacity.is_power.Tie as tie
 

@@ -4,9 +4,9 @@ use native.Mathlib.Nat.{le-refl}
 use borrow.Author.Needs.{needs}
 use Rattle.lattice.specs.Shape.{Accepted}
 use Rattle.lattice.specs.Lines.{passOf}
-use Rattle.lattice.proofs.Answers.{some-number, told, told-none}
-use Rattle.lattice.proofs.LineSteps.{pass-accepted}
-use Rattle.lattice.proofs.SizesByLines.{classes-are}
+use Rattle.lattice.proofs.theory.Answers.{some-number, told, told-none}
+use Rattle.lattice.proofs.theory.NextLine.{pass-accepted}
+use Rattle.lattice.proofs.theory.SizesByLines.{classes-are}
 use Rattle.lattice.proofs.cell_places.cells_at.Statement.{statement}
 use Rattle.lattice.proofs.cell_places.cells_at.Tie as tie
 

@@ -9,9 +9,9 @@ use Rattle.lattice.specs.declared.shape.Shape.{Shape}
 use Rattle.lattice.specs.Shape.{maxSide, maxCells, Accepted}
 use Rattle.lattice.specs.Class.{layoutOf}
 use Rattle.lattice.specs.Lines.{passOf}
-use Rattle.lattice.proofs.CellSearch.{Searched, SearchedLine, search-first, search-over, search-line}
-use Rattle.lattice.proofs.GivenCells.{given-cell, given-none}
-use Rattle.lattice.proofs.PassRoom.{pass-narrow}
+use Rattle.lattice.proofs.cell_places.Search.{Searched, SearchedLine, search-first, search-over, search-line}
+use Rattle.lattice.proofs.cell_places.Given.{given-cell, given-none}
+use Rattle.lattice.proofs.theory.PassRoom.{pass-narrow}
 use Rattle.lattice.proofs.cell_places.find_cell.Statement.{statement}
 use Rattle.lattice.proofs.cell_places.find_cell.Tie as tie
 

@@ -8,8 +8,8 @@ use Rattle.lattice.specs.Shape.{maxClasses, Accepted}
 use Rattle.lattice.specs.Class.{layoutOf}
 use Rattle.lattice.specs.Lines.{passOf}
 use Rattle.lattice.specs.Listing.{CellsAt}
-use Rattle.lattice.proofs.GivenCells.{cells-none, cells-more}
-use Rattle.lattice.proofs.SizesByLines.{most}
+use Rattle.lattice.proofs.cell_places.Given.{cells-none, cells-more}
+use Rattle.lattice.proofs.theory.SizesByLines.{most}
 use Rattle.lattice.proofs.cell_places.place_all.Statement.{statement}
 use Rattle.lattice.proofs.cell_places.place_all.Tie as tie
 

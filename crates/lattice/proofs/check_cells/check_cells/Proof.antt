@@ -5,11 +5,11 @@ use native.Mathlib.Omega.{arith}
 use borrow.Author.Needs.{needs}
 use Rattle.lattice.specs.Shape.{maxClasses, Accepted}
 use Rattle.lattice.specs.Lines.{passOf}
-use Rattle.lattice.proofs.Answers.{some-number, told, told-none}
-use Rattle.lattice.proofs.CheckLines.{listed-all}
-use Rattle.lattice.proofs.LineCounts.{zeros-at}
-use Rattle.lattice.proofs.LineSteps.{pass-accepted}
-use Rattle.lattice.proofs.PassRoom.{pass-some, pass-most, pass-narrow}
+use Rattle.lattice.proofs.theory.Answers.{some-number, told, told-none}
+use Rattle.lattice.proofs.check_cells.Lines.{listed-all}
+use Rattle.lattice.proofs.theory.LineCounts.{zeros-at}
+use Rattle.lattice.proofs.theory.NextLine.{pass-accepted}
+use Rattle.lattice.proofs.theory.PassRoom.{pass-some, pass-most, pass-narrow}
 use Rattle.lattice.proofs.check_cells.check_cells.Statement.{statement}
 use Rattle.lattice.proofs.check_cells.check_cells.Tie as tie
 

@@ -4,7 +4,7 @@ use mathlib.Core.Path.{_≡_, refl}
 use native.Mathlib.Omega.{arith}
 use lib.ListN.{length, getD, length-set}
 use borrow.Author.Needs.{needs}
-use Rattle.lattice.proofs.Stores.{store-more, store-left}
+use Rattle.lattice.proofs.theory.Stores.{store-more, store-left}
 use Rattle.lattice.proofs.check_cells.count_line.Statement.{statement}
 use Rattle.lattice.proofs.check_cells.count_line.Tie as tie
 

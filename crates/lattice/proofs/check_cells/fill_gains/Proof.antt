@@ -5,7 +5,7 @@ use native.Mathlib.Omega.{arith}
 use lib.ListN.{length, take}
 use lib.Seq.{length-take-le}
 use borrow.Author.Needs.{needs}
-use Rattle.lattice.proofs.PositionParts.{gains-front}
+use Rattle.lattice.proofs.theory.PositionParts.{gains-front}
 use Rattle.lattice.proofs.check_cells.fill_gains.Statement.{statement}
 use Rattle.lattice.proofs.check_cells.fill_gains.Tie as tie
 

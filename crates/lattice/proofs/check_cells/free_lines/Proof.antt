@@ -1,6 +1,6 @@
 -- `free_lines` meets its contract.
 use borrow.Author.Needs.{needs}
-use Rattle.lattice.proofs.FreeLine.{none-ahead}
+use Rattle.lattice.proofs.check_cells.FreeLine.{none-ahead}
 use Rattle.lattice.proofs.check_cells.free_lines.Statement.{statement}
 use Rattle.lattice.proofs.check_cells.free_lines.Tie as tie
 

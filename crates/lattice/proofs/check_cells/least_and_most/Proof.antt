@@ -3,7 +3,7 @@ use Prim.Native.Nat.{ℕ, _-_, _<_, _≤_, zero-le}
 use native.Mathlib.Omega.{arith}
 use lib.ListN.{getD}
 use borrow.Author.Needs.{needs}
-use Rattle.lattice.proofs.Extremes.{least-more, most-more}
+use Rattle.lattice.proofs.check_cells.LeastMost.{least-more, most-more}
 use Rattle.lattice.proofs.check_cells.least_and_most.Statement.{statement}
 use Rattle.lattice.proofs.check_cells.least_and_most.Tie as tie
 

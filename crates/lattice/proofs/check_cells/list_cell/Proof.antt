@@ -1,7 +1,7 @@
 -- `list_cell` meets its contract.
 use mathlib.Core.Path.{sym, _∙_}
 use borrow.Author.Needs.{needs}
-use Rattle.lattice.proofs.ListSteps.{step-free, step-check}
+use Rattle.lattice.proofs.check_cells.OneMore.{step-free, step-check}
 use Rattle.lattice.proofs.check_cells.list_cell.Statement.{statement}
 use Rattle.lattice.proofs.check_cells.list_cell.Tie as tie
 

@@ -9,9 +9,9 @@ use Rattle.lattice.specs.Shape.{maxCells, maxClasses, Accepted}
 use Rattle.lattice.specs.Class.{layoutOf}
 use Rattle.lattice.specs.Lines.{passOf}
 use Rattle.lattice.specs.CheckList.{ListedTo}
-use Rattle.lattice.proofs.CheckLines.{line-within, line-begins, line-goes, line-ends, line-few, line-checks, line-starts, cell-class}
-use Rattle.lattice.proofs.LineCounts.{place-next}
-use Rattle.lattice.proofs.SizesByLines.{some, most}
+use Rattle.lattice.proofs.check_cells.Lines.{line-within, line-begins, line-goes, line-ends, line-few, line-checks, line-starts, cell-class}
+use Rattle.lattice.proofs.theory.LineCounts.{place-next}
+use Rattle.lattice.proofs.theory.SizesByLines.{some, most}
 use Rattle.lattice.proofs.check_cells.list_line.Statement.{statement}
 use Rattle.lattice.proofs.check_cells.list_line.Tie as tie
 

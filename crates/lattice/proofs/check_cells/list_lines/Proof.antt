@@ -5,8 +5,8 @@ use mathlib.Core.Path.{_≡_, subst}
 use native.Mathlib.Omega.{arith}
 use Rattle.lattice.specs.Class.{layoutOf}
 use Rattle.lattice.specs.CheckList.{ListedTo, LinesListed, LineOf, FreeAhead}
-use Rattle.lattice.proofs.CheckLines.{listed-none}
-use Rattle.lattice.proofs.LineSteps.{pass-first}
+use Rattle.lattice.proofs.check_cells.Lines.{listed-none}
+use Rattle.lattice.proofs.theory.NextLine.{pass-first}
 use Rattle.lattice.proofs.check_cells.list_lines.Statement.{statement}
 use Rattle.lattice.proofs.check_cells.list_lines.Tie as tie
 

@@ -4,10 +4,10 @@ use native.Mathlib.Omega.{arith}
 use lib.ListN.{getD}
 use borrow.Author.Needs.{needs}
 use Rattle.lattice.specs.Shape.{maxSide, maxCells, maxClasses}
-use Rattle.lattice.proofs.CheckLines.{line-before, line-few, line-starts, line-passed}
-use Rattle.lattice.proofs.FreeLine.{ahead-first, ahead-after}
-use Rattle.lattice.proofs.PassRoom.{pass-some, pass-most, pass-narrow}
-use Rattle.lattice.proofs.PositionParts.{quotient-most}
+use Rattle.lattice.proofs.check_cells.Lines.{line-before, line-few, line-starts, line-passed}
+use Rattle.lattice.proofs.check_cells.FreeLine.{ahead-first, ahead-after}
+use Rattle.lattice.proofs.theory.PassRoom.{pass-some, pass-most, pass-narrow}
+use Rattle.lattice.proofs.theory.PositionParts.{quotient-most}
 use Rattle.lattice.proofs.check_cells.list_or_count.Statement.{statement}
 use Rattle.lattice.proofs.check_cells.list_or_count.Tie as tie
 

@@ -3,7 +3,7 @@ use mathlib.Core.Path.{_≡_}
 use native.Mathlib.Omega.{arith}
 use mir.Facts.{fits-lt-pow}
 use borrow.Author.Needs.{needs}
-use Rattle.lattice.proofs.PowerTest.{bits-some, bits-few}
+use Rattle.lattice.proofs.theory.PowerTest.{bits-some, bits-few}
 use Rattle.lattice.proofs.check_cells.place_number.Statement.{statement}
 use Rattle.lattice.proofs.check_cells.place_number.Tie as tie
 

@@ -1,7 +1,7 @@
 -- `power_above` meets its contract.
 use borrow.Author.Needs.{needs}
 use mir.Facts.{fits-lt-pow}
-use Rattle.lattice.proofs.PowerTest.{bits-some, bits-few}
+use Rattle.lattice.proofs.theory.PowerTest.{bits-some, bits-few}
 use Rattle.lattice.proofs.check_cells.power_above.Statement.{statement}
 use Rattle.lattice.proofs.check_cells.power_above.Tie as tie
 

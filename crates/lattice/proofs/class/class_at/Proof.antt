@@ -1,6 +1,6 @@
 -- `class_at` meets its contract.
 use borrow.Author.Needs.{needs}
-use Rattle.lattice.proofs.ClassAt.{class-at}
+use Rattle.lattice.proofs.theory.ClassAt.{class-at}
 use Rattle.lattice.proofs.class.class_at.Statement.{statement}
 use Rattle.lattice.proofs.class.class_at.Tie as tie
 

@@ -5,8 +5,8 @@ use native.Mathlib.Omega.{arith}
 use borrow.Author.Needs.{needs}
 use mir.Facts.{fits-below}
 use Rattle.lattice.specs.Class.{classWith}
-use Rattle.lattice.proofs.ClassBelow.{class-none}
-use Rattle.lattice.proofs.Widths.{most-16, most-32, product-16-32}
+use Rattle.lattice.proofs.theory.ClassBelow.{class-none}
+use Rattle.lattice.proofs.theory.Widths.{most-16, most-32, product-16-32}
 use Rattle.lattice.proofs.class.class_with.Statement.{statement}
 use Rattle.lattice.proofs.class.class_with.Tie as tie
 

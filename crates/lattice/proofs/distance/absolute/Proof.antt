@@ -1,6 +1,6 @@
 -- `lattice::distance::absolute` meets its contract. By the sign, the number or its negation is cast.
 use native.Mathlib.Omega.{arith}
-use Rattle.lattice.proofs.Words.{flipped-fits, flipped-cast, flipped-size, upright-cast, upright-size}
+use Rattle.lattice.proofs.theory.Words.{flipped-fits, flipped-cast, flipped-size, upright-cast, upright-size}
 use Rattle.lattice.proofs.distance.absolute.Statement.{statement}
 use Rattle.lattice.proofs.distance.absolute.Tie as tie
 

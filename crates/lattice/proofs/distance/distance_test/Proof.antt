@@ -3,8 +3,8 @@ use mathlib.Core.Path.{_≡_, refl}
 use native.Mathlib.Omega.{arith}
 use borrow.Author.Needs.{needs}
 use Rattle.lattice.specs.DistanceTest.{testNumber}
-use Rattle.lattice.proofs.Answers.{told, told-none}
-use Rattle.lattice.proofs.TestAnswer.{accepted-bounds, outcome-is, scanned, not-tested}
+use Rattle.lattice.proofs.theory.Answers.{told, told-none}
+use Rattle.lattice.proofs.theory.TestAnswer.{accepted-bounds, outcome-is, scanned, not-tested}
 use Rattle.lattice.proofs.distance.distance_test.Statement.{statement}
 use Rattle.lattice.proofs.distance.distance_test.Tie as tie
 

@@ -3,8 +3,8 @@ use mathlib.Core.Bool.{true}
 use mathlib.Core.Path.{_≡_, sym}
 use borrow.Author.Needs.{needs}
 use Rattle.lattice.specs.DistanceTest.{testStrengthOk}
-use Rattle.lattice.proofs.Bools.{failed, passed}
-use Rattle.lattice.proofs.TestAnswer.{strength-refused, strength-accepted, number-two, number-nine, number-zero}
+use Rattle.lattice.proofs.theory.Bools.{failed, passed}
+use Rattle.lattice.proofs.theory.TestAnswer.{strength-refused, strength-accepted, number-two, number-nine, number-zero}
 use Rattle.lattice.proofs.distance.distance_tests.Statement.{statement}
 use Rattle.lattice.proofs.distance.distance_tests.Tie as tie
 

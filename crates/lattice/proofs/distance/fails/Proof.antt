@@ -6,7 +6,7 @@ use Prim.Native.Nat.{_%_}
 use lib.Dec.{eqb}
 use lib.IntN.{ℤ, pos, natAbs, _-ℤ_, _*ℤ_}
 use Rattle.lattice.specs.DistanceTest.{failsAt}
-use Rattle.lattice.proofs.Words.{read-back, upright-size, difference-fits, residue-fits, residue-quot-fits, residue-rem}
+use Rattle.lattice.proofs.theory.Words.{read-back, upright-size, difference-fits, residue-fits, residue-quot-fits, residue-rem}
 use Rattle.lattice.proofs.distance.fails.Statement.{statement}
 use Rattle.lattice.proofs.distance.fails.Tie as tie
 

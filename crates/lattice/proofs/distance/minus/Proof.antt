@@ -1,7 +1,7 @@
 -- `lattice::distance::minus` meets its contract. A small number, negated, fits.
 use borrow.Author.Needs.{needs}
 use native.Mathlib.Omega.{arith}
-use Rattle.lattice.proofs.Words.{minus-fits, minus-back}
+use Rattle.lattice.proofs.theory.Words.{minus-fits, minus-back}
 use Rattle.lattice.proofs.distance.minus.Statement.{statement}
 use Rattle.lattice.proofs.distance.minus.Tie as tie
 

@@ -1,7 +1,7 @@
 -- `lattice::distance::remaining` meets its contract. Both answers are the difference.
 use borrow.Author.Needs.{needs}
 use native.Mathlib.Omega.{arith}
-use Rattle.lattice.proofs.Words.{upright-size}
+use Rattle.lattice.proofs.theory.Words.{upright-size}
 use Rattle.lattice.proofs.distance.remaining.Statement.{statement}
 use Rattle.lattice.proofs.distance.remaining.Tie as tie
 

@@ -1,6 +1,6 @@
 -- `lattice::distance::scaled` meets its contract. A 16-bit number times a small number fits.
 use borrow.Author.Needs.{needs}
-use Rattle.lattice.proofs.Words.{scaled-fits, scaled-back}
+use Rattle.lattice.proofs.theory.Words.{scaled-fits, scaled-back}
 use Rattle.lattice.proofs.distance.scaled.Statement.{statement}
 use Rattle.lattice.proofs.distance.scaled.Tie as tie
 

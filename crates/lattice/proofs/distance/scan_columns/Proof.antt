@@ -9,8 +9,8 @@ use mir.Val.{toZ}
 use Rattle.lattice.specs.declared.distance.Scan.{Scan}
 use Rattle.lattice.specs.Order.{triple, run, columnsAt}
 use Rattle.lattice.specs.DistanceTest.{after, scan}
-use Rattle.lattice.proofs.Words.{read, upright-size, shifted-near, shifted-again}
-use Rattle.lattice.proofs.ScanLoops.{left, left-start, left-end, columns-found, columns-next, columns-read}
+use Rattle.lattice.proofs.theory.Words.{read, upright-size, shifted-near, shifted-again}
+use Rattle.lattice.proofs.theory.ScanLoops.{left, left-start, left-end, columns-found, columns-next, columns-read}
 use Rattle.lattice.proofs.distance.scan_columns.Statement.{statement}
 use Rattle.lattice.proofs.distance.scan_columns.Tie as tie
 

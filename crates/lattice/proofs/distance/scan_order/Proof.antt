@@ -2,7 +2,7 @@
 use native.Mathlib.Omega.{arith}
 use mathlib.Core.Path.{ap}
 use Rattle.lattice.specs.declared.distance.Scan.{Scan}
-use Rattle.lattice.proofs.ScanOrder.{order-columns, order-planes, order-rows}
+use Rattle.lattice.proofs.theory.ScanOrder.{order-columns, order-planes, order-rows}
 use Rattle.lattice.proofs.distance.scan_order.Statement.{statement}
 use Rattle.lattice.proofs.distance.scan_order.Tie as tie
 

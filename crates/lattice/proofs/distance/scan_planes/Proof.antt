@@ -9,8 +9,8 @@ use mir.Val.{toZ}
 use Rattle.lattice.specs.declared.distance.Scan.{Scan}
 use Rattle.lattice.specs.Order.{run, planesAt}
 use Rattle.lattice.specs.DistanceTest.{after, scan}
-use Rattle.lattice.proofs.Words.{read, upright-size, shifted-near, shifted-again}
-use Rattle.lattice.proofs.ScanLoops.{block-at, left, left-start, left-end, left-found, left-past, planeBlock, planes-read}
+use Rattle.lattice.proofs.theory.Words.{read, upright-size, shifted-near, shifted-again}
+use Rattle.lattice.proofs.theory.ScanLoops.{block-at, left, left-start, left-end, left-found, left-past, planeBlock, planes-read}
 use Rattle.lattice.proofs.distance.scan_planes.Statement.{statement}
 use Rattle.lattice.proofs.distance.scan_planes.Tie as tie
 

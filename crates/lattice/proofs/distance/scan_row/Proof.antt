@@ -2,8 +2,8 @@
 use mathlib.Core.Path.{ap}
 use native.Mathlib.Omega.{arith}
 use Rattle.lattice.specs.declared.distance.Scan.{Scan}
-use Rattle.lattice.proofs.Words.{upright-size}
-use Rattle.lattice.proofs.ScanLoops.{end-near, row-scanned}
+use Rattle.lattice.proofs.theory.Words.{upright-size}
+use Rattle.lattice.proofs.theory.ScanLoops.{end-near, row-scanned}
 use Rattle.lattice.proofs.distance.scan_row.Statement.{statement}
 use Rattle.lattice.proofs.distance.scan_row.Tie as tie
 

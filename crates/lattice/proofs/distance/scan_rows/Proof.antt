@@ -7,8 +7,8 @@ use lib.IntN.{pos, _+ℤ_}
 use Rattle.lattice.specs.declared.distance.Scan.{Scan}
 use Rattle.lattice.specs.Order.{run, rowsAt}
 use Rattle.lattice.specs.DistanceTest.{after, scan}
-use Rattle.lattice.proofs.Words.{read, shifted-near, shifted-again}
-use Rattle.lattice.proofs.ScanLoops.{block-at, left, left-start, left-end, left-found, left-past, rowBlock}
+use Rattle.lattice.proofs.theory.Words.{read, shifted-near, shifted-again}
+use Rattle.lattice.proofs.theory.ScanLoops.{block-at, left, left-start, left-end, left-found, left-past, rowBlock}
 use Rattle.lattice.proofs.distance.scan_rows.Statement.{statement}
 use Rattle.lattice.proofs.distance.scan_rows.Tie as tie
 

@@ -1,7 +1,7 @@
 -- `lattice::distance::settings_ok` meets its contract. The checks of the settings come one after the other.
 use mathlib.Core.Path.{_∙_, sym}
 use borrow.Author.Tests.{not-true, not-false}
-use Rattle.lattice.proofs.TestAnswer.{settings-first, settings-second, settings-third}
+use Rattle.lattice.proofs.theory.TestAnswer.{settings-first, settings-second, settings-third}
 use Rattle.lattice.proofs.distance.settings_ok.Statement.{statement}
 use Rattle.lattice.proofs.distance.settings_ok.Tie as tie
 

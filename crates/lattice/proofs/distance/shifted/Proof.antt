@@ -1,7 +1,7 @@
 -- `lattice::distance::shifted` meets its contract. The sum of two small numbers fits.
 use borrow.Author.Needs.{needs}
 use native.Mathlib.Omega.{arith}
-use Rattle.lattice.proofs.Words.{shifted-fits, shifted-back}
+use Rattle.lattice.proofs.theory.Words.{shifted-fits, shifted-back}
 use Rattle.lattice.proofs.distance.shifted.Statement.{statement}
 use Rattle.lattice.proofs.distance.shifted.Tie as tie
 

@@ -1,6 +1,6 @@
 -- `next_line` meets its contract.
 use borrow.Author.Needs.{needs}
-use Rattle.lattice.proofs.LineSteps.{pass-on, pass-over}
+use Rattle.lattice.proofs.theory.NextLine.{pass-on, pass-over}
 use Rattle.lattice.proofs.line.next_line.Statement.{statement}
 use Rattle.lattice.proofs.line.next_line.Tie as tie
 

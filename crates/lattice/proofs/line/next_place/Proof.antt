@@ -1,7 +1,7 @@
 -- `next_place` meets its contract.
 use native.Mathlib.Omega.{arith}
 use borrow.Author.Needs.{needs}
-use Rattle.lattice.proofs.LineCounts.{place-on, place-over}
+use Rattle.lattice.proofs.theory.LineCounts.{place-on, place-over}
 use Rattle.lattice.proofs.line.next_place.Statement.{statement}
 use Rattle.lattice.proofs.line.next_place.Tie as tie
 

@@ -1,7 +1,7 @@
 -- `next_start` meets its contract.
 use native.Mathlib.Omega.{arith}
 use borrow.Author.Needs.{needs}
-use Rattle.lattice.proofs.Starts.{back-above, back-below}
+use Rattle.lattice.proofs.theory.Starts.{back-above, back-below}
 use Rattle.lattice.proofs.line.next_start.Statement.{statement}
 use Rattle.lattice.proofs.line.next_start.Tie as tie
 

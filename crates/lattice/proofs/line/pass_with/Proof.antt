@@ -8,9 +8,9 @@ use mir.Facts.{fits-below}
 use Rattle.lattice.specs.declared.settings.Settings.{Settings}
 use Rattle.lattice.specs.Shape.{maxSide, maxPlanes, maxCells}
 use Rattle.lattice.specs.Lines.{passWith}
-use Rattle.lattice.proofs.Limits.{legal}
-use Rattle.lattice.proofs.LineSteps.{pass-is, lines-few, cells-few, classes-own}
-use Rattle.lattice.proofs.Widths.{most-16}
+use Rattle.lattice.proofs.theory.Limits.{legal}
+use Rattle.lattice.proofs.theory.NextLine.{pass-is, lines-few, cells-few, classes-own}
+use Rattle.lattice.proofs.theory.Widths.{most-16}
 use Rattle.lattice.proofs.line.pass_with.Statement.{statement}
 use Rattle.lattice.proofs.line.pass_with.Tie as tie
 

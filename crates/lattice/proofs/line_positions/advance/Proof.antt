@@ -4,7 +4,7 @@ use mathlib.Core.Path.{_≡_, refl, ap}
 use native.Mathlib.Omega.{arith}
 use borrow.Author.Needs.{needs}
 use lib.ListN.{length, getD, length-set}
-use Rattle.lattice.proofs.Stores.{store-more, store-left}
+use Rattle.lattice.proofs.theory.Stores.{store-more, store-left}
 use Rattle.lattice.proofs.line_positions.advance.Statement.{statement}
 use Rattle.lattice.proofs.line_positions.advance.Tie as tie
 

@@ -5,7 +5,7 @@ use mathlib.Core.Path.{_≡_, refl}
 use native.Mathlib.Omega.{arith}
 use lib.Dec.{ltb}
 use lib.ListN.{length, getD, length-set}
-use Rattle.lattice.proofs.Stores.{store-more}
+use Rattle.lattice.proofs.theory.Stores.{store-more}
 use Rattle.lattice.proofs.line_positions.fill_low.Statement.{statement}
 use Rattle.lattice.proofs.line_positions.fill_low.Tie as tie
 

@@ -1,6 +1,6 @@
 -- `first_line` meets its contract.
 use borrow.Author.Needs.{needs}
-use Rattle.lattice.proofs.PassRoom.{refuted, filled-line, filled-ready}
+use Rattle.lattice.proofs.theory.PassRoom.{refuted, filled-line, filled-ready}
 use Rattle.lattice.proofs.line_positions.first_line.Statement.{statement}
 use Rattle.lattice.proofs.line_positions.first_line.Tie as tie
 

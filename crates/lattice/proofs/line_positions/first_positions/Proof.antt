@@ -1,6 +1,6 @@
 -- `first_positions` meets its contract.
 use native.Mathlib.Omega.{arith}
-use Rattle.lattice.proofs.PositionParts.{bit-most, filled-first, repeats-less}
+use Rattle.lattice.proofs.theory.PositionParts.{bit-most, filled-first, repeats-less}
 use borrow.Author.Needs.{needs}
 use Rattle.lattice.proofs.line_positions.first_positions.Statement.{statement}
 use Rattle.lattice.proofs.line_positions.first_positions.Tie as tie

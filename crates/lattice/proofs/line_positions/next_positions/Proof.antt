@@ -1,6 +1,6 @@
 -- `next_positions` meets its contract.
 use borrow.Author.Needs.{needs}
-use Rattle.lattice.proofs.PassSteps.{row-step, plane-step}
+use Rattle.lattice.proofs.line_positions.NextPass.{row-step, plane-step}
 use Rattle.lattice.proofs.line_positions.next_positions.Statement.{statement}
 use Rattle.lattice.proofs.line_positions.next_positions.Tie as tie
 

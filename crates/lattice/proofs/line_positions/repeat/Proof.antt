@@ -4,7 +4,7 @@ use mathlib.Core.Path.{_≡_, refl}
 use native.Mathlib.Omega.{arith}
 use lib.ListN.{length, getD, length-set}
 use Rattle.lattice.specs.Lines.{Repeats}
-use Rattle.lattice.proofs.Stores.{store-more, store-low, store-again}
+use Rattle.lattice.proofs.theory.Stores.{store-more, store-low, store-again}
 use Rattle.lattice.proofs.line_positions.repeat.Statement.{statement}
 use Rattle.lattice.proofs.line_positions.repeat.Tie as tie
 

@@ -5,7 +5,7 @@ use native.Mathlib.Nat.{mul-le-mul, le-pred-of-lt}
 use native.Mathlib.Omega.{arith}
 use mir.Facts.{fits-below}
 use Rattle.lattice.specs.Settings.{oddSettings, evenSettings}
-use Rattle.lattice.proofs.SettingsLaws.{flat-odd, flat-even}
+use Rattle.lattice.proofs.theory.SettingsLaws.{flat-odd, flat-even}
 use Rattle.lattice.proofs.settings.flat.Statement.{statement}
 use Rattle.lattice.proofs.settings.flat.Tie as tie
 

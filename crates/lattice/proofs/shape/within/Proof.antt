@@ -1,6 +1,6 @@
 -- `within` meets its contract.
 use mathlib.Core.Path.{sym}
-use Rattle.lattice.proofs.Limits.{range-below, range-above}
+use Rattle.lattice.proofs.theory.Limits.{range-below, range-above}
 use Rattle.lattice.proofs.shape.within.Statement.{statement}
 use Rattle.lattice.proofs.shape.within.Tie as tie
 

@@ -4,9 +4,9 @@ use borrow.Author.Needs.{needs}
 use Rattle.lattice.specs.declared.refusal.Refusal.the-variants as reasons
 use Rattle.lattice.specs.Refusal.{refusalNumber}
 use Rattle.codec.specs.Correct.{correctNumber, correctCount, correctLeaves}
-use Rattle.lattice.proofs.Answers.{earlier-told, refused}
-use Rattle.lattice.proofs.Limits.{number-other}
-use Rattle.lattice.proofs.NewShapes.{new-refused, new-shape}
+use Rattle.lattice.proofs.theory.Answers.{earlier-told, refused}
+use Rattle.lattice.proofs.theory.Limits.{number-other}
+use Rattle.lattice.proofs.theory.NewShapes.{new-refused, new-shape}
 use Rattle.varmintfoil.proofs.operations.correct_in.Statement.{statement}
 use Rattle.varmintfoil.proofs.operations.correct_in.Tie as tie
 

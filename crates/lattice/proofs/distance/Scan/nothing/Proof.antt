@@ -3,7 +3,7 @@ use native.Mathlib.Omega.{arith}
 use Prim.Native.Nat.{_+_}
 use mathlib.Core.Bool.{false}
 use Rattle.lattice.specs.Order.{origin}
-use Rattle.lattice.proofs.Scan.{tried-eq}
+use Rattle.lattice.proofs.theory.Scan.{tried-eq}
 use Rattle.lattice.proofs.distance.Scan.nothing.Statement.{statement}
 use Rattle.lattice.proofs.distance.Scan.nothing.Tie as tie
 

@@ -2,7 +2,7 @@
 use mathlib.Core.Path.{_∙_}
 use lib.ListN.{replicate}
 use Rattle.lattice.specs.Shape.{maxClasses}
-use Rattle.lattice.proofs.CapacityGiven.{classes-given, capacity-given}
+use Rattle.lattice.proofs.theory.CapacityGiven.{classes-given, capacity-given}
 use Rattle.lattice.proofs.shape.Shape.capacity.Statement.{statement}
 use Rattle.lattice.proofs.shape.Shape.capacity.Tie as tie
 

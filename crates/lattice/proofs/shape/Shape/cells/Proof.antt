@@ -3,8 +3,8 @@ use native.Mathlib.Nat.{mul-le-mul}
 use mathlib.Core.Path.{refl}
 use borrow.Author.Needs.{needs}
 use mir.Facts.{fits-below}
-use Rattle.lattice.proofs.Answers.{refused, done, told, told-none}
-use Rattle.lattice.proofs.Widths.{most-16, product-16-16}
+use Rattle.lattice.proofs.theory.Answers.{refused, done, told, told-none}
+use Rattle.lattice.proofs.theory.Widths.{most-16, product-16-16}
 use Rattle.lattice.proofs.shape.Shape.cells.Statement.{statement}
 use Rattle.lattice.proofs.shape.Shape.cells.Tie as tie
 

@@ -6,9 +6,9 @@ use mir.Facts.{fits-below}
 use Rattle.lattice.specs.declared.refusal.Refusal.the-variants as why
 use Rattle.lattice.specs.Cell.{cell}
 use Rattle.lattice.specs.Class.{classGiven}
-use Rattle.lattice.proofs.Answers.{refused, told, told-none, kept-reason}
-use Rattle.lattice.proofs.ClassNumber.{Classed, classed, class-given}
-use Rattle.lattice.proofs.Limits.{legal}
+use Rattle.lattice.proofs.theory.Answers.{refused, told, told-none, kept-reason}
+use Rattle.lattice.proofs.shape.ClassNumber.{Classed, classed, class-given}
+use Rattle.lattice.proofs.theory.Limits.{legal}
 use Rattle.lattice.proofs.shape.Shape.class_of.Statement.{statement}
 use Rattle.lattice.proofs.shape.Shape.class_of.Tie as tie
 

@@ -3,10 +3,10 @@ use mathlib.Core.Path.{sym}
 use borrow.Author.Needs.{needs}
 use Rattle.lattice.specs.declared.refusal.Refusal.the-variants as why
 use Rattle.lattice.specs.Shape.{Accepted}
-use Rattle.lattice.proofs.Answers.{told, told-none, other-reason, passed-reason, outside-length}
-use Rattle.lattice.proofs.Bools.{failed, passed}
-use Rattle.lattice.proofs.ClassNumber.{class-refused, outside-number, inside-number}
-use Rattle.lattice.proofs.Limits.{number-other}
+use Rattle.lattice.proofs.theory.Answers.{told, told-none, other-reason, passed-reason, outside-length}
+use Rattle.lattice.proofs.theory.Bools.{failed, passed}
+use Rattle.lattice.proofs.shape.ClassNumber.{class-refused, outside-number, inside-number}
+use Rattle.lattice.proofs.theory.Limits.{number-other}
 use Rattle.lattice.proofs.shape.Shape.class_tests.Statement.{statement}
 use Rattle.lattice.proofs.shape.Shape.class_tests.Tie as tie
 

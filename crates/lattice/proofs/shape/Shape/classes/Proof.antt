@@ -2,7 +2,7 @@
 use mathlib.Core.Path.{ap, _∙_}
 use borrow.Author.Needs.{needs}
 use Rattle.lattice.specs.declared.settings.Settings.{Settings}
-use Rattle.lattice.proofs.SettingsLaws.{given-classes}
+use Rattle.lattice.proofs.theory.SettingsLaws.{given-classes}
 use Rattle.lattice.proofs.shape.Shape.classes.Statement.{statement}
 use Rattle.lattice.proofs.shape.Shape.classes.Tie as tie
 

@@ -1,6 +1,6 @@
 -- `Shape::max_strength` meets its contract.
 use mathlib.Core.Path.{sym}
-use Rattle.lattice.proofs.Limits.{max-flat, max-stack}
+use Rattle.lattice.proofs.theory.Limits.{max-flat, max-stack}
 use Rattle.lattice.proofs.shape.Shape.max_strength.Statement.{statement}
 use Rattle.lattice.proofs.shape.Shape.max_strength.Tie as tie
 

@@ -3,8 +3,8 @@ use mathlib.Core.Path.{refl, sym}
 use borrow.Author.Needs.{needs}
 use mir.Facts.{fits-below}
 use Rattle.lattice.specs.Shape.{shapeFrom, Accepted}
-use Rattle.lattice.proofs.Answers.{refused, done, told, told-none}
-use Rattle.lattice.proofs.Limits.{legal, strength-most}
+use Rattle.lattice.proofs.theory.Answers.{refused, done, told, told-none}
+use Rattle.lattice.proofs.theory.Limits.{legal, strength-most}
 use Rattle.lattice.proofs.shape.Shape.new.Statement.{statement}
 use Rattle.lattice.proofs.shape.Shape.new.Tie as tie
 

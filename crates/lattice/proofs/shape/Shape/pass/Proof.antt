@@ -3,8 +3,8 @@ use mathlib.Core.Path.{_∙_}
 use borrow.Author.Needs.{needs}
 use Rattle.lattice.specs.Shape.{Accepted}
 use Rattle.lattice.specs.Lines.{noPass, passGiven}
-use Rattle.lattice.proofs.Answers.{refused, done, told, told-none}
-use Rattle.lattice.proofs.SettingsLaws.{given-accepted}
+use Rattle.lattice.proofs.theory.Answers.{refused, done, told, told-none}
+use Rattle.lattice.proofs.theory.SettingsLaws.{given-accepted}
 use Rattle.lattice.proofs.shape.Shape.pass.Statement.{statement}
 use Rattle.lattice.proofs.shape.Shape.pass.Tie as tie
 

@@ -5,9 +5,9 @@ use borrow.Author.Needs.{needs}
 use lib.Dec.{lit<}
 use Rattle.lattice.specs.Shape.{Accepted}
 use Rattle.lattice.specs.Settings.{settingsGiven}
-use Rattle.lattice.proofs.Answers.{refused, told, told-none}
-use Rattle.lattice.proofs.Limits.{strength-most, strength-stack}
-use Rattle.lattice.proofs.SettingsLaws.{settings-flat, settings-stack, given-accepted}
+use Rattle.lattice.proofs.theory.Answers.{refused, told, told-none}
+use Rattle.lattice.proofs.theory.Limits.{strength-most, strength-stack}
+use Rattle.lattice.proofs.theory.SettingsLaws.{settings-flat, settings-stack, given-accepted}
 use Rattle.lattice.proofs.shape.Shape.settings.Statement.{statement}
 use Rattle.lattice.proofs.shape.Shape.settings.Tie as tie
 

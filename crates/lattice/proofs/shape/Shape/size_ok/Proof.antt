@@ -5,9 +5,10 @@ use native.Mathlib.Nat.{mul-le-mul}
 use Prim.Native.Nat.{_*_}
 use borrow.Author.Needs.{needs}
 use mir.Facts.{fits-below}
-use Rattle.lattice.specs.Shape.{maxSide, maxPlanes, inRange}
-use Rattle.lattice.proofs.Bools.{failed, passed}
-use Rattle.lattice.proofs.Limits.{range-high, size-width, size-height, size-planes, size-product}
+use Rattle.lattice.specs.Shape.{maxSide, maxPlanes}
+use Rattle.lattice.specs.Range.{inRange}
+use Rattle.lattice.proofs.theory.Bools.{failed, passed}
+use Rattle.lattice.proofs.theory.Limits.{range-high, size-width, size-height, size-planes, size-product}
 use Rattle.lattice.proofs.shape.Shape.size_ok.Statement.{statement}
 use Rattle.lattice.proofs.shape.Shape.size_ok.Tie as tie
 

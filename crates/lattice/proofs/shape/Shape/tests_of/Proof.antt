@@ -3,8 +3,8 @@ use mathlib.Core.Bool.{true}
 use mathlib.Core.Path.{_≡_, sym}
 use borrow.Author.Needs.{needs}
 use Rattle.lattice.specs.Shape.{sizeOk}
-use Rattle.lattice.proofs.Bools.{failed, passed}
-use Rattle.lattice.proofs.Limits.{number-size, number-strength, number-accepted}
+use Rattle.lattice.proofs.theory.Bools.{failed, passed}
+use Rattle.lattice.proofs.theory.Limits.{number-size, number-strength, number-accepted}
 use Rattle.lattice.proofs.shape.Shape.tests_of.Statement.{statement}
 use Rattle.lattice.proofs.shape.Shape.tests_of.Tie as tie
 

@@ -1,0 +1,3 @@
+-- Examples that meet the hypotheses of the theorems.
+pub mod Placing
+mod Testing

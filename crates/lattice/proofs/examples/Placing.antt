@@ -1,0 +1,139 @@
+-- Examples that meet the hypotheses of the theorems on placing, each in the field of 5 columns, 5 rows and 1 plane of strength 3.
+use Prim.Native.Nat.{ℕ, _≤_, _<_}
+use mathlib.Core.List.{List, [], _∷_, List·Memᴰ, List·Memᴰ·head, List·Memᴰ·tail, List·Memᴰ·eq-of-singleton}
+use mathlib.Core.Logic.{_≢_}
+use mathlib.Core.Path.{_≡_, refl, ap, subst⁻¹}
+use native.Mathlib.Omega.{arith}
+use lib.Dec.{T, ltb, lit<, lit≤}
+use Rattle.lattice.specs.declared.shape.Shape.{Shape}
+use Rattle.lattice.specs.Shape.{maxStrength, sizeOk, strengthOk, shapeNumber, Accepted, cellsOf}
+use Rattle.lattice.specs.Range.{inRange}
+use Rattle.lattice.specs.Settings.{oddSettings, flatSettings, settingsFor, settingsOf}
+use Rattle.lattice.specs.Cell.{Cell, cell, InField, cellNumber, cellAt}
+use Rattle.lattice.specs.Cluster.{apart, by-row, by-column, Linked, stay, step, Cluster, AtMost, Together}
+use Rattle.lattice.specs.Labelling.{labels, Separates}
+use Rattle.lattice.specs.Class.{minusMod, classWith, classesOf, classOf, classAt, classNumber, inside}
+use Rattle.lattice.specs.Endless.{pointOf, HasClass}
+use Rattle.lattice.proofs.theory.ByteNumbers.{same-cell}
+use Rattle.lattice.proofs.theory.ClusterPaths.{linked-append, linked-reverse}
+use Rattle.lattice.proofs.theory.ClassRemainder.{class-point}
+use Rattle.lattice.proofs.theory.ClassBelow.{class-below}
+use Rattle.lattice.proofs.theorems.Labels.{labelsNeeded}
+
+-- a field that the constructor accepts, flat and with both sides at least its strength
+abbrev pub field : Shape
+field = record { columns = 5; rows = 5; planes = 1; strength = 3 }
+
+pub accepted : Accepted field
+unfolding shapeNumber sizeOk strengthOk maxStrength inRange
+accepted = refl
+
+pub flat : field .planes ≡ 1
+flat = refl
+
+pub wide : field .strength ≤ field .columns
+wide = lit≤ tt
+
+pub high : field .strength ≤ field .rows
+high = lit≤ tt
+
+-- two different cells of the field of one class
+abbrev pub corner : Cell
+corner = cell 0 0 0
+
+abbrev pub mate : Cell
+mate = cell 1 0 3
+
+in-field : (r c : ℕ) → T (ltb r 5) → T (ltb c 5) → InField field (cell r 0 c)
+in-field r c hr hc = record { row = lit< hr; plane = lit< tt; column = lit< hc }
+
+pub corner-inside : InField field corner
+corner-inside = in-field 0 0 tt tt
+
+pub mate-inside : InField field mate
+mate-inside = in-field 1 3 tt tt
+
+pub mates : classOf field corner ≡ classOf field mate
+unfolding classOf classWith minusMod settingsFor flatSettings oddSettings
+mates = refl
+
+pub mates-differ : corner ≢ mate
+mates-differ e = let z : _≡_ {A = ℕ} 0 1 = ap (λ (x : Cell). x .row) e in omega arith
+
+-- a cluster of three cells: two of row 0 and one below the second
+abbrev pub three : List Cell
+three = corner ∷ cell 0 0 1 ∷ cell 1 0 1 ∷ []
+
+abbrev pub OfThree : Cell → Type 0
+OfThree x = List·Memᴰ x three
+
+-- what holds of the three holds of each
+each : (P : Cell → Type 0) → P corner → P (cell 0 0 1) → P (cell 1 0 1) → (x : Cell) → OfThree x → P x
+each P p q r x (List·Memᴰ·head e) = subst⁻¹ P e p
+each P p q r x (List·Memᴰ·tail (List·Memᴰ·head e)) = subst⁻¹ P e q
+each P p q r x (List·Memᴰ·tail (List·Memᴰ·tail m)) = subst⁻¹ P (List·Memᴰ·eq-of-singleton m) r
+
+-- each is linked to the second
+to-second : (x : Cell) → OfThree x → Linked OfThree x (cell 0 0 1)
+unfolding apart
+to-second =
+    each (λ (x : Cell). Linked OfThree x (cell 0 0 1))
+    (step (List·Memᴰ·head refl) (by-column refl refl refl) here)
+    here
+    (step (List·Memᴰ·tail (List·Memᴰ·tail (List·Memᴰ·head refl))) (by-row refl refl refl) here)
+  where
+    here : Linked OfThree (cell 0 0 1) (cell 0 0 1)
+    here = stay (List·Memᴰ·tail (List·Memᴰ·head refl))
+
+pub three-cluster : Cluster field OfThree
+three-cluster =
+    record {
+      inside = each (InField field) corner-inside (in-field 0 1 tt tt) (in-field 1 1 tt tt);
+      linked = λ x y mx my. linked-append (to-second x mx) (linked-reverse (to-second y my));
+    }
+
+pub three-few : AtMost 3 OfThree
+three-few = record { cells = three; few = lit≤ tt; all = λ x m. m }
+
+-- two of its cells lie together in it
+pub three-together : Together field 3 corner (cell 1 0 1)
+three-together =
+    record {
+      set = OfThree;
+      cluster = three-cluster;
+      small = three-few;
+      first = List·Memᴰ·head refl;
+      second = List·Memᴰ·tail (List·Memᴰ·tail (List·Memᴰ·head refl));
+    }
+
+-- in any field the labelling by byte number separates the cells of every cluster
+pub numbers-separate : (s : Shape) (t : ℕ) → Separates s t (cellNumber s)
+numbers-separate s t S cluster small x y hx hy e = same-cell s x y (cluster .inside x hx) (cluster .inside y hy) e
+
+-- so the lower bound speaks of it: the field's 25 byte numbers are at least its m = 5
+pub five : classesOf field ≡ 5
+unfolding classesOf settingsFor flatSettings oddSettings
+five = refl
+
+pub numbers-needed : classesOf field ≤ labels field (cellNumber field)
+numbers-needed = labelsNeeded field flat (lit≤ tt) wide high (cellNumber field) (numbers-separate field 3)
+
+-- a byte number of the field
+pub third : 3 < cellsOf field
+third = lit< tt
+
+-- a cell that the field does not have is refused, with another number than 0
+pub outside-refused : classNumber field (cell 5 0 0) ≢ 0
+unfolding classNumber shapeNumber sizeOk strengthOk maxStrength inRange inside
+outside-refused e = omega (arith, e)
+
+-- the two cells of one class, as points of plane 0 of the endless stack
+pub corner-class : HasClass (settingsOf field) (pointOf corner) (classOf field corner)
+corner-class = class-point field accepted corner
+
+pub mate-class : HasClass (settingsOf field) (pointOf mate) (classOf field corner)
+mate-class = rw mates (class-point field accepted mate)
+
+-- every class of the field is below m
+pub classes-below : (i : ℕ) → i < cellsOf field → classAt field i < classesOf field
+classes-below i h = class-below field accepted (cellAt field i)

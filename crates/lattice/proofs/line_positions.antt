@@ -1,0 +1,2 @@
+-- What the lists of positions use alone.
+mod NextPass

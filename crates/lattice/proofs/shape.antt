@@ -1,0 +1,3 @@
+-- What the methods of `Shape` use alone.
+mod InField
+mod ClassNumber

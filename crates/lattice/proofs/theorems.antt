@@ -1,0 +1,10 @@
+-- The terms of the theorems: a file for each file of specs/theorems, of the same name.
+pub mod Numbering
+pub mod Clusters
+pub mod Refused
+pub mod Classes
+mod Distance
+pub mod Labels
+pub mod Capacity
+mod Order
+mod Testing

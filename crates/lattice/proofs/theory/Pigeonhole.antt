@@ -1,0 +1,186 @@
+-- Counting: pairwise different numbers that are all values of a function are at most as many as its arguments, or its different values.
+use Prim.Native.Nat.{ℕ, zero, suc, _+_, _≤_, _<_}
+use mathlib.Core.Bool.{Bool, true, false, cond, _||_, false≢true}
+use mathlib.Core.List.{List, [], _∷_, List·Memᴰ, List·Memᴰ·head, List·Memᴰ·tail, List·Memᴰ·not-nil, List·Memᴰ·cases-cons}
+use mathlib.Core.Logic.{_⊎_, inl, inr, ⊎-elim}
+use native.Mathlib.Nat.{not-suc-le-zero}
+use mathlib.Core.Path.{_≡_, refl, ap, _∙_, sym}
+use native.Mathlib.Decide.{ℕ-discrete}
+use native.Mathlib.Omega.{arith}
+use lib.Dec.{eqb}
+use lib.ListN.{length}
+use borrow.Author.Tests.{eqb-true, eqb-false}
+use Rattle.lattice.proofs.theory.Distinct.{Distinct}
+use Rattle.lattice.specs.Labelling.{takes, differentValues}
+
+-- each entry of xs is a value of g at some entry of l
+abbrev pub Covered : {A : Type 0} → (A → ℕ) → List A → List ℕ → Type 0
+Covered {A} g l xs = (x : ℕ) → List·Memᴰ x xs → (c : A) × List·Memᴰ c l × (x ≡ g c)
+
+module _ {A : Type 0} (g : A → ℕ) where
+  -- the list without one entry
+  without : {c : A} (l : List A) → List·Memᴰ c l → List A
+  without (a ∷ l) (List·Memᴰ·head e) = l
+  without (a ∷ l) (List·Memᴰ·tail m) = a ∷ without l m
+
+  without-length : {c : A} (l : List A) (m : List·Memᴰ c l) → length l ≡ suc (length (without l m))
+  unfolding without
+  without-length (a ∷ l) (List·Memᴰ·head e) = refl
+  without-length (a ∷ l) (List·Memᴰ·tail m) = ap suc (without-length l m)
+
+  -- what is left has every entry with another value
+  without-has : {c b : A} (l : List A) (m : List·Memᴰ c l) → List·Memᴰ b l → ¬ (g c ≡ g b) → List·Memᴰ b (without l m)
+  unfolding without
+  without-has {c} {b} (a ∷ l) (List·Memᴰ·head e) k h = go (List·Memᴰ·cases-cons k)
+    where
+      go : (b ≡ a) ⊎ List·Memᴰ b l → List·Memᴰ b l
+      go (inl e′) = absurd (h (ap g (e ∙ sym e′)))
+      go (inr k′) = k′
+  without-has {c} {b} (a ∷ l) (List·Memᴰ·tail m) k h = go (without-has l m) (List·Memᴰ·cases-cons k)
+    where
+      go : (List·Memᴰ b l → ¬ (g c ≡ g b) → List·Memᴰ b (without l m)) → (b ≡ a) ⊎ List·Memᴰ b l → List·Memᴰ b (a ∷ without l m)
+      go rest (inl e) = List·Memᴰ·head e
+      go rest (inr k′) = List·Memᴰ·tail (rest k′ h)
+
+  -- Pairwise different numbers, each a value of g at some entry of a list, are at most as many as the list's entries.
+  pub covered-length : (xs : List ℕ) (l : List A) → Distinct xs → Covered g l xs → length xs ≤ length l
+  covered-length [] l d h = omega arith
+  covered-length (x ∷ xs) l d h =
+      let first = h x (List·Memᴰ·head refl) in
+      omega (arith, covered-length xs (without l (first .1)) (d .1) (rest first), without-length l (first .1))
+    where
+      rest : (first : (c : A) × List·Memᴰ c l × (x ≡ g c)) → Covered g (without l (first .1)) xs
+      rest first y m =
+          let other = h y (List·Memᴰ·tail m) in
+          (other .0, without-has l (first .1) (other .1) (λ e. d .0 y m (first .2 ∙ e ∙ sym (other .2))), other .2)
+
+-- the numbers below m
+upTo : ℕ → List ℕ
+upTo zero = []
+upTo (suc m) = m ∷ upTo m
+
+upTo-length : (m : ℕ) → length (upTo m) ≡ m
+unfolding upTo
+upTo-length zero = refl
+upTo-length (suc m) = ap suc (upTo-length m)
+
+upTo-has : (m x : ℕ) → x < m → List·Memᴰ x (upTo m)
+unfolding upTo
+upTo-has zero x h = absurd (not-suc-le-zero h)
+upTo-has (suc m) x h = go (ℕ-discrete x m) (upTo-has m x)
+  where
+    go : Dec (x ≡ m) → (x < m → List·Memᴰ x (upTo m)) → List·Memᴰ x (m ∷ upTo m)
+    go (yes p) rest = List·Memᴰ·head p
+    go (no p) rest = List·Memᴰ·tail (rest (omega arith))
+
+upTo-sound : (m x : ℕ) → List·Memᴰ x (upTo m) → x < m
+unfolding upTo
+upTo-sound zero x k = absurd (List·Memᴰ·not-nil k)
+upTo-sound (suc m) x k = go (upTo-sound m x) (List·Memᴰ·cases-cons k)
+  where
+    go : (List·Memᴰ x (upTo m) → x < m) → (x ≡ m) ⊎ List·Memᴰ x (upTo m) → x < suc m
+    go rest (inl e) = omega arith
+    go rest (inr k′) = omega (arith, rest k′)
+
+upTo-distinct : (m : ℕ) → Distinct (upTo m)
+unfolding upTo
+upTo-distinct zero = tt
+upTo-distinct (suc m) = (λ y k e. omega (arith, upTo-sound m y k), upTo-distinct m)
+
+-- Where each number below n is a value of g at some entry of a list, the list has at least n entries.
+pub all-covered : {A : Type 0} (g : A → ℕ) (n : ℕ) (l : List A) → ((k : ℕ) → k < n → (c : A) × List·Memᴰ c l × (k ≡ g c)) → n ≤ length l
+all-covered g n l h =
+    omega (arith, upTo-length n, covered-length g (upTo n) l (upTo-distinct n) (λ k m. h k (upTo-sound n k m)))
+
+-- v is the value of f at some number below n
+abbrev pub ValueBelow : (ℕ → ℕ) → ℕ → ℕ → Type 0
+ValueBelow f n v = (i : ℕ) × (i < n) × (v ≡ f i)
+
+value-later : {f : ℕ → ℕ} {n v : ℕ} → ValueBelow f n v → ValueBelow f (suc n) v
+value-later r = (r .0, omega arith, r .2)
+
+-- `takes` says yes of such values only
+takes-sound : (f : ℕ → ℕ) (v n : ℕ) → takes f v n ≡ true → ValueBelow f n v
+takes-sound f v zero h = absurd (false≢true h)
+takes-sound f v (suc n) h = go (eqb (f n) v) refl h (takes-sound f v n)
+  where
+    go : (b : Bool) → eqb (f n) v ≡ b → (b || takes f v n) ≡ true → (takes f v n ≡ true → ValueBelow f n v) → ValueBelow f (suc n) v
+    go true e h′ rest = (n, omega arith, sym (eqb-true (f n) v e))
+    go false e h′ rest = value-later (rest h′)
+
+-- `takes` says yes of all of them
+takes-complete : (f : ℕ → ℕ) (v n : ℕ) → ValueBelow f n v → takes f v n ≡ true
+takes-complete f v zero r = absurd (not-suc-le-zero (r .1))
+takes-complete f v (suc n) r = go (eqb (f n) v) refl (ℕ-discrete (r .0) n) (takes-complete f v n)
+  where
+    go : (b : Bool) → eqb (f n) v ≡ b → Dec (r .0 ≡ n) → (ValueBelow f n v → takes f v n ≡ true) → (b || takes f v n) ≡ true
+    go true t d rest = refl
+    go false t (yes p) rest = absurd (eqb-false (f n) v t (ap f (sym p) ∙ sym (r .2)))
+    go false t (no p) rest = rest (r .0, omega arith, r .2)
+
+-- the different values of f at the numbers below n
+values : (ℕ → ℕ) → ℕ → List ℕ
+values f zero = []
+values f (suc n) = cond (takes f (f n) n) (values f n) (f n ∷ values f n)
+
+values-length : (f : ℕ → ℕ) (n : ℕ) → length (values f n) ≡ differentValues f n
+unfolding values
+values-length f zero = refl
+values-length f (suc n) = go (takes f (f n) n) (values-length f n)
+  where
+    go : (b : Bool) → length (values f n) ≡ differentValues f n
+        → length (cond b (values f n) (f n ∷ values f n)) ≡ cond b 0 1 + differentValues f n
+    go true e = omega arith
+    go false e = omega arith
+
+-- each entry is a value
+values-sound : (f : ℕ → ℕ) (n v : ℕ) → List·Memᴰ v (values f n) → ValueBelow f n v
+unfolding values
+values-sound f zero v m = absurd (List·Memᴰ·not-nil m)
+values-sound f (suc n) v m = go (takes f (f n) n) m (values-sound f n v)
+  where
+    go : (b : Bool) → List·Memᴰ v (cond b (values f n) (f n ∷ values f n))
+        → (List·Memᴰ v (values f n) → ValueBelow f n v) → ValueBelow f (suc n) v
+    go true m′ rest = value-later (rest m′)
+    go false m′ rest = ⊎-elim (λ e. (n, omega arith, e)) (λ m″. value-later (rest m″)) (List·Memᴰ·cases-cons m′)
+
+-- each value is an entry
+values-complete : (f : ℕ → ℕ) (n v : ℕ) → ValueBelow f n v → List·Memᴰ v (values f n)
+unfolding values
+values-complete f zero v r = absurd (not-suc-le-zero (r .1))
+values-complete f (suc n) v r = go (takes f (f n) n) refl (ℕ-discrete (r .0) n) (values-complete f n v)
+  where
+    go : (b : Bool) → takes f (f n) n ≡ b → Dec (r .0 ≡ n) → (ValueBelow f n v → List·Memᴰ v (values f n))
+        → List·Memᴰ v (cond b (values f n) (f n ∷ values f n))
+    go true t (yes p) rest = let s = takes-sound f (f n) n t in rest (s .0, s .1, r .2 ∙ ap f p ∙ s .2)
+    go true t (no p) rest = rest (r .0, omega arith, r .2)
+    go false t (yes p) rest = List·Memᴰ·head (r .2 ∙ ap f p)
+    go false t (no p) rest = List·Memᴰ·tail (rest (r .0, omega arith, r .2))
+
+values-distinct : (f : ℕ → ℕ) (n : ℕ) → Distinct (values f n)
+unfolding values
+values-distinct f zero = tt
+values-distinct f (suc n) = go (takes f (f n) n) refl (values-distinct f n)
+  where
+    go : (b : Bool) → takes f (f n) n ≡ b → Distinct (values f n) → Distinct (cond b (values f n) (f n ∷ values f n))
+    go true t d = d
+    go false t d = (
+      λ y m e. let r = values-sound f n y m in
+          false≢true (sym t ∙ takes-complete f (f n) n (r .0, r .1, e ∙ r .2)),
+      d,
+    )
+
+-- Pairwise different numbers, each a value of f at some number below n, are at most as many as f's different values there.
+pub different-values-many : (f : ℕ → ℕ) (n : ℕ) (xs : List ℕ) → Distinct xs → ((x : ℕ) → List·Memᴰ x xs → ValueBelow f n x)
+    → length xs ≤ differentValues f n
+different-values-many f n xs d h =
+    rw (← values-length f n) (covered-length (λ (v : ℕ). v) xs (values f n) d (λ x m. (x, values-complete f n x (h x m), refl)))
+
+-- A function whose values at the numbers below n are below m has at most m different values there.
+pub different-values-few : (f : ℕ → ℕ) (m n : ℕ) → ((i : ℕ) → i < n → f i < m) → differentValues f n ≤ m
+different-values-few f m n h =
+    omega (arith, values-length f n, upTo-length m, covered-length (λ (v : ℕ). v) (values f n) (upTo m) (values-distinct f n) in-range)
+  where
+    in-range : Covered (λ (v : ℕ). v) (upTo m) (values f n)
+    in-range x k = let r = values-sound f n x k in
+        (x, upTo-has m x (rw (r .2) (h (r .0) (r .1))), refl)

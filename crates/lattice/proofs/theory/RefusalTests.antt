@@ -1,0 +1,78 @@
+-- Demand 1 for the constructor, the class of a cell and the distance test: each test decides its refusal's condition, and the number is
+-- settled by the conditions in the listed order.
+use Prim.Native.Nat.{ℕ, _*_, _<_, _≤_}
+use mathlib.Core.Bool.{Bool, true, false, _&&_, false≢true}
+use mathlib.Core.Logic.{_⊎_, inl, inr, ⊎-elim}
+use mathlib.Core.Path.{refl}
+use native.Mathlib.Nat.{not-le-of-lt}
+use borrow.Author.Tests.{leb-true, leb-false, ltb-true, ltb-false}
+use lib.Dec.{leb, ltb}
+use Rattle.lattice.specs.declared.shape.Shape.{Shape}
+use Rattle.lattice.specs.Shape.{maxSide, maxPlanes, maxCells, maxStrength, sizeOk, strengthOk, shapeNumber, BadSize, BadStrength, shapeRefusals}
+use Rattle.lattice.specs.Range.{inRange, Outside}
+use Rattle.lattice.specs.Cell.{Cell}
+use Rattle.lattice.specs.Class.{inside, classNumber, OutsideShape, classRefusals}
+use Rattle.lattice.specs.DistanceTest.{maxTestStrength, maxTestClasses, testStrengthOk, testSettingsOk, testNumber, BadTestStrength, BadTestSettings, testRefusals}
+use Rattle.lattice.proofs.theory.Due.{Decides, Due, due-none, due-test, due-append}
+
+-- two tests one after the other decide that one of the two conditions holds
+pub both : {a b : Bool} {P Q : Type 0} → Decides a P → Decides b Q → Decides (a && b) (P ⊎ Q)
+both {a = true} p q =
+    record { fails = λ e. inr (q .fails e); passes = λ e. ⊎-elim (p .passes refl) (q .passes e) }
+both {a = false} p q = record { fails = λ e. inl (p .fails refl); passes = λ e. λ c. false≢true e }
+
+pub at-most : (a b : ℕ) → Decides (leb a b) (b < a)
+at-most a b = record { fails = leb-false a b; passes = λ e l. not-le-of-lt l (leb-true a b e) }
+
+pub less : (a b : ℕ) → Decides (ltb a b) (b ≤ a)
+less a b = record { fails = ltb-false a b; passes = λ e l. not-le-of-lt (ltb-true a b e) l }
+
+in-range : (low high x : ℕ) → Decides (inRange low high x) (Outside low high x)
+unfolding inRange
+in-range low high x = both (at-most low x) (at-most x high)
+
+-- a disjunction may be bracketed to the right
+pub assoc : {a : Bool} {P Q R : Type 0} → Decides a ((P ⊎ Q) ⊎ R) → Decides a (P ⊎ (Q ⊎ R))
+assoc d =
+    record {
+      fails = λ e. ⊎-elim (λ pq. ⊎-elim inl (λ q. inr (inl q)) pq) (λ r. inr (inr r)) (d .fails e);
+      passes = λ e c. d .passes e (⊎-elim (λ p. inl (inl p)) (λ qr. ⊎-elim (λ q. inl (inr q)) inr qr) c);
+    }
+
+pub size-decides : (w h d : ℕ) → Decides (sizeOk w h d) (BadSize w h d)
+unfolding sizeOk BadSize
+size-decides w h d =
+    assoc (assoc (both (both (both (in-range 1 maxSide w) (in-range 1 maxSide h)) (in-range 1 maxPlanes d)) (at-most (w * h * d) maxCells)))
+
+pub strength-decides : (d t : ℕ) → Decides (strengthOk d t) (BadStrength d t)
+unfolding strengthOk BadStrength
+strength-decides d t = in-range 1 (maxStrength d) t
+
+inside-decides : (s : Shape) (x : Cell) → Decides (inside s x) (OutsideShape s x)
+unfolding inside OutsideShape
+inside-decides s x = assoc (both (both (less (x .row) (s .rows)) (less (x .plane) (s .planes))) (less (x .column) (s .columns)))
+
+test-settings-decide : (m b c : ℕ) → Decides (testSettingsOk m b c) (BadTestSettings m b c)
+unfolding testSettingsOk BadTestSettings
+test-settings-decide m b c = assoc (both (both (in-range 1 maxTestClasses m) (less b m)) (less c m))
+
+test-strength-decides : (t : ℕ) → Decides (testStrengthOk t) (BadTestStrength t)
+unfolding testStrengthOk BadTestStrength
+test-strength-decides t = in-range 1 maxTestStrength t
+
+-- the number that is due to the shape, to the class of a cell and to the distance test
+pub shape-due : (s : Shape) → Due (shapeRefusals s) (shapeNumber s)
+unfolding shapeNumber
+shape-due s =
+    due-test 0 _ (size-decides (s .columns) (s .rows) (s .planes))
+    (λ _. due-test 1 _ (strength-decides (s .planes) (s .strength)) (λ _. due-none))
+
+pub class-due : (s : Shape) (x : Cell) → Due (classRefusals s x) (classNumber s x)
+unfolding classNumber
+class-due s x =
+    due-append (shapeRefusals s) _ _ _ (shape-due s) (λ _. due-test 3 _ (inside-decides s x) (λ _. due-none))
+
+pub test-due : (m b c t : ℕ) → Due (testRefusals m b c t) (testNumber m b c t)
+unfolding testNumber
+test-due m b c t =
+    due-test 1 _ (test-strength-decides t) (λ _. due-test 8 _ (test-settings-decide m b c) (λ _. due-none))

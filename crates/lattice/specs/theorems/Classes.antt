@@ -1,0 +1,22 @@
+-- The theorems on the classes of cells: what they are, and how many.
+use Prim.Native.Nat.{ℕ, _<_, _≤_}
+use mathlib.Core.Path.{_≡_}
+use Rattle.lattice.specs.declared.settings.Settings.{Settings}
+use Rattle.lattice.specs.declared.shape.Shape.{Shape}
+use Rattle.lattice.specs.Shape.{Accepted, cellsOf, maxClasses}
+use Rattle.lattice.specs.Cell.{Cell}
+use Rattle.lattice.specs.Labelling.{differentValues}
+use Rattle.lattice.specs.Class.{classWith, classesOf, classOf, classAt}
+use Rattle.lattice.specs.Endless.{pointOf, HasClass}
+
+-- Theorem. With m of at least 1, the class of a cell is the one number r below m for which column − b × row − c × plane − r is a
+-- multiple of m.
+pub record ClassIsRemainder : Type 0 where
+  pub is : (k : Settings) (x : Cell) → 0 < k .m → HasClass k (pointOf x) (classWith k x)
+  pub only : (k : Settings) (x : Cell) (r : ℕ) → HasClass k (pointOf x) r → r ≡ classWith k x
+
+-- Theorem. In a field that the constructor accepts the class of a cell is below m, so at most m classes hold a cell, and m is at most 512.
+pub record ClassesBelow : Type 0 where
+  pub below : (s : Shape) → Accepted s → (x : Cell) → classOf s x < classesOf s
+  pub limit : (s : Shape) → Accepted s → classesOf s ≤ maxClasses
+  pub most : (s : Shape) → Accepted s → differentValues (classAt s) (cellsOf s) ≤ classesOf s
