@@ -10,7 +10,7 @@ ghost use Rattle.card.specs.Working.{CellsFit};
 use crate::scan::byte_at;
 use crate::scan::key_at;
 use codec::cell::is_received;
-use lattice::shape::within;
+use lattice::range::within;
 
 // Is the line at a position a payload?
 pub fn is_payload(text: &[u8], at: usize) -> bool

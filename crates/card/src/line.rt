@@ -5,7 +5,7 @@ ghost use lib.ListN.{length};
 ghost use Rattle.card.specs.Parse.{isDigit, digitRun, digitsValue, numberEnds, numberAt, lineAt};
 use crate::scan::byte_at;
 use crate::scan::key_at;
-use lattice::shape::within;
+use lattice::range::within;
 
 // A line key=number: the number, and where the next line starts.
 pub enum Line {

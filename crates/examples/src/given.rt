@@ -7,7 +7,7 @@ use codec::encode::EncodeAnswer;
 use codec::plan::PlanAnswer;
 use lattice::class::CellClass;
 use lattice::distance::DistanceTest;
-use lattice::distance::Scan;
+use lattice::distance::Triple;
 use lattice::refusal::Refusal;
 use lattice::shape::NewShape;
 use lattice::shape::Shape;
@@ -131,23 +131,32 @@ fn shifted(z: i32) -> u64 {
     }
 }
 
-// The settings hold where no triple is found.
-fn of_scan(scan: Scan) -> Answer {
-    let x = scan.triple;
+// The verdict, the triple and the number of triples tried.
+fn of_verdict(holds: u64, x: Triple, tried: u32) -> Answer {
     answer::of(
         &[
-            if scan.found { 0 } else { 1 },
+            holds,
             shifted(x.row),
             shifted(x.plane),
             shifted(x.column),
-            scan.tried as u64,
+            tried as u64,
         ],
     )
 }
 
+// The settings hold where no triple fails.
 pub(crate) fn of_distance_test(given: DistanceTest) -> Answer {
     match given {
-        DistanceTest::Scanned(scan) => of_scan(scan),
+        DistanceTest::Holds(tried) => of_verdict(
+            1,
+            Triple {
+                row: 0,
+                plane: 0,
+                column: 0,
+            },
+            tried,
+        ),
+        DistanceTest::Fails(triple, tried) => of_verdict(0, triple, tried),
         DistanceTest::Refused(why) => of_refusal(why),
     }
 }

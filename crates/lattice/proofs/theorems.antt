@@ -2,7 +2,7 @@
 pub mod Numbering
 pub mod Clusters
 pub mod Refused
-pub mod Classes
+mod Classes
 mod Distance
 pub mod Labels
 pub mod Capacity

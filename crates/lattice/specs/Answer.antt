@@ -1,6 +1,6 @@
 -- The answers: for each case of an answer enum, the papers' number and figures, and what a contract says of them.
 use Prim.Native.Nat.{ℕ}
-use mathlib.Core.Bool.{Bool, false, not}
+use mathlib.Core.Bool.{Bool, true, false}
 use mathlib.Core.Logic.{_≢_}
 use mathlib.Core.Path.{_≡_}
 use Rattle.lattice.specs.declared.refusal.Refusal.the-variants as why
@@ -55,19 +55,23 @@ pub record IsCellClass (s : Shape) (x : Cell) (r : CellClass) : Type 0 where
 
 -- the distance test's answer
 abbrev pub distanceNumber : DistanceTest → ℕ
-distanceNumber (dst.Scanned s) = 0
+distanceNumber (dst.Holds n) = 0
+distanceNumber (dst.Fails x n) = 0
 distanceNumber (dst.Refused q) = refusalNumber q
 
 abbrev pub distanceVerdict : DistanceTest → Bool
-distanceVerdict (dst.Scanned s) = not (s .found)
+distanceVerdict (dst.Holds n) = true
+distanceVerdict (dst.Fails x n) = false
 distanceVerdict (dst.Refused q) = false
 
 abbrev pub distanceTriple : DistanceTest → Triple
-distanceTriple (dst.Scanned s) = s .triple
+distanceTriple (dst.Holds n) = origin
+distanceTriple (dst.Fails x n) = x
 distanceTriple (dst.Refused q) = origin
 
 abbrev pub distanceTried : DistanceTest → ℕ
-distanceTried (dst.Scanned s) = s .tried
+distanceTried (dst.Holds n) = n
+distanceTried (dst.Fails x n) = n
 distanceTried (dst.Refused q) = 0
 
 -- the number, the verdict, the triple found or (0, 0, 0), and the counter of triples tried

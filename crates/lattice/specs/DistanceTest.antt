@@ -7,7 +7,6 @@ use lib.Dec.{eqb, ltb}
 use lib.IntN.{pos, natAbs, _-ℤ_, _*ℤ_}
 use Rattle.lattice.specs.declared.settings.Settings.{Settings}
 use Rattle.lattice.specs.declared.distance.Triple.{Triple}
-use Rattle.lattice.specs.declared.distance.Scan.{Scan}
 use Rattle.lattice.specs.Refusal.{Listed, listed, unless, beside, figure}
 use Rattle.lattice.specs.Settings.{settings}
 use Rattle.lattice.specs.Range.{inRange, Outside}
@@ -16,6 +15,12 @@ use Rattle.lattice.specs.Order.{order, origin}
 -- the settings fail at a triple: column − b × row − c × plane is divisible by m
 unfoldable pub failsAt : Settings → Triple → Bool
 failsAt k x = eqb (natAbs (x .column -ℤ pos (k .b) *ℤ x .row -ℤ pos (k .c) *ℤ x .plane) % k .m) 0
+
+-- what trying a list of triples finds: whether one fails, which, and how many were tried
+pub record Scan : Type 0 where
+  pub found : Bool
+  pub triple : Triple
+  pub tried : ℕ
 
 -- no triple tried
 abbrev pub nothing : Scan

@@ -12,7 +12,7 @@ ghost use Rattle.lattice.specs.Lines.{passOf, round, Repeats, Positions,
 use crate::line::Line;
 use crate::line::Pass;
 use crate::line::next_line;
-use crate::shape::within;
+use crate::range::within;
 
 // 1 more below gap.
 pub(crate) fn raised(z: usize, gap: usize, up: u16) -> u16

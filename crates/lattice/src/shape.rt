@@ -2,8 +2,8 @@
 ghost use mathlib.Core.Path.{_≡_};
 ghost use Rattle.lattice.specs.Refusal.{testedNumber, figure};
 ghost use Rattle.lattice.specs.Shape.{maxSide, maxPlanes, maxCells, maxFlatStrength, maxStackStrength, maxClasses, maxStrength, sizeOk, strengthOk, shapeFrom, shapeNumber, cellsOf};
-ghost use Rattle.lattice.specs.Range.{inRange};
 ghost use Rattle.lattice.specs.Answer.{IsNewShape, newNumber};
+use crate::range::within;
 use crate::refusal::Refusal;
 use crate::refusal::Tested;
 
@@ -40,16 +40,6 @@ impl NewShape {
             NewShape::Refused(why) => why.number(),
         }
     }
-}
-
-// Is x at least low and at most high?
-pub fn within(low: usize, high: usize, x: usize) -> bool
-    ensures { λ r. ⌜ r ≡ inRange low high x ⌝ }
-{
-    if x < low {
-        return false;
-    }
-    x <= high
 }
 
 impl Shape {

@@ -10,9 +10,8 @@ use lib.IntN.{ℤ, pos, _+ℤ_, +ℤ-sucℤ, +ℤ-idr}
 use lib.ListN.{length}
 use Rattle.lattice.specs.declared.settings.Settings.{Settings}
 use Rattle.lattice.specs.declared.distance.Triple.{Triple}
-use Rattle.lattice.specs.declared.distance.Scan.{Scan}
 use Rattle.lattice.specs.Order.{triple, run}
-use Rattle.lattice.specs.DistanceTest.{failsAt, after, scan}
+use Rattle.lattice.specs.DistanceTest.{failsAt, after, scan, Scan}
 
 -- a scan that ends at x, and the rest of the list is not looked at
 abbrev pub hit : Triple → ℕ → Scan

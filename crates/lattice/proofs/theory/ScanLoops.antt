@@ -7,9 +7,8 @@ use native.Mathlib.Omega.{arith}
 use lib.IntN.{ℤ, pos, negℤ, natAbs, _+ℤ_}
 use Rattle.lattice.specs.declared.settings.Settings.{Settings}
 use Rattle.lattice.specs.declared.distance.Triple.{Triple}
-use Rattle.lattice.specs.declared.distance.Scan.{Scan}
 use Rattle.lattice.specs.Order.{origin, triple, run, span, columnsAt, planesAt}
-use Rattle.lattice.specs.DistanceTest.{failsAt, nothing, after, scan}
+use Rattle.lattice.specs.DistanceTest.{failsAt, nothing, after, scan, Scan}
 use Rattle.lattice.proofs.theory.Integers.{natAbs-neg}
 use Rattle.lattice.proofs.theory.Words.{limit, read, read-back, upright-size}
 use Rattle.lattice.proofs.theory.Scan.{hit, after-zero, scan-hit, scan-pass, part-found, part-past, run-step, run-end, run-start, tried-eq}

@@ -7,9 +7,8 @@ use native.Mathlib.Omega.{arith}
 use lib.ListN.{length, getD}
 use Rattle.lattice.specs.declared.settings.Settings.{Settings}
 use Rattle.lattice.specs.declared.distance.Triple.{Triple}
-use Rattle.lattice.specs.declared.distance.Scan.{Scan}
 use Rattle.lattice.specs.Order.{origin}
-use Rattle.lattice.specs.DistanceTest.{failsAt, after, scan}
+use Rattle.lattice.specs.DistanceTest.{failsAt, after, scan, Scan}
 use Rattle.lattice.proofs.theory.Scan.{hit}
 
 -- no triple of the list fails

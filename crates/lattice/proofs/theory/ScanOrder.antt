@@ -7,9 +7,8 @@ use native.Mathlib.Omega.{arith}
 use lib.IntN.{pos}
 use Rattle.lattice.specs.declared.settings.Settings.{Settings}
 use Rattle.lattice.specs.declared.distance.Triple.{Triple}
-use Rattle.lattice.specs.declared.distance.Scan.{Scan}
 use Rattle.lattice.specs.Order.{run, columnsAt, planesAt, rowsAt, order}
-use Rattle.lattice.specs.DistanceTest.{after, scan}
+use Rattle.lattice.specs.DistanceTest.{after, scan, Scan}
 use Rattle.lattice.proofs.theory.Scan.{append-found, append-past, part-found, part-past}
 
 -- the three parts of the order for strength n + 1

@@ -6,17 +6,17 @@ use native.Mathlib.Omega.{arith}
 use borrow.Author.Tests.{ltb-true, le-ltb, lt-ltb}
 use lib.Dec.{ltb}
 use Rattle.lattice.specs.declared.refusal.Refusal.{Refusal}
-use Rattle.lattice.specs.declared.distance.Scan.{Scan}
 use Rattle.lattice.specs.declared.distance.DistanceTest.the-variants as dst
 use Rattle.lattice.specs.Refusal.{refusalNumber}
 use Rattle.lattice.specs.Range.{inRange}
 use Rattle.lattice.specs.Settings.{settings}
 use Rattle.lattice.specs.Order.{order, origin}
-use Rattle.lattice.specs.DistanceTest.{maxTestStrength, maxTestClasses, scan, outcome, testStrengthOk, testSettingsOk, testNumber, verdict, foundTriple, triplesTried}
+use Rattle.lattice.specs.DistanceTest.{maxTestStrength, maxTestClasses, scan, outcome, testStrengthOk, testSettingsOk, testNumber, verdict, foundTriple, triplesTried, Scan}
 use Rattle.lattice.specs.Answer.{IsDistanceTest}
 use Rattle.lattice.proofs.theory.Bools.{and-left, and-right, failed, passed}
 use Rattle.lattice.proofs.theory.Limits.{range-low, range-high}
 use Rattle.lattice.proofs.theory.Answers.{unless-zero, beside-other, refused, done}
+use Rattle.lattice.proofs.theory.ScanMeaning.{missed}
 
 -- a range check's flag, negated, says whether the strength is in range
 pub strength-refused : (t : ℕ) (b : Bool) → b ≡ inRange 1 maxTestStrength t → not b ≡ true → testStrengthOk t ≡ false
@@ -112,16 +112,28 @@ pub outcome-is : (m b c t : ℕ) → 1 ≤ t → (s : Scan) → s ≡ scan (sett
 unfolding outcome
 outcome-is m b c t some s e = e ∙ ap (λ i. scan (settings m b c) (order i)) (omega arith)
 
--- the answer of a scan, and that of a refusal
-pub scanned : (m b c t : ℕ) (s : Scan) → testNumber m b c t ≡ 0 → s ≡ outcome m b c t → IsDistanceTest m b c t (dst.Scanned s)
-unfolding verdict foundTriple triplesTried
-scanned m b c t s n e =
-    record {
-      number = sym n;
-      verdict = done _ _ _ _ n (ap (λ (x : Scan). not (x .found)) e);
-      triple = done _ _ _ _ n (ap (λ (x : Scan). x .triple) e);
-      tried = done _ _ _ _ n (ap (λ (x : Scan). x .tried) e);
-    }
+-- the answers of a scan that finds no triple and of one that finds one, and that of a refusal
+module _ (m b c t : ℕ) (s : Scan) (n : testNumber m b c t ≡ 0) (e : s ≡ outcome m b c t) where
+  pub none-fails : s .found ≡ false → IsDistanceTest m b c t (dst.Holds (s .tried))
+  unfolding verdict foundTriple triplesTried outcome
+  none-fails f =
+      let none = missed (settings m b c) (order t) (sym (ap (λ (x : Scan). x .found) e) ∙ f) in
+      record {
+        number = sym n;
+        verdict = done _ _ _ _ n (ap not (sym f) ∙ ap (λ (x : Scan). not (x .found)) e);
+        triple = done _ _ _ _ n (sym (none .triple));
+        tried = done _ _ _ _ n (ap (λ (x : Scan). x .tried) e);
+      }
+
+  pub one-fails : s .found ≡ true → IsDistanceTest m b c t (dst.Fails (s .triple) (s .tried))
+  unfolding verdict foundTriple triplesTried
+  one-fails f =
+      record {
+        number = sym n;
+        verdict = done _ _ _ _ n (ap not (sym f) ∙ ap (λ (x : Scan). not (x .found)) e);
+        triple = done _ _ _ _ n (ap (λ (x : Scan). x .triple) e);
+        tried = done _ _ _ _ n (ap (λ (x : Scan). x .tried) e);
+      }
 
 pub not-tested : (m b c t : ℕ) (r : Refusal) → refusalNumber r ≡ testNumber m b c t → IsDistanceTest m b c t (dst.Refused r)
 unfolding verdict foundTriple triplesTried
