@@ -11,7 +11,7 @@ use Rattle.lattice.proofs.theory.Limits.{strength-stack, strength-most}
 use Rattle.codec.specs.Plan.{planClasses}
 use Rattle.codec.specs.Encode.{encodedField}
 use Rattle.codec.specs.Decode.{decodeCount, decodeLeaves}
-use Rattle.codec.proofs.DemandTwoWriting.{encodeMeaning}
+use Rattle.codec.proofs.theorems.Writing.{encodeMeaning}
 use Rattle.card.specs.declared.header.Header.{Header}
 use Rattle.card.specs.Text.{digitCount, numberLine, headerLines, headerText, payloadText, fieldText, refusalText, classesKey, mendedKey, refusalKey}
 use Rattle.card.specs.Card.{maxAnswer, shapeOf, CardHeader}

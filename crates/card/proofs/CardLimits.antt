@@ -9,7 +9,7 @@ use Rattle.lattice.proofs.theory.Counting.{count-most}
 use Rattle.lattice.proofs.theory.Limits.{Legal, legal, strength-most}
 use Rattle.codec.specs.Payload.{payloadBytes}
 use Rattle.codec.specs.Plan.{planBytes}
-use Rattle.codec.proofs.Accepted.{plan-bytes}
+use Rattle.codec.proofs.theory.Accepted.{plan-bytes}
 use Rattle.card.specs.declared.header.Header.{Header}
 use Rattle.card.specs.Card.{maxCardBytes, shapeOf, Small, CardHeader}
 

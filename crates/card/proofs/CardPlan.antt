@@ -15,8 +15,8 @@ use Rattle.codec.specs.Field.{fieldOf, differences}
 use Rattle.codec.specs.Payload.{payloadBytes, heldPayload}
 use Rattle.codec.specs.Plan.{planClasses, planBytes}
 use Rattle.codec.specs.Decode.{correctedField, correctedCount, decodeNumber, decodeCount, decodeLeaves}
-use Rattle.codec.proofs.Accepted.{plan-bytes, plan-classes}
-use Rattle.codec.proofs.FieldLists.{length-listOf}
+use Rattle.codec.proofs.theory.Accepted.{plan-bytes, plan-classes}
+use Rattle.codec.proofs.theory.FieldLists.{length-listOf}
 
 -- no shape has more than 512 classes, and no accepted stack more than 92
 pub classes-most : (s : Shape) → planClasses s ≤ maxClasses

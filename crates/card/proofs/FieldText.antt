@@ -10,7 +10,7 @@ use lib.Dec.{eqb}
 use lib.ListN.{length, getD, drop, length-append}
 use lib.Seq.{getD-append-add}
 use Rattle.lattice.specs.Shape.{cellsOf}
-use Rattle.codec.proofs.AllBelow.{fails-below}
+use Rattle.codec.proofs.theory.AllBelow.{fails-below}
 use Rattle.card.specs.declared.header.Header.{Header}
 use Rattle.card.specs.Text.{rowText, payloadKey, rowsText, fieldText, payloadText}
 use Rattle.card.specs.Card.{shapeOf, FieldCells}

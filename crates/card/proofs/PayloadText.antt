@@ -11,8 +11,8 @@ use lib.ListN.{length, getD, drop, length-append}
 use Rattle.lattice.specs.Counting.{allBelow}
 use Rattle.lattice.proofs.theory.Bools.{and-true, and-left, and-right}
 use Rattle.codec.specs.Payload.{Bytes}
-use Rattle.codec.proofs.AllBelow.{all-below, below-all}
-use Rattle.codec.proofs.FieldLists.{getD-listOf, getD-listOf-behind, length-listOf, list-field}
+use Rattle.codec.proofs.theory.AllBelow.{all-below, below-all}
+use Rattle.codec.proofs.theory.FieldLists.{getD-listOf, getD-listOf-behind, length-listOf, list-field}
 use Rattle.card.specs.Text.{hexText, payloadText, payloadKey, feed}
 use Rattle.card.specs.Parse.{keyAt, isHex, hexValue, hexCount, payloadOk, payloadOf}
 use Rattle.card.proofs.StandsAt.{StandsAt, stands-left, stands-right, stands-both, stands-one, one-stands, stands-part, stands-last, stands-whole, key-at, at-key}

@@ -12,19 +12,19 @@ use Rattle.codec.specs.Payload.{Bytes}
 use Rattle.codec.specs.Plan.{planBytes}
 use Rattle.codec.specs.Encode.{encodedField}
 use Rattle.codec.specs.Decode.{decodeNumber, decodeCount, decodeLeaves}
-use Rattle.codec.specs.Recovery.{damaged, damagedField}
-use Rattle.codec.proofs.Accepted.{encode-number}
-use Rattle.codec.proofs.Damage.{damaged-cells}
-use Rattle.codec.proofs.FieldLists.{length-listOf, getD-listOf, cells-same}
-use Rattle.codec.proofs.NothingToCorrect.{nothingToCorrect}
-use Rattle.codec.proofs.DemandThree.{recovery}
-use Rattle.codec.proofs.DemandTwoWriting.{encodeMeaning}
+use Rattle.codec.specs.Damage.{damaged, damagedField}
+use Rattle.codec.proofs.theory.Accepted.{encode-number}
+use Rattle.codec.proofs.theory.Damage.{damaged-cells}
+use Rattle.codec.proofs.theory.FieldLists.{length-listOf, getD-listOf, cells-same}
+use Rattle.codec.proofs.theorems.Undamaged.{nothingToCorrect}
+use Rattle.codec.proofs.theorems.Recovery.{recovery}
+use Rattle.codec.proofs.theorems.Writing.{encodeMeaning}
 use Rattle.card.specs.declared.header.Header.{Header}
 use Rattle.card.specs.Text.{headerText, numberLine, payloadText, fieldText, mendedKey}
 use Rattle.card.specs.Card.{shapeOf, FieldCells, CardHeader, payloadCard, fieldCard}
 use Rattle.card.specs.Program.{blankField, blankPayload, writtenText, readText, answer}
 use Rattle.card.specs.RoundTrip.{ReadBack, PrintedIsRead}
-use Rattle.codec.proofs.CellValues.{cells-received}
+use Rattle.codec.proofs.theory.CellValues.{cells-received}
 use Rattle.card.proofs.TextParses.{textParses}
 use Rattle.card.proofs.ProgramParts.{
   blank-field,

@@ -19,9 +19,9 @@ use Rattle.codec.specs.Payload.{paddingOk}
 use Rattle.codec.specs.Plan.{planBytes, planCells}
 use Rattle.codec.specs.Encode.{encodeNumber}
 use Rattle.codec.specs.Decode.{correctedField, fieldNumber, decodeNumber}
-use Rattle.codec.specs.Refused.{NoneInReach, WrongPadding}
-use Rattle.codec.proofs.Accepted.{plan-cells, decode-number}
-use Rattle.codec.proofs.FieldLists.{received-ok}
+use Rattle.codec.specs.Conditions.{NoneInReach, WrongPadding}
+use Rattle.codec.proofs.theory.Accepted.{plan-cells, decode-number}
+use Rattle.codec.proofs.theory.FieldLists.{received-ok}
 use Rattle.card.specs.declared.header.Header.{Header}
 use Rattle.card.specs.declared.header.HeaderAnswer.{HeaderAnswer}
 use Rattle.card.specs.declared.header.HeaderAnswer.the-variants as head

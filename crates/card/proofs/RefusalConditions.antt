@@ -17,8 +17,8 @@ use Rattle.codec.specs.Code.{fieldInReach}
 use Rattle.codec.specs.Payload.{Bytes, paddingOk}
 use Rattle.codec.specs.Plan.{planBytes}
 use Rattle.codec.specs.Decode.{correctedField}
-use Rattle.codec.specs.Refused.{WrongPayload, NoneInReach, WrongPadding}
-use Rattle.codec.proofs.DemandOne.{equal-decides, reach-decides, padding-decides}
+use Rattle.codec.specs.Conditions.{WrongPayload, NoneInReach, WrongPadding}
+use Rattle.codec.proofs.theory.FieldTests.{equal-decides, reach-decides, padding-decides}
 use Rattle.card.specs.declared.header.Header.{Header}
 use Rattle.card.specs.declared.header.HeaderAnswer.the-variants as head
 use Rattle.card.specs.Text.{headerText, payloadText, fieldText}
@@ -26,7 +26,7 @@ use Rattle.card.specs.Card.{maxCardCells, shapeOf, FieldCells, CardHeade
 use Rattle.card.specs.Parse.{headerOf}
 use Rattle.card.specs.Program.{bodyOk}
 use Rattle.card.specs.Form.{HeaderFirst, Body, headerRefusals, TooManyCells, NoBody, PayloadRefused, FieldRefused, ReachRefused, PaddingRefused}
-use Rattle.codec.proofs.CellValues.{received-cells}
+use Rattle.codec.proofs.theory.CellValues.{received-cells}
 use Rattle.card.proofs.HeaderRest.{header-found}
 use Rattle.card.proofs.BodyText.{body-ok, ok-body}
 use Rattle.card.proofs.CardLimits.{rows-some}

@@ -12,8 +12,8 @@ use lib.ListN.{length, getD}
 use Rattle.lattice.specs.Counting.{allBelow}
 use Rattle.lattice.proofs.theory.Bools.{and-true, and-left, and-right}
 use Rattle.codec.specs.Field.{fieldOf, isReceived, Received}
-use Rattle.codec.proofs.AllBelow.{all-below, below-all}
-use Rattle.codec.proofs.FieldLists.{getD-listOf, length-listOf, list-field}
+use Rattle.codec.proofs.theory.AllBelow.{all-below, below-all}
+use Rattle.codec.proofs.theory.FieldLists.{getD-listOf, length-listOf, list-field}
 use Rattle.card.specs.Text.{rowKey, rowsText, feed}
 use Rattle.card.specs.Parse.{isCellDigit, keyAt, rowStart, cellPlace, rowOk, rowsOk, cellsAt}
 use Rattle.card.proofs.CellDigits.{cell-digit, digit-low, digit-cell}

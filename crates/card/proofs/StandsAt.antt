@@ -11,7 +11,7 @@ use borrow.Author.Tests.{eq-eqb, eqb-true}
 use lib.Dec.{eqb}
 use lib.ListN.{length, getD, take, drop, length-append, length-drop, take-append-drop, drop-of-length-le, List·getD-append, List·getD-eq-default}
 use lib.Seq.{getD-append-add, getD-take, getD-drop, drop-drop, ext-getD, length-take-le}
-use Rattle.codec.proofs.AllBelow.{all-below, below-all}
+use Rattle.codec.proofs.theory.AllBelow.{all-below, below-all}
 use Rattle.card.specs.Parse.{keyAt}
 
 -- the bytes of the text are those of s from `at` on

@@ -20,8 +20,8 @@ use Rattle.codec.specs.Payload.{Bytes}
 use Rattle.codec.specs.Plan.{planClasses, planCapacity, planBytes}
 use Rattle.codec.specs.Encode.{encodeNumber, encodedField, encodeLeaves}
 use Rattle.codec.specs.Decode.{decodeNumber, decodeCount, decodeLeaves}
-use Rattle.codec.proofs.Accepted.{encode-number}
-use Rattle.codec.proofs.FieldLists.{length-listOf}
+use Rattle.codec.proofs.theory.Accepted.{encode-number}
+use Rattle.codec.proofs.theory.FieldLists.{length-listOf}
 use Rattle.card.specs.declared.header.Header.{Header}
 use Rattle.card.specs.Text.{numberLine, headerText, payloadText, fieldText, refusalText, classesKey, mendedKey}
 use Rattle.card.specs.Card.{maxCardCells, maxCardBytes, shapeOf, FieldCells}

@@ -10,7 +10,7 @@ use lib.ListN.{length, getD}
 use borrow.Author.Tests.{eq-eqb, ne-eqb}
 use Rattle.lattice.specs.Counting.{allBelow}
 use Rattle.lattice.specs.Shape.{maxSide, maxCells}
-use Rattle.codec.proofs.StepTest.{Passed, passed-all, failed-at}
+use Rattle.codec.proofs.theory.OneByOne.{Passed, passed-all, failed-at}
 use Rattle.card.specs.Text.{rowKey, feed}
 use Rattle.card.specs.Parse.{keyAt, isCellDigit, rowStart, rowOk, rowsOk, cellPlace, cellsAt}
 use Rattle.card.proofs.StepStored.{Stored, stored-all}

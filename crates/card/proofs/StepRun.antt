@@ -8,7 +8,7 @@ use native.Mathlib.Omega.{arith}
 use lib.ListN.{length, take, replicate, length-append, length-replicate}
 use lib.Seq.{take-at}
 use Rattle.codec.specs.Payload.{Bytes}
-use Rattle.codec.proofs.FieldLists.{length-listOf}
+use Rattle.codec.proofs.theory.FieldLists.{length-listOf}
 use Rattle.card.specs.Card.{maxAnswer}
 use Rattle.card.specs.Parse.{hexCount, payloadOk, payloadOf}
 use Rattle.card.specs.Program.{answer, outputLeaves}

@@ -7,7 +7,7 @@ use lib.Dec.{eqb}
 use lib.ListN.{length, getD, List·getD-eq-default}
 use borrow.Author.Tests.{eq-eqb, ne-eqb}
 use Rattle.lattice.specs.Counting.{allBelow}
-use Rattle.codec.proofs.StepTest.{Passed, passed-all, failed-at}
+use Rattle.codec.proofs.theory.OneByOne.{Passed, passed-all, failed-at}
 use Rattle.card.specs.Parse.{keyAt}
 
 -- past the end stands 0

@@ -5,7 +5,7 @@ use mathlib.Core.Path.{_≡_, refl, sym, ap, _∙_}
 use native.Mathlib.Nat.{le-antisymm}
 use lib.ListN.{length, set, drop, length-set, drop-of-length-le}
 use Rattle.codec.specs.Field.{Field, listOf}
-use Rattle.codec.proofs.StepList.{filled-more}
+use Rattle.codec.proofs.theory.FilledLists.{filled-more}
 
 -- the first n bytes of ys are f's, and those behind are as in xs
 pub record Stored (f : Field) (xs ys : List ℕ) (n : ℕ) : Type 0 where

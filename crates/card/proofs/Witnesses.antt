@@ -6,7 +6,7 @@ use mathlib.Core.Path.{_≡_, refl}
 use lib.Dec.{lit≤}
 use lib.ListN.{length}
 use Rattle.codec.specs.Encode.{encodedField}
-use Rattle.codec.proofs.Witnesses.{accepted, payload, payload-long, payload-bytes}
+use Rattle.codec.proofs.examples.Coding.{accepted, payload, payload-long, payload-bytes}
 use Rattle.card.specs.declared.header.Header.{Header}
 use Rattle.card.specs.declared.header.HeaderAnswer.the-variants as head
 use Rattle.card.specs.Text.{headerText, payloadText}

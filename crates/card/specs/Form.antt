@@ -12,7 +12,7 @@ use Rattle.codec.specs.Field.{Field, fieldOf}
 use Rattle.codec.specs.Payload.{Bytes}
 use Rattle.codec.specs.Plan.{planClasses, planBytes}
 use Rattle.codec.specs.Decode.{decodeCount}
-use Rattle.codec.specs.Refused.{WrongPayload, NoneInReach, WrongPadding}
+use Rattle.codec.specs.Conditions.{WrongPayload, NoneInReach, WrongPadding}
 use Rattle.card.specs.declared.header.Header.{Header}
 use Rattle.card.specs.declared.header.HeaderAnswer.the-variants as head
 use Rattle.card.specs.Text.{headerText, payloadText, fieldText, refusalText}

@@ -11,7 +11,7 @@ use Rattle.codec.specs.Field.{fieldOf, differences}
 use Rattle.codec.specs.Payload.{Bytes}
 use Rattle.codec.specs.Plan.{planClasses, planBytes}
 use Rattle.codec.specs.Encode.{encodedField}
-use Rattle.codec.specs.Recovery.{damagedField}
+use Rattle.codec.specs.Damage.{damagedField}
 use Rattle.card.specs.declared.header.Header.{Header}
 use Rattle.card.specs.declared.header.HeaderAnswer.the-variants as head
 use Rattle.card.specs.Text.{headerText, numberLine, payloadText, classesKey, mendedKey}

@@ -1,62 +1,8 @@
--- Laws and theorems that belong to no one function.
-pub mod Accepted
-pub mod AllBelow
-pub mod BinaryDigits
-pub mod BitsTell
-pub mod CellValues
-pub mod CheckBits
-pub mod ChecksSet
-pub mod Correction
-pub mod Damage
-pub mod DamagedCells
-pub mod DemandOne
-pub mod DemandThree
-pub mod DemandTwoReading
-pub mod DemandTwoWriting
-pub mod Differences
-pub mod EncodedField
-pub mod FieldLists
-pub mod FieldMeaning
-pub mod FieldWritten
-pub mod FilledRuns
-pub mod FlippedBits
-pub mod Gathered
-pub mod HeldByte
-pub mod HeldPayload
-pub mod LineTaken
-pub mod LinesTaken
-pub mod ListedChecks
-pub mod MendedField
-pub mod NothingToCorrect
-pub mod OneClass
-pub mod OneCodeword
-pub mod PaddingCells
-pub mod PaddingFew
-pub mod PaperExamples
-pub mod PayloadBits
-pub mod PlanRefusal
-pub mod PlaneFilled
-pub mod PlanesFilled
-pub mod PowerPositions
-pub mod Ranks
-pub mod Reach
-pub mod RecoveryByClass
-pub mod Scattered
-pub mod StepCells
-pub mod StepCorrected
-pub mod StepData
-pub mod StepExamine
-pub mod StepList
-pub mod StepNumber
-pub mod StepPadding
-pub mod StepPayloadBit
-pub mod StepPlace
-pub mod StepPlaceBack
-pub mod StepReach
-pub mod StepTest
-pub mod StepValue
-pub mod Syndrome
-pub mod Tags
-pub mod TurnedCells
-pub mod Witnesses
-pub mod Xor
+-- The proofs of the crate `codec`. A module of src has a room of its name, with the proofs of its functions and the laws that it alone
+-- uses; the other laws stand in three rooms.
+-- laws about the definitions, for any reader of them
+pub mod theory
+-- the terms of the theorems, a file for each file of specs/theorems, of the same name
+pub mod theorems
+-- examples that meet the hypotheses of the theorems
+pub mod examples

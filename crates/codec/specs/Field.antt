@@ -2,7 +2,6 @@
 use Prim.Native.Nat.{ℕ, zero, suc, _-_, _<_}
 use mathlib.Core.Bool.{Bool, true, not}
 use mathlib.Core.List.{List, [], _∷_, _++_}
-use mathlib.Core.Logic.{_⊎_, _↔_}
 use mathlib.Core.Path.{_≡_}
 use lib.Dec.{leb, eqb}
 use lib.ListN.{getD}
@@ -37,11 +36,6 @@ Received f n = (i : ℕ) → i < n → isReceived (f i) ≡ true
 
 unfoldable pub cellsOk : Field → ℕ → Bool
 cellsOk f n = allBelow (λ i. isReceived (f i)) n
-
--- Theorem. A cell is 0 or 1, and so is each cell of a field that is handed in.
-pub record CellValues : Type 0 where
-  pub cell : (v : ℕ) → (isCell v ≡ true) ↔ ((v ≡ 0) ⊎ (v ≡ 1))
-  pub received : (v : ℕ) → (isReceived v ≡ true) ↔ ((v ≡ 0) ⊎ (v ≡ 1))
 
 -- to turn a cell over is to make 0 of 1 or 1 of 0
 abbrev pub flip : ℕ → ℕ

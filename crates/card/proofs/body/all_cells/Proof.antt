@@ -1,7 +1,7 @@
 use Prim.Native.Nat.{_-_, _≤_, zero-le}
 use native.Mathlib.Omega.{arith}
 use Rattle.lattice.proofs.theory.Bools.{failed, passed}
-use Rattle.codec.proofs.StepTest.{Passed, passed-none, passed-more}
+use Rattle.codec.proofs.theory.OneByOne.{Passed, passed-none, passed-more}
 use Rattle.card.specs.Parse.{isCellDigit}
 use Rattle.card.proofs.StepScan.{testAt, test-passes, test-fails, test-all}
 use Rattle.card.proofs.body.all_cells.Statement.{statement}

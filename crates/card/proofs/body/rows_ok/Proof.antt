@@ -1,7 +1,7 @@
 use Prim.Native.Nat.{_-_, _≤_, zero-le}
 use native.Mathlib.Omega.{arith}
 use Rattle.lattice.proofs.theory.Bools.{failed, passed}
-use Rattle.codec.proofs.StepTest.{Passed, passed-none, passed-more}
+use Rattle.codec.proofs.theory.OneByOne.{Passed, passed-none, passed-more}
 use Rattle.card.specs.Parse.{rowOk}
 use Rattle.card.proofs.StepRows.{rows-behind, rows-long, rows-product, row-product, row-inside, row-moved, rows-fail, rows-pass}
 use Rattle.card.proofs.body.rows_ok.Statement.{statement}

@@ -7,8 +7,8 @@ use Rattle.codec.specs.Correct.{correctNumber, correctCount, correctLeav
 use Rattle.lattice.specs.declared.refusal.Refusal.the-variants as why
 use Rattle.lattice.specs.Refusal.{testedNumber}
 use Rattle.lattice.proofs.theory.Answers.{refused, done, told, told-none, kept-reason}
-use Rattle.codec.proofs.StepNumber.{correct-taken}
-use Rattle.codec.proofs.StepPlace.{zeros}
+use Rattle.codec.proofs.theory.OperationNumbers.{correct-taken}
+use Rattle.codec.proofs.theory.WorkArrays.{zeros}
 use Rattle.codec.proofs.correct.correct.Statement.{statement}
 use Rattle.codec.proofs.correct.correct.Tie as tie
 

@@ -7,10 +7,10 @@ use Rattle.lattice.specs.Shape.{Accepted}
 use Rattle.codec.specs.Working.{FieldFits}
 use Rattle.lattice.proofs.theory.Answers.{told, told-none, some-number, other-reason, length-outside}
 use Rattle.lattice.proofs.theory.Limits.{number-other}
-use Rattle.codec.proofs.Accepted.{plan-cells, correct-number}
-use Rattle.codec.proofs.StepExamine.{field-other}
-use Rattle.codec.proofs.StepNumber.{cells-given, correct-refused, correct-length}
-use Rattle.codec.proofs.StepPlace.{sizes-given}
+use Rattle.codec.proofs.theory.Accepted.{plan-cells, correct-number}
+use Rattle.codec.proofs.theory.FieldNumber.{field-other}
+use Rattle.codec.proofs.theory.OperationNumbers.{cells-given, correct-refused, correct-length}
+use Rattle.codec.proofs.theory.WorkArrays.{sizes-given}
 use Rattle.codec.proofs.correct.correct_tests.Statement.{statement}
 use Rattle.codec.proofs.correct.correct_tests.Tie as tie
 

@@ -1,7 +1,7 @@
 -- `store_corrected` meets its contract.
 use mathlib.Core.Path.{sym}
 use borrow.Author.Needs.{needs}
-use Rattle.codec.proofs.MendedField.{classes-given, classes-few, all-damaged, mended-cells, mended-count}
+use Rattle.codec.proofs.theory.MendedField.{classes-given, classes-few, all-damaged, mended-cells, mended-count}
 use Rattle.codec.proofs.correct.store_corrected.Statement.{statement}
 use Rattle.codec.proofs.correct.store_corrected.Tie as tie
 

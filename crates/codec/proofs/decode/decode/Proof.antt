@@ -7,8 +7,8 @@ use Rattle.codec.specs.Decode.{decodeNumber, decodeCount, decodeLeaves}
 use Rattle.lattice.specs.declared.refusal.Refusal.the-variants as why
 use Rattle.lattice.specs.Refusal.{testedNumber}
 use Rattle.lattice.proofs.theory.Answers.{refused, done, told, told-none, kept-reason}
-use Rattle.codec.proofs.StepNumber.{decode-taken}
-use Rattle.codec.proofs.StepPlace.{zeros}
+use Rattle.codec.proofs.theory.OperationNumbers.{decode-taken}
+use Rattle.codec.proofs.theory.WorkArrays.{zeros}
 use Rattle.codec.proofs.decode.decode.Statement.{statement}
 use Rattle.codec.proofs.decode.decode.Tie as tie
 

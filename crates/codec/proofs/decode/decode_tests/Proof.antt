@@ -5,8 +5,8 @@ use Rattle.lattice.proofs.theory.Answers.{told, told-none, some-number, other-r
 use Rattle.lattice.specs.declared.refusal.Refusal.the-variants as why
 use Rattle.lattice.specs.Refusal.{testedNumber}
 use Rattle.codec.specs.Working.{lengthNumber}
-use Rattle.codec.proofs.StepExamine.{field-other}
-use Rattle.codec.proofs.StepNumber.{decode-tests}
+use Rattle.codec.proofs.theory.FieldNumber.{field-other}
+use Rattle.codec.proofs.theory.OperationNumbers.{decode-tests}
 use Rattle.codec.proofs.decode.decode_tests.Statement.{statement}
 use Rattle.codec.proofs.decode.decode_tests.Tie as tie
 

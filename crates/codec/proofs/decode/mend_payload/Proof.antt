@@ -1,8 +1,8 @@
 -- `mend_payload` meets its contract.
 use mathlib.Core.Path.{sym}
 use borrow.Author.Needs.{needs}
-use Rattle.codec.proofs.FlippedBits.{bits-same}
-use Rattle.codec.proofs.MendedField.{classes-given, classes-few, all-damaged, all-mended, mended-count}
+use Rattle.codec.proofs.theory.FlippedBits.{bits-same}
+use Rattle.codec.proofs.theory.MendedField.{classes-given, classes-few, all-damaged, all-mended, mended-count}
 use Rattle.codec.proofs.decode.mend_payload.Statement.{statement}
 use Rattle.codec.proofs.decode.mend_payload.Tie as tie
 

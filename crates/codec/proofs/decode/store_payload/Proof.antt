@@ -5,10 +5,10 @@ use borrow.Author.Needs.{needs}
 use Rattle.lattice.specs.Shape.{cellsOf}
 use Rattle.lattice.proofs.theory.ClassAt.{at-cells}
 use Rattle.codec.specs.Code.{tagsAt}
-use Rattle.codec.proofs.CellValues.{received-cells}
-use Rattle.codec.proofs.Correction.{corrected-cells}
-use Rattle.codec.proofs.FlippedBits.{bits-all}
-use Rattle.codec.proofs.MendedField.{field-cells, gathered-bits}
+use Rattle.codec.proofs.theory.CellValues.{received-cells}
+use Rattle.codec.proofs.theory.Correction.{corrected-cells}
+use Rattle.codec.proofs.theory.FlippedBits.{bits-all}
+use Rattle.codec.proofs.theory.MendedField.{field-cells, gathered-bits}
 use Rattle.codec.proofs.decode.store_payload.Statement.{statement}
 use Rattle.codec.proofs.decode.store_payload.Tie as tie
 

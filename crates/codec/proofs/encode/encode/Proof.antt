@@ -7,7 +7,7 @@ use Rattle.codec.specs.Encode.{encodeNumber, encodeLeaves}
 use Rattle.lattice.specs.declared.refusal.Refusal.the-variants as why
 use Rattle.lattice.specs.Refusal.{testedNumber}
 use Rattle.lattice.proofs.theory.Answers.{refused, done, told, told-none, kept-reason}
-use Rattle.codec.proofs.StepNumber.{encode-tests}
+use Rattle.codec.proofs.theory.OperationNumbers.{encode-tests}
 use Rattle.codec.proofs.encode.encode.Statement.{statement}
 use Rattle.codec.proofs.encode.encode.Tie as tie
 

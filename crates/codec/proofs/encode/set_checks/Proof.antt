@@ -10,7 +10,7 @@ use Rattle.lattice.specs.Position.{Layout}
 use Rattle.codec.specs.Field.{fieldOf, Same}
 use Rattle.codec.specs.Filling.{checkedTo, ToCheck}
 use Rattle.codec.specs.Payload.{dataField}
-use Rattle.codec.proofs.ChecksSet.{checked-none, checked-more, checked-all}
+use Rattle.codec.proofs.encode.ChecksSet.{checked-none, checked-more, checked-all}
 use Rattle.codec.proofs.encode.set_checks.Statement.{statement}
 use Rattle.codec.proofs.encode.set_checks.Tie as tie
 

@@ -1,8 +1,8 @@
 -- `write_field` meets its contract.
 use borrow.Author.Needs.{needs}
-use Rattle.codec.proofs.FieldWritten.{checks-listed, place-below, filled-fits, filled-same, filled-are-cells, listed-below}
-use Rattle.codec.proofs.FieldWritten.{to-check, written}
-use Rattle.codec.proofs.StepPlace.{zeros}
+use Rattle.codec.proofs.encode.FieldWritten.{checks-listed, place-below, filled-fits, filled-same, filled-are-cells, listed-below}
+use Rattle.codec.proofs.encode.FieldWritten.{to-check, written}
+use Rattle.codec.proofs.theory.WorkArrays.{zeros}
 use Rattle.codec.proofs.encode.write_field.Statement.{statement}
 use Rattle.codec.proofs.encode.write_field.Tie as tie
 

@@ -6,8 +6,8 @@ use borrow.Author.Needs.{needs}
 use borrow.Author.Tests.{le-leb, lt-leb}
 use Rattle.lattice.specs.Counting.{allBelow}
 use Rattle.lattice.specs.Shape.{maxClasses}
-use Rattle.codec.proofs.AllBelow.{last-fails, last-passes, none-left}
-use Rattle.codec.proofs.StepReach.{reaches}
+use Rattle.codec.proofs.theory.AllBelow.{last-fails, last-passes, none-left}
+use Rattle.codec.proofs.examine.Reach.{reaches}
 use Rattle.codec.proofs.examine.all_in_reach.Statement.{statement}
 use Rattle.codec.proofs.examine.all_in_reach.Tie as tie
 

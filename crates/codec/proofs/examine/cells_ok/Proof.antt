@@ -2,7 +2,7 @@
 use Prim.Native.Nat.{_-_, _≤_, zero-le}
 use native.Mathlib.Omega.{arith}
 use Rattle.codec.specs.Field.{fieldOf}
-use Rattle.codec.proofs.StepCells.{Tells, tells-none, tells-more, tells-all}
+use Rattle.codec.proofs.examine.Cells.{Tells, tells-none, tells-more, tells-all}
 use Rattle.codec.proofs.examine.cells_ok.Statement.{statement}
 use Rattle.codec.proofs.examine.cells_ok.Tie as tie
 

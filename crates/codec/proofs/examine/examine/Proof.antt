@@ -11,8 +11,8 @@ use Rattle.lattice.proofs.theory.SizesByLines.{classes-are, cells-are, most}
 use Rattle.codec.specs.Field.{fieldOf, cellsOk}
 use Rattle.codec.specs.Working.{Examined}
 use Rattle.codec.specs.Code.{fieldInReach}
-use Rattle.codec.proofs.StepExamine.{cells-tested, number-cell, number-reach, number-padding, number-none}
-use Rattle.codec.proofs.StepReach.{all-reach}
+use Rattle.codec.proofs.theory.FieldNumber.{cells-tested, number-cell, number-reach, number-padding, number-none}
+use Rattle.codec.proofs.examine.Reach.{all-reach}
 use Rattle.codec.proofs.examine.examine.Statement.{statement}
 use Rattle.codec.proofs.examine.examine.Tie as tie
 

@@ -1,6 +1,6 @@
 -- `is_right` meets its contract.
 use borrow.Author.Needs.{needs}
-use Rattle.codec.proofs.StepPadding.{right-check, right-padding}
+use Rattle.codec.proofs.examine.Padding.{right-check, right-padding}
 use Rattle.codec.proofs.examine.is_right.Statement.{statement}
 use Rattle.codec.proofs.examine.is_right.Tie as tie
 

@@ -12,11 +12,11 @@ use Rattle.lattice.proofs.theory.ClassAt.{at-cells}
 use Rattle.codec.specs.Decode.{correctedField}
 use Rattle.codec.specs.Field.{fieldOf}
 use Rattle.codec.specs.Working.{HoldsRest, AtCellBack}
-use Rattle.codec.proofs.StepCorrected.{mended-at}
-use Rattle.codec.proofs.StepData.{data-at}
-use Rattle.codec.proofs.StepPadding.{PassedFrom, padding-start, padding-passes, left-some, padding-fails, padding-more}
-use Rattle.codec.proofs.StepPlace.{cell-limit, zeros}
-use Rattle.codec.proofs.StepPlaceBack.{rest-none, back-cell}
+use Rattle.codec.proofs.examine.Corrected.{mended-at}
+use Rattle.codec.proofs.examine.Data.{data-at}
+use Rattle.codec.proofs.examine.Padding.{PassedFrom, padding-start, padding-passes, left-some, padding-fails, padding-more}
+use Rattle.codec.proofs.theory.WorkArrays.{cell-limit, zeros}
+use Rattle.codec.proofs.theory.PlaceBack.{rest-none, back-cell}
 use Rattle.codec.proofs.examine.padding_ok.Statement.{statement}
 use Rattle.codec.proofs.examine.padding_ok.Tie as tie
 

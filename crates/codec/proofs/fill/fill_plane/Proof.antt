@@ -11,8 +11,8 @@ use Rattle.lattice.specs.Listing.{checksTo, Run}
 use Rattle.lattice.specs.Position.{Layout}
 use Rattle.lattice.specs.Shape.{maxCells}
 use Rattle.codec.specs.Filling.{ToFill, AtRun}
-use Rattle.codec.proofs.FilledRuns.{data-none, this-run, few-before, run-check, run-last}
-use Rattle.codec.proofs.PlaneFilled.{plane-limit, plane-room, plane-fill, plane-filled}
+use Rattle.codec.proofs.fill.Runs.{data-none, this-run, few-before, run-check, run-last}
+use Rattle.codec.proofs.fill.Plane.{plane-limit, plane-room, plane-fill, plane-filled}
 use Rattle.codec.proofs.fill.fill_plane.Statement.{statement}
 use Rattle.codec.proofs.fill.fill_plane.Tie as tie
 

@@ -7,8 +7,8 @@ use lib.ListN.{length}
 use borrow.Author.Needs.{needs}
 use mir.Facts.{fits-below}
 use Rattle.codec.specs.Filling.{Filled}
-use Rattle.codec.proofs.PlanesFilled.{plane-start, plane-begins, plane-next}
-use Rattle.codec.proofs.PlanesFilled.{planes-none, planes-length, planes-more, planes-all}
+use Rattle.codec.proofs.fill.Planes.{plane-start, plane-begins, plane-next}
+use Rattle.codec.proofs.fill.Planes.{planes-none, planes-length, planes-more, planes-all}
 use Rattle.codec.proofs.fill.fill_planes.Statement.{statement}
 use Rattle.codec.proofs.fill.fill_planes.Tie as tie
 

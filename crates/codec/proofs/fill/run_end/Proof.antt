@@ -1,7 +1,7 @@
 -- `run_end` meets its contract.
 use native.Mathlib.Nat.{le-refl, le-of-lt}
 use borrow.Author.Needs.{needs}
-use Rattle.codec.proofs.FilledRuns.{ends-check, ends-before, ends-behind}
+use Rattle.codec.proofs.fill.Runs.{ends-check, ends-before, ends-behind}
 use Rattle.codec.proofs.fill.run_end.Statement.{statement}
 use Rattle.codec.proofs.fill.run_end.Tie as tie
 

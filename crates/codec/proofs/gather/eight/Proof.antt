@@ -2,7 +2,7 @@
 use native.Mathlib.Omega.{arith}
 use borrow.Author.Needs.{needs}
 use Rattle.codec.specs.Field.{fieldOf}
-use Rattle.codec.proofs.Gathered.{fours-most}
+use Rattle.codec.proofs.theory.Gathered.{fours-most}
 use Rattle.codec.proofs.gather.eight.Statement.{statement}
 use Rattle.codec.proofs.gather.eight.Tie as tie
 

@@ -12,8 +12,8 @@ use Rattle.lattice.specs.Position.{Layout}
 use Rattle.lattice.proofs.theory.Runs.{checks-none, next-run, last-run, behind-check}
 use Rattle.codec.specs.Field.{fieldOf}
 use Rattle.codec.specs.Packing.{HoldsBytes}
-use Rattle.codec.proofs.Gathered.{gathered-none, gathered-check}
-use Rattle.codec.proofs.ListedChecks.{lists-cells, listed-inside, listed-limit, checks-before}
+use Rattle.codec.proofs.theory.Gathered.{gathered-none, gathered-check}
+use Rattle.codec.proofs.gather.ListedChecks.{lists-cells, listed-inside, listed-limit, checks-before}
 use Rattle.codec.proofs.gather.gather.Statement.{statement}
 use Rattle.codec.proofs.gather.gather.Tie as tie
 

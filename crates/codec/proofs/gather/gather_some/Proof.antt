@@ -1,7 +1,7 @@
 -- `gather_some` meets its contract.
 use native.Mathlib.Omega.{arith}
 use borrow.Author.Needs.{needs}
-use Rattle.codec.proofs.Gathered.{gathered-byte, gathered-cell}
+use Rattle.codec.proofs.theory.Gathered.{gathered-byte, gathered-cell}
 use Rattle.codec.proofs.gather.gather_some.Statement.{statement}
 use Rattle.codec.proofs.gather.gather_some.Tie as tie
 

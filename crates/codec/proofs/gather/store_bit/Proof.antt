@@ -2,7 +2,7 @@
 use Prim.Native.Nat.{_/_}
 use native.Mathlib.Omega.{arith}
 use borrow.Author.Needs.{needs}
-use Rattle.codec.proofs.Gathered.{stored-inside, stored-behind}
+use Rattle.codec.proofs.theory.Gathered.{stored-inside, stored-behind}
 use Rattle.codec.proofs.gather.store_bit.Statement.{statement}
 use Rattle.codec.proofs.gather.store_bit.Tie as tie
 

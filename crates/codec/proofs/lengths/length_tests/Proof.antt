@@ -12,9 +12,9 @@ use Rattle.lattice.proofs.theory.CapacityGiven.{classes-given}
 use Rattle.lattice.proofs.theory.Limits.{number-other}
 use Rattle.codec.specs.Plan.{planBytes}
 use Rattle.codec.specs.Working.{HoldsSizes}
-use Rattle.codec.proofs.Accepted.{plan-bytes, plan-cells}
-use Rattle.codec.proofs.StepNumber.{bytes-given, cells-given, length-refused, payload-number, field-number, fit-number}
-use Rattle.codec.proofs.StepPlace.{sizes-given}
+use Rattle.codec.proofs.theory.Accepted.{plan-bytes, plan-cells}
+use Rattle.codec.proofs.theory.OperationNumbers.{bytes-given, cells-given, length-refused, payload-number, field-number, fit-number}
+use Rattle.codec.proofs.theory.WorkArrays.{sizes-given}
 use Rattle.codec.proofs.lengths.length_tests.Statement.{statement}
 use Rattle.codec.proofs.lengths.length_tests.Tie as tie
 

@@ -1,7 +1,7 @@
 -- `flip_at` meets its contract.
 use native.Mathlib.Omega.{arith}
 use borrow.Author.Needs.{needs}
-use Rattle.codec.proofs.FlippedBits.{bits-outside, bits-listed, bits-unlisted}
+use Rattle.codec.proofs.theory.FlippedBits.{bits-outside, bits-listed, bits-unlisted}
 use Rattle.lattice.proofs.theory.Runs.{checks-most}
 use Rattle.codec.proofs.mend.flip_at.Statement.{statement}
 use Rattle.codec.proofs.mend.flip_at.Tie as tie

@@ -1,6 +1,6 @@
 -- `flip_bit` meets its contract.
 use borrow.Author.Needs.{needs}
-use Rattle.codec.proofs.FlippedBits.{bit-flipped, bit-kept}
+use Rattle.codec.proofs.theory.FlippedBits.{bit-flipped, bit-kept}
 use Rattle.codec.proofs.mend.flip_bit.Statement.{statement}
 use Rattle.codec.proofs.mend.flip_bit.Tie as tie
 

@@ -9,8 +9,8 @@ use Rattle.lattice.specs.Listing.{ListsChecks}
 use Rattle.lattice.specs.Position.{Layout}
 use Rattle.codec.specs.Field.{Field}
 use Rattle.codec.specs.Packing.{HoldsBits, turnedAt, mendedTo, Damaged}
-use Rattle.codec.proofs.DamagedCells.{mended-none, mended-more}
-use Rattle.codec.proofs.FlippedBits.{bits-same}
+use Rattle.codec.proofs.theory.DamagedCells.{mended-none, mended-more}
+use Rattle.codec.proofs.theory.FlippedBits.{bits-same}
 use Rattle.codec.proofs.mend.flip_bits.Statement.{statement}
 use Rattle.codec.proofs.mend.flip_bits.Tie as tie
 

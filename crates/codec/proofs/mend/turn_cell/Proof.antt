@@ -1,6 +1,6 @@
 -- `turn_cell` meets its contract.
 use borrow.Author.Needs.{needs}
-use Rattle.codec.proofs.TurnedCells.{turned-inside, turned-outside}
+use Rattle.codec.proofs.mend.TurnedCells.{turned-inside, turned-outside}
 use Rattle.codec.proofs.mend.turn_cell.Statement.{statement}
 use Rattle.codec.proofs.mend.turn_cell.Tie as tie
 

@@ -8,7 +8,7 @@ use borrow.Author.Needs.{needs}
 use Rattle.lattice.specs.Position.{Layout}
 use Rattle.codec.specs.Field.{fieldOf, Same}
 use Rattle.codec.specs.Packing.{turnedAt, mendedTo, Damaged}
-use Rattle.codec.proofs.DamagedCells.{turned-same, mended-none, mended-more}
+use Rattle.codec.proofs.theory.DamagedCells.{turned-same, mended-none, mended-more}
 use Rattle.codec.proofs.mend.turn_cells.Statement.{statement}
 use Rattle.codec.proofs.mend.turn_cells.Tie as tie
 

@@ -4,7 +4,7 @@ use mathlib.Core.Path.{sym, ap}
 use borrow.Author.Needs.{needs}
 use Rattle.codec.specs.Plan.{planClasses, planCapacity, planBytes, planCells}
 use Rattle.lattice.proofs.theory.Answers.{told, told-none}
-use Rattle.codec.proofs.PlanRefusal.{plan-refused}
+use Rattle.codec.proofs.theory.PlanRefusal.{plan-refused}
 use Rattle.codec.proofs.plan.plan.Statement.{statement}
 use Rattle.codec.proofs.plan.plan.Tie as tie
 

@@ -1,6 +1,6 @@
 -- `data_value` meets its contract.
 use borrow.Author.Needs.{needs}
-use Rattle.codec.proofs.StepValue.{value-bit, value-padding}
+use Rattle.codec.proofs.scatter.Values.{value-bit, value-padding}
 use Rattle.codec.proofs.scatter.data_value.Statement.{statement}
 use Rattle.codec.proofs.scatter.data_value.Tie as tie
 

@@ -1,6 +1,6 @@
 -- `put_byte` meets its contract.
 use borrow.Author.Needs.{needs}
-use Rattle.codec.proofs.Scattered.{byte-put}
+use Rattle.codec.proofs.scatter.Scattered.{byte-put}
 use Rattle.codec.proofs.scatter.put_byte.Statement.{statement}
 use Rattle.codec.proofs.scatter.put_byte.Tie as tie
 

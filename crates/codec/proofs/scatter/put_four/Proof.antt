@@ -2,7 +2,7 @@
 use native.Mathlib.Omega.{arith}
 use lib.ListN.{length-set}
 use borrow.Author.Needs.{needs}
-use Rattle.codec.proofs.Scattered.{four-put}
+use Rattle.codec.proofs.scatter.Scattered.{four-put}
 use Rattle.codec.proofs.scatter.put_four.Statement.{statement}
 use Rattle.codec.proofs.scatter.put_four.Tie as tie
 

@@ -5,7 +5,7 @@ use native.Mathlib.Nat.{le-antisymm, le-refl}
 use native.Mathlib.Omega.{arith}
 use lib.ListN.{length}
 use Rattle.codec.specs.Filling.{ValuesPut}
-use Rattle.codec.proofs.Scattered.{values-none, values-join}
+use Rattle.codec.proofs.scatter.Scattered.{values-none, values-join}
 use Rattle.codec.proofs.scatter.scatter_run.Statement.{statement}
 use Rattle.codec.proofs.scatter.scatter_run.Tie as tie
 

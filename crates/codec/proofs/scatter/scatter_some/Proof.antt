@@ -1,7 +1,7 @@
 -- `scatter_some` meets its contract.
 use native.Mathlib.Omega.{arith}
 use borrow.Author.Needs.{needs}
-use Rattle.codec.proofs.Scattered.{value-put, values-byte}
+use Rattle.codec.proofs.scatter.Scattered.{value-put, values-byte}
 use Rattle.codec.proofs.scatter.scatter_some.Statement.{statement}
 use Rattle.codec.proofs.scatter.scatter_some.Tie as tie
 

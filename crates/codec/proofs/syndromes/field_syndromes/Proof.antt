@@ -6,7 +6,7 @@ use Rattle.lattice.specs.Class.{layoutOf}
 use Rattle.lattice.proofs.theory.SizesByLines.{cells-are, some}
 use Rattle.codec.specs.Field.{fieldOf}
 use Rattle.codec.specs.Working.{HoldsSyndromes}
-use Rattle.codec.proofs.LinesTaken.{pass-cells, pass-alone}
+use Rattle.codec.proofs.syndromes.LinesTaken.{pass-cells, pass-alone}
 use Rattle.codec.proofs.syndromes.field_syndromes.Statement.{statement}
 use Rattle.codec.proofs.syndromes.field_syndromes.Tie as tie
 

@@ -8,7 +8,7 @@ use lib.Seq.{getD-set-other}
 use borrow.Author.Needs.{needs}
 use Rattle.lattice.proofs.theory.LineCounts.{place-next}
 use Rattle.codec.specs.Lines.{folded}
-use Rattle.codec.proofs.LineTaken.{fold-none, fold-more}
+use Rattle.codec.proofs.syndromes.LineTaken.{fold-none, fold-more}
 use Rattle.codec.proofs.syndromes.fold.Statement.{statement}
 use Rattle.codec.proofs.syndromes.fold.Tie as tie
 

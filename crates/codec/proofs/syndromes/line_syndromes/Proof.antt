@@ -3,7 +3,7 @@ use Prim.Native.Nat.{_+_}
 use mathlib.Core.Path.{refl, sym}
 use native.Mathlib.Omega.{arith}
 use borrow.Author.Needs.{needs}
-use Rattle.codec.proofs.LinesTaken.{front-length, front-zeros, pass-narrow, pass-long, pass-space}
+use Rattle.codec.proofs.syndromes.LinesTaken.{front-length, front-zeros, pass-narrow, pass-long, pass-space}
 use Rattle.codec.proofs.syndromes.line_syndromes.Statement.{statement}
 use Rattle.codec.proofs.syndromes.line_syndromes.Tie as tie
 

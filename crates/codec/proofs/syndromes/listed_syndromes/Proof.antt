@@ -3,7 +3,7 @@ use mathlib.Core.Path.{sym, _∙_}
 use native.Mathlib.Omega.{arith}
 use borrow.Author.Needs.{needs}
 use Rattle.lattice.proofs.theory.SizesByLines.{some, most}
-use Rattle.codec.proofs.LinesTaken.{pass-folded}
+use Rattle.codec.proofs.syndromes.LinesTaken.{pass-folded}
 use Rattle.codec.proofs.syndromes.listed_syndromes.Statement.{statement}
 use Rattle.codec.proofs.syndromes.listed_syndromes.Tie as tie
 

@@ -6,9 +6,9 @@ use borrow.Author.Needs.{needs}
 use Rattle.lattice.specs.Position.{Layout}
 use Rattle.codec.specs.Field.{fieldOf}
 use Rattle.codec.specs.Hamming.{tagsOf, syndromeTo}
-use Rattle.codec.proofs.CellValues.{cell-most}
-use Rattle.codec.proofs.LineTaken.{once-below}
-use Rattle.codec.proofs.OneClass.{Alone, one-more, one-all}
+use Rattle.codec.proofs.theory.CellValues.{cell-most}
+use Rattle.codec.proofs.syndromes.LineTaken.{once-below}
+use Rattle.codec.proofs.syndromes.OneClass.{Alone, one-more, one-all}
 use Rattle.codec.proofs.syndromes.one_syndrome.Statement.{statement}
 use Rattle.codec.proofs.syndromes.one_syndrome.Tie as tie
 

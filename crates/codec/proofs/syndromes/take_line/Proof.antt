@@ -7,8 +7,8 @@ use lib.ListN.{length, getD, length-set}
 use borrow.Author.Needs.{needs}
 use Rattle.codec.specs.Field.{fieldOf}
 use Rattle.codec.specs.Lines.{LineTaken}
-use Rattle.codec.proofs.CellValues.{cell-most}
-use Rattle.codec.proofs.LineTaken.{line-none, line-more, once-below}
+use Rattle.codec.proofs.theory.CellValues.{cell-most}
+use Rattle.codec.proofs.syndromes.LineTaken.{line-none, line-more, once-below}
 use Rattle.codec.proofs.syndromes.take_line.Statement.{statement}
 use Rattle.codec.proofs.syndromes.take_line.Tie as tie
 

@@ -10,8 +10,8 @@ use Rattle.lattice.specs.Class.{classesOf, layoutOf}
 use Rattle.lattice.specs.Lines.{passOf, AtLine, Ready}
 use Rattle.codec.specs.Field.{fieldOf, Cells}
 use Rattle.codec.specs.Lines.{Taken}
-use Rattle.codec.proofs.LineTaken.{taken-none}
-use Rattle.codec.proofs.LinesTaken.{pass-cells, pass-room, pass-wide, pass-taken, pass-all}
+use Rattle.codec.proofs.syndromes.LineTaken.{taken-none}
+use Rattle.codec.proofs.syndromes.LinesTaken.{pass-cells, pass-room, pass-wide, pass-taken, pass-all}
 use Rattle.codec.proofs.syndromes.take_lines.Statement.{statement}
 use Rattle.codec.proofs.syndromes.take_lines.Tie as tie
 

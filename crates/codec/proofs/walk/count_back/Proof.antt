@@ -1,7 +1,7 @@
 -- `count_back` meets its contract.
 use mathlib.Core.Path.{refl}
 use borrow.Author.Needs.{needs}
-use Rattle.codec.proofs.StepPlace.{stored}
+use Rattle.codec.proofs.theory.WorkArrays.{stored}
 use Rattle.codec.proofs.walk.count_back.Statement.{statement}
 use Rattle.codec.proofs.walk.count_back.Tie as tie
 

@@ -1,6 +1,6 @@
 -- `payload_bit` meets its contract.
 use borrow.Author.Needs.{needs}
-use Rattle.codec.proofs.StepPayloadBit.{byte-power-some, payload-bit-is}
+use Rattle.codec.proofs.theory.PayloadByte.{byte-power-some, payload-bit-is}
 use Rattle.codec.proofs.walk.payload_bit.Statement.{statement}
 use Rattle.codec.proofs.walk.payload_bit.Tie as tie
 

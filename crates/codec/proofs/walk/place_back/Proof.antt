@@ -3,7 +3,7 @@ use Prim.Native.Nat.{_<_}
 use native.Mathlib.Omega.{arith}
 use borrow.Author.Needs.{needs}
 use Rattle.lattice.specs.Shape.{maxClasses}
-use Rattle.codec.proofs.StepPlaceBack.{back-below, back-some, back-placed, back-counted}
+use Rattle.codec.proofs.theory.PlaceBack.{back-below, back-some, back-placed, back-counted}
 use Rattle.codec.proofs.walk.place_back.Statement.{statement}
 use Rattle.codec.proofs.walk.place_back.Tie as tie
 

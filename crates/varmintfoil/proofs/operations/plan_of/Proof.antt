@@ -1,6 +1,6 @@
 -- `plan_of` meets its contract: the accepted shape is that of the numbers, and the constructor's refusal is the operation's.
 use borrow.Author.Needs.{needs}
-use Rattle.codec.proofs.PlanRefusal.{plan-refused}
+use Rattle.codec.proofs.theory.PlanRefusal.{plan-refused}
 use Rattle.lattice.proofs.theory.NewShapes.{new-refused, new-shape}
 use Rattle.varmintfoil.proofs.operations.plan_of.Statement.{statement}
 use Rattle.varmintfoil.proofs.operations.plan_of.Tie as tie

@@ -1,0 +1,3 @@
+-- What encoding uses alone.
+mod ChecksSet
+mod FieldWritten

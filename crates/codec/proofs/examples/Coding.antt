@@ -1,0 +1,146 @@
+-- Examples that meet the hypotheses of the theorems on coding: the field of 5 by 5 of strength 3, its payload byte 165, and damage to one of its cells.
+use Prim.Native.Nat.{ℕ, zero, suc, _<_}
+use mathlib.Core.Bool.{Bool, true, _&&_}
+use mathlib.Core.List.{List, [], _∷_, List·Memᴰ·head}
+use mathlib.Core.Logic.{_≢_}
+use mathlib.Core.Path.{_≡_, refl, sym, _∙_, ap}
+use native.Mathlib.Omega.{arith}
+use borrow.Author.Tests.{eqb-true}
+use lib.Dec.{eqb, lit<}
+use lib.ListN.{length}
+use Rattle.lattice.specs.Shape.{maxStrength, sizeOk, strengthOk, shapeNumber, Accepted, cellsOf}
+use Rattle.lattice.specs.Range.{inRange}
+use Rattle.lattice.specs.Settings.{oddSettings, flatSettings, settingsFor}
+use Rattle.lattice.specs.Cell.{Cell, cellAt, cellNumber}
+use Rattle.lattice.specs.Class.{minusMod, classWith, classOf, classAt, layoutOf}
+use Rattle.lattice.specs.Position.{Layout, sizeTo, size, position}
+use Rattle.lattice.specs.Check.{isPower, isCheck, holdsData, capacity}
+use Rattle.lattice.proofs.theory.Bools.{and-left, and-right}
+use Rattle.lattice.proofs.theorems.Numbering.{numbering}
+use Rattle.lattice.proofs.examples.Placing.{field, corner, OfThree}
+use Rattle.codec.specs.Field.{fieldOf}
+use Rattle.codec.specs.Hamming.{tagsOf, syndrome}
+use Rattle.codec.specs.Payload.{Bytes, Carries, PaddingRight}
+use Rattle.codec.specs.Plan.{planNumber, planCapacity, planBytes, planCells}
+use Rattle.codec.specs.Encode.{encodeNumber, encodedField}
+use Rattle.codec.specs.Decode.{decodeNumber}
+use Rattle.codec.specs.Correct.{correctNumber}
+use Rattle.codec.specs.Reach.{Readable}
+use Rattle.codec.specs.Code.{LawfulField, NearestTo}
+use Rattle.codec.proofs.theory.CellValues.{cells-received}
+use Rattle.codec.proofs.theory.Correction.{lawful-nearest}
+use Rattle.codec.proofs.theorems.Undamaged.{nothingToCorrect}
+use Rattle.codec.proofs.theory.PaddingCells.{carries-padding}
+use Rattle.codec.proofs.theorems.Writing.{encodeMeaning}
+
+-- the plan accepts the field
+pub accepted : Accepted field
+unfolding shapeNumber sizeOk strengthOk maxStrength inRange
+accepted = refl
+
+-- a payload of the plan's length
+abbrev pub payload : List ℕ
+payload = 165 ∷ []
+
+pub payload-long : length payload ≡ planBytes field
+unfolding
+    planBytes planCapacity shapeNumber sizeOk strengthOk maxStrength inRange
+    capacity holdsData sizeTo position isPower isCheck cellAt classOf classWith minusMod settingsFor flatSettings oddSettings
+payload-long = refl
+
+pub payload-bytes : Bytes payload
+payload-bytes zero = lit< tt
+payload-bytes (suc j) = lit< tt
+
+-- the field written from it can be read, and is its own nearest lawful field, with right padding
+abbrev pub written : List ℕ
+written = encodedField field payload
+
+pub written-readable : Readable field written
+written-readable =
+    record {
+      accepted = accepted;
+      long = encodeMeaning .long field payload;
+      cells =
+          cells-received (fieldOf written) (cellsOf field)
+          (encodeMeaning .lawful field accepted payload payload-long payload-bytes .cells);
+    }
+
+pub written-nearest : NearestTo field (fieldOf written) (fieldOf written)
+written-nearest =
+    lawful-nearest (fieldOf written) (encodeMeaning .lawful field accepted payload payload-long payload-bytes)
+
+pub written-padding : PaddingRight (layoutOf field) (fieldOf written)
+written-padding =
+    carries-padding (layoutOf field) (fieldOf written) payload
+    (encodeMeaning .carries field accepted payload payload-long payload-bytes)
+
+-- a selection of one cell of the cluster of three
+abbrev pub isCorner : Cell → Bool
+isCorner x = eqb (x .row) 0 && (eqb (x .plane) 0 && eqb (x .column) 0)
+
+corner-is : (x : Cell) → isCorner x ≡ true → x ≡ corner
+corner-is x e = λ i. record { row = row i; plane = plane i; column = column i }
+  where
+    rest : (eqb (x .plane) 0 && eqb (x .column) 0) ≡ true
+    rest = and-right (eqb (x .row) 0) (eqb (x .plane) 0 && eqb (x .column) 0) e
+
+    row : x .row ≡ 0
+    row = eqb-true (x .row) 0 (and-left (eqb (x .row) 0) (eqb (x .plane) 0 && eqb (x .column) 0) e)
+
+    plane : x .plane ≡ 0
+    plane = eqb-true (x .plane) 0 (and-left (eqb (x .plane) 0) (eqb (x .column) 0) rest)
+
+    column : x .column ≡ 0
+    column = eqb-true (x .column) 0 (and-right (eqb (x .plane) 0) (eqb (x .column) 0) rest)
+
+pub corner-selected : (x : Cell) → isCorner x ≡ true → OfThree x
+corner-selected x e = List·Memᴰ·head (corner-is x e)
+
+-- it is at most one cell of each class
+pub corner-one : (i j : ℕ) → i < cellsOf field → j < cellsOf field → isCorner (cellAt field i) ≡ true → isCorner (cellAt field j) ≡ true
+    → classAt field i ≡ classAt field j → i ≡ j
+corner-one i j hi hj si sj same =
+    sym (numbering .at field i hi .1)
+    ∙ ap (cellNumber field) (corner-is (cellAt field i) si ∙ sym (corner-is (cellAt field j) sj))
+    ∙ numbering .at field j hj .1
+
+-- the field written is mended, and is lawful and carries the payload
+pub written-mended : correctNumber field written ≡ 0
+written-mended = nothingToCorrect .written field accepted payload payload-long payload-bytes payload payload-long .corrected-number
+
+pub written-lawful : LawfulField field (fieldOf written)
+written-lawful = encodeMeaning .lawful field accepted payload payload-long payload-bytes
+
+pub written-carries : Carries (layoutOf field) (fieldOf written) payload
+written-carries = encodeMeaning .carries field accepted payload payload-long payload-bytes
+
+-- two black cells of a class of two: the exclusive or of their positions is above its size
+abbrev pub two : Layout
+two = record { class = λ i. 0; cells = 2 }
+
+pub both-above : size two 0 < syndrome two (tagsOf two) (fieldOf (1 ∷ 1 ∷ [])) 0
+unfolding sizeTo position tagsOf
+both-above = lit< tt
+
+-- a shape of 257 columns is refused
+pub plan-refused : planNumber (record { columns = 257; rows = 1; planes = 1; strength = 1 }) ≢ 0
+unfolding shapeNumber sizeOk strengthOk maxStrength inRange
+plan-refused e = omega (arith, e)
+
+-- an empty payload and an empty field are refused
+pub encode-refused : encodeNumber field [] [] ≢ 0
+unfolding
+    encodeNumber planBytes planCapacity planCells shapeNumber sizeOk strengthOk maxStrength inRange
+    capacity holdsData sizeTo position isPower isCheck cellAt classOf classWith minusMod settingsFor flatSettings oddSettings
+encode-refused e = omega (arith, e)
+
+pub decode-refused : decodeNumber field [] [] ≢ 0
+unfolding
+    decodeNumber planBytes planCapacity planCells shapeNumber sizeOk strengthOk maxStrength inRange
+    capacity holdsData sizeTo position isPower isCheck cellAt classOf classWith minusMod settingsFor flatSettings oddSettings
+decode-refused e = omega (arith, e)
+
+pub correct-refused : correctNumber field [] ≢ 0
+unfolding correctNumber planCells shapeNumber sizeOk strengthOk maxStrength inRange
+correct-refused e = omega (arith, e)

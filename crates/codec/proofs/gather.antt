@@ -1,0 +1,2 @@
+-- What gathering the payload uses alone.
+mod ListedChecks

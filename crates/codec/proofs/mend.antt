@@ -1,0 +1,2 @@
+-- What mending uses alone.
+mod TurnedCells

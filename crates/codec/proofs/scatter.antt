@@ -1,0 +1,3 @@
+-- What scattering the payload uses alone.
+mod Values
+mod Scattered

@@ -1,0 +1,4 @@
+-- What taking the syndromes uses alone.
+mod LineTaken
+mod LinesTaken
+mod OneClass

@@ -1,0 +1,9 @@
+-- The terms of the theorems: a file for each file of specs/theorems, of the same name.
+mod Values
+mod Refused
+pub mod Payload
+pub mod Writing
+mod Reading
+pub mod Recovery
+pub mod Undamaged
+mod Examples

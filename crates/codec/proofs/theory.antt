@@ -1,0 +1,44 @@
+-- Laws about the definitions, for any reader of them.
+-- numbers, lists and tests
+pub mod Xor
+pub mod BinaryDigits
+pub mod AllBelow
+pub mod OneByOne
+pub mod WorkArrays
+-- fields and the buffers that hold them
+pub mod CellValues
+pub mod FieldLists
+pub mod FilledLists
+pub mod Differences
+-- the code in a class
+pub mod Syndrome
+pub mod Tags
+pub mod PowerPositions
+mod CheckBits
+pub mod Correction
+mod Reach
+pub mod Damage
+pub mod DamagedCells
+-- payload, padding and checks
+pub mod ByteBits
+pub mod PayloadByte
+pub mod PayloadBits
+pub mod Ranks
+pub mod PaddingCells
+pub mod PaddingCount
+mod HeldByte
+pub mod HeldPayload
+pub mod EncodedField
+pub mod WrittenCells
+pub mod FlippedBits
+pub mod Gathered
+-- the operations
+pub mod Accepted
+pub mod PlanRefusal
+pub mod FieldTests
+pub mod FieldNumber
+pub mod OperationNumbers
+mod FieldMeaning
+pub mod ReadFields
+pub mod MendedField
+pub mod PlaceBack

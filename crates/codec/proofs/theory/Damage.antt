@@ -1,0 +1,50 @@
+-- Damage to at most one cell of each class is mended, for any layout of cells in classes.
+use Prim.Native.Nat.{ℕ, _<_}
+use mathlib.Core.Bool.{Bool, true, false}
+use mathlib.Core.Logic.{_≢_}
+use mathlib.Core.Path.{_≡_, refl, sym, _∙_}
+use native.Mathlib.Omega.{arith}
+use Rattle.codec.specs.Field.{Field, Cells, flip, isCell}
+use Rattle.codec.specs.Hamming.{Tags, Lawful, Near, Nearest}
+use Rattle.codec.specs.Damage.{damaged}
+use Rattle.codec.proofs.theory.CellValues.{most-cell}
+use Rattle.lattice.specs.Position.{Layout}
+
+module _ (f : Field) (selected : ℕ → Bool) where
+  pub damaged-turned : (i : ℕ) → selected i ≡ true → damaged f selected i ≡ flip (f i)
+  unfolding damaged
+  damaged-turned i e = rw e
+
+  pub damaged-kept : (i : ℕ) → selected i ≡ false → damaged f selected i ≡ f i
+  unfolding damaged
+  damaged-kept i e = rw e
+
+  pub damaged-cells : (n : ℕ) → Cells f n → Cells (damaged f selected) n
+  damaged-cells n p i l = go (selected i) refl
+    where
+      go : (b : Bool) → selected i ≡ b → isCell (damaged f selected i) ≡ true
+      go true e = most-cell _ (omega (arith, damaged-turned i e))
+      go false e = rw (damaged-kept i e) (p i l)
+
+  -- a cell that differs was selected
+  pub damaged-selected : (i : ℕ) → damaged f selected i ≢ f i → selected i ≡ true
+  damaged-selected i d = go (selected i) refl
+    where
+      go : (b : Bool) → selected i ≡ b → selected i ≡ true
+      go true e = e
+      go false e = absurd (d (damaged-kept i e))
+
+-- at most one cell of each class is selected
+abbrev pub OneEach : Layout → (ℕ → Bool) → Type 0
+OneEach L selected =
+    (i j : ℕ) → i < L .cells → j < L .cells → selected i ≡ true → selected j ≡ true → L .class i ≡ L .class j → i ≡ j
+
+module _ (L : Layout) (tag : Tags) (f : Field) (selected : ℕ → Bool) (one : OneEach L selected) where
+  pub damaged-near : (a : ℕ) → Near L (damaged f selected) f a
+  unfolding Near
+  damaged-near a i j l m c d x y =
+      one i j l m (damaged-selected f selected i x) (damaged-selected f selected j y) (c ∙ sym d)
+
+  -- a lawful field is the nearest to it after the damage
+  pub damaged-nearest : Lawful L tag f → Nearest L tag (damaged f selected) f
+  damaged-nearest h = record { lawful = h; near = damaged-near }

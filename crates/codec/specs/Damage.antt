@@ -1,0 +1,30 @@
+-- Damage to a field that was written, and what comes back from it.
+use Prim.Native.Nat.{ℕ}
+use mathlib.Core.Bool.{Bool, cond}
+use mathlib.Core.List.{List}
+use mathlib.Core.Path.{_≡_}
+use Rattle.lattice.specs.declared.shape.Shape.{Shape}
+use Rattle.lattice.specs.Shape.{cellsOf}
+use Rattle.lattice.specs.Cell.{Cell, cellAt}
+use Rattle.codec.specs.Field.{Field, fieldOf, listOf, flip, differences}
+use Rattle.codec.specs.Encode.{encodedField}
+use Rattle.codec.specs.Decode.{decodeNumber, decodeCount, decodeLeaves}
+use Rattle.codec.specs.Correct.{correctNumber, correctCount, correctLeaves}
+
+-- a field with the selected cells turned over
+unfoldable pub damaged : Field → (ℕ → Bool) → Field
+damaged f selected i = cond (selected i) (flip (f i)) (f i)
+
+-- F is the field written from p, and G is F with the selected cells turned over
+abbrev pub damagedField : Shape → List ℕ → (Cell → Bool) → List ℕ
+damagedField s p selected = listOf (damaged (fieldOf (encodedField s p)) (λ i. selected (cellAt s i))) (cellsOf s)
+
+-- from G the payload p and the field F come back: reading G into a payload buffer gives 0 and leaves exactly p; mending G gives 0
+-- and leaves exactly F; and the count of each is the number of cells where F and G differ
+pub record Recovered (s : Shape) (p F G buffer : List ℕ) : Type 0 where
+  pub decoded-number : decodeNumber s buffer G ≡ 0
+  pub decoded-payload : decodeLeaves s buffer G ≡ p
+  pub decoded-count : decodeCount s buffer G ≡ differences (fieldOf F) (fieldOf G) (cellsOf s)
+  pub corrected-number : correctNumber s G ≡ 0
+  pub corrected-field : correctLeaves s G ≡ F
+  pub corrected-count : correctCount s G ≡ differences (fieldOf F) (fieldOf G) (cellsOf s)

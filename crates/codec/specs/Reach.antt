@@ -1,0 +1,24 @@
+-- What is asked of a reading of a field, and the lawful field in reach.
+use Prim.Native.Nat.{ℕ}
+use mathlib.Core.List.{List}
+use mathlib.Core.Path.{_≡_}
+use lib.ListN.{length}
+use Rattle.lattice.specs.declared.shape.Shape.{Shape}
+use Rattle.lattice.specs.Shape.{Accepted, cellsOf}
+use Rattle.lattice.specs.Class.{layoutOf}
+use Rattle.codec.specs.Field.{Field, fieldOf, Received}
+use Rattle.codec.specs.Payload.{PaddingRight}
+use Rattle.codec.specs.Code.{NearestTo}
+
+-- what is asked of a reading of a field: an accepted shape, a field of the plan's length, and nothing but cells
+pub record Readable (s : Shape) (field : List ℕ) : Type 0 where
+  pub accepted : Accepted s
+  pub long : length field ≡ cellsOf s
+  pub cells : Received (fieldOf field) (cellsOf s)
+
+-- a lawful field in reach with right padding, and one with wrong padding
+abbrev pub RightField : Shape → Field → Type 0
+RightField s f = (g : Field) × NearestTo s f g × PaddingRight (layoutOf s) g
+
+abbrev pub WrongFieldNear : Shape → Field → Type 0
+WrongFieldNear s f = (g : Field) × NearestTo s f g × (¬ PaddingRight (layoutOf s) g)

@@ -1,0 +1,9 @@
+-- The statements of the theorems. Each has one proof, a term of exactly this type, in proofs/theorems.
+pub mod Values
+pub mod Refused
+pub mod Payload
+pub mod Writing
+pub mod Reading
+pub mod Recovery
+pub mod Undamaged
+pub mod Examples
