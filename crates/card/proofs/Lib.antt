@@ -1,47 +1,8 @@
--- Laws and theorems that belong to no one function.
-pub mod AnswerLength
-pub mod BodyText
-pub mod CardExamples
-pub mod CardLimits
-pub mod CardPlan
-pub mod CardRead
-pub mod CellDigits
-pub mod DecimalText
-pub mod Digits
-pub mod FieldText
-pub mod HeaderRest
-pub mod HeaderText
-pub mod HexText
-pub mod KeyParts
-pub mod LineText
-pub mod LinesText
-pub mod NumberText
-pub mod OneCard
-pub mod OutputForms
-pub mod ParsedInput
-pub mod ParsedIsText
-pub mod Passed
-pub mod PayloadText
-pub mod PrintedIsRead
-pub mod ProgramParts
-pub mod ProgramRefused
-pub mod RefusalConditions
-pub mod RowText
-pub mod RowsRead
-pub mod StandsAt
-pub mod StepCard
-pub mod StepHeader
-pub mod StepHex
-pub mod StepLines
-pub mod StepNumber
-pub mod StepPayload
-pub mod StepPrint
-pub mod StepProgram
-pub mod StepReply
-pub mod StepRows
-pub mod StepRun
-pub mod StepScan
-pub mod StepStored
-pub mod StepText
-pub mod TextParses
-pub mod Witnesses
+-- The proofs of the crate `card`. A module of src has a room of its name, with the proofs of its functions and the laws that it alone
+-- uses; the other laws stand in three rooms.
+-- laws about the definitions, for any reader of them
+mod theory
+-- the terms of the theorems, a file for each file of specs/theorems, of the same name
+mod theorems
+-- examples that meet the hypotheses of the theorems
+mod examples

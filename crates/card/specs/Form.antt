@@ -1,24 +1,20 @@
 -- The form of a card text, said by its text alone, and the program's refusals, each by a condition of its own.
-use Prim.Native.Nat.{ℕ, _<_, _≤_}
-use mathlib.Core.Bool.{true}
+use Prim.Native.Nat.{ℕ, _<_}
 use mathlib.Core.List.{List, [], _∷_, _++_}
 use mathlib.Core.Logic.{_≢_}
 use mathlib.Core.Path.{_≡_}
-use lib.ListN.{length, drop}
+use lib.ListN.{length}
 use Rattle.lattice.specs.declared.shape.Shape.{Shape}
-use Rattle.lattice.specs.Refusal.{Listed, listed, Condition, listedBy, Settled}
+use Rattle.lattice.specs.Refusal.{Listed, listed, Condition, listedBy}
 use Rattle.lattice.specs.Shape.{shapeConditions, cellsOf}
 use Rattle.codec.specs.Field.{Field, fieldOf}
 use Rattle.codec.specs.Payload.{Bytes}
-use Rattle.codec.specs.Plan.{planClasses, planBytes}
-use Rattle.codec.specs.Decode.{decodeCount}
+use Rattle.codec.specs.Plan.{planBytes}
 use Rattle.codec.specs.Conditions.{WrongPayload, NoneInReach, WrongPadding}
 use Rattle.card.specs.declared.header.Header.{Header}
-use Rattle.card.specs.declared.header.HeaderAnswer.the-variants as head
 use Rattle.card.specs.Text.{headerText, payloadText, fieldText, refusalText}
-use Rattle.card.specs.Card.{maxInput, maxCardCells, maxAnswer, shapeOf, Small, CardHeader, FieldCells, payloadCard, fieldCard}
-use Rattle.card.specs.Parse.{headerOf, payloadOk, payloadOf}
-use Rattle.card.specs.Program.{blankPayload, rowsFit, cellsIn, programNumber, writtenText, readText, answer}
+use Rattle.card.specs.Card.{maxInput, maxCardCells, shapeOf, Small, CardHeader, FieldCells, payloadCard, fieldCard}
+use Rattle.card.specs.Program.{programNumber, writtenText, readText, answer}
 
 -- the input is the text of a header, followed by anything
 pub record HeaderFirst (s : List ℕ) : Type 0 where
@@ -81,26 +77,6 @@ laterRefusals s = headerRefusals shapeConditions s ++ (listed 8 (TooManyCells s)
 abbrev pub programRefusals : List ℕ → List Listed
 programRefusals s = listed 8 (TooLong s) ∷ listed 8 (NoHeader s) ∷ laterRefusals s
 
--- Theorem (demand 1). The program's number is settled by its refusals in the listed order.
-abbrev pub ProgramRefused : Type 0
-ProgramRefused = (s : List ℕ) → Settled (programRefusals s) (programNumber s)
-
--- Theorem. Where a header is found, and a payload or rows of the right form behind it, the input is exactly the text of what is read from it.
-pub record ParsedIsText : Type 0 where
-  pub header : (s : List ℕ) (h : Header) (next : ℕ) → headerOf s ≡ head.Found h next
-      → Small h × (next ≡ length (headerText h)) × (s ≡ headerText h ++ drop next s)
-  pub payload : (s : List ℕ) (h : Header) (next : ℕ) → headerOf s ≡ head.Found h next → payloadOk s next ≡ true
-      → Bytes (payloadOf s next) × (s ≡ payloadCard h (payloadOf s next))
-  pub rows : (s : List ℕ) (h : Header) (next : ℕ) → headerOf s ≡ head.Found h next → rowsFit s h next ≡ true
-      → FieldCells h (cellsIn s h next) × (s ≡ fieldCard h (cellsIn s h next))
-
--- Theorem. An input is the text of one card at most: one header and one rest, and there one payload or the rows of one field, not both.
-pub record OneCard : Type 0 where
-  pub header : (s : List ℕ) (x y : HeaderFirst s) → (x .header ≡ y .header) × (x .rest ≡ y .rest)
-  pub payload : (p q : List ℕ) → Bytes p → Bytes q → payloadText p ≡ payloadText q → p ≡ q
-  pub rows : (h : Header) (a b : List ℕ) → FieldCells h a → FieldCells h b → fieldText h a ≡ fieldText h b → a ≡ b
-  pub either : (h : Header) → CardHeader h → (p cells : List ℕ) → payloadText p ≢ fieldText h cells
-
 -- the output is one of three forms: the answer to a payload (header, `classes`, rows), the answer to rows (header, `mended`, payload), or a refusal alone
 pub data OneOfThree (s : List ℕ) : Type 0 where
   written : (h : Header) (p : List ℕ) → CardHeader h → length p ≡ planBytes (shapeOf h) → Bytes p
@@ -108,10 +84,3 @@ pub data OneOfThree (s : List ℕ) : Type 0 where
   read : (h : Header) (cells : List ℕ) → CardHeader h → FieldCells h cells
       → programNumber s ≡ 0 → s ≡ fieldCard h cells → answer s ≡ readText h cells → OneOfThree s
   refused : programNumber s ≢ 0 → answer s ≡ refusalText (programNumber s) → OneOfThree s
-
--- Theorem. The output is one of the three forms and never longer than 36,915 bytes, and the numbers in it have at most five digits.
-pub record OutputForms : Type 0 where
-  pub form : (s : List ℕ) → OneOfThree s
-  pub short : (s : List ℕ) → length (answer s) ≤ maxAnswer
-  pub classes : (h : Header) → CardHeader h → planClasses (shapeOf h) < 100000
-  pub count : (h : Header) → CardHeader h → (cells : List ℕ) → decodeCount (shapeOf h) (blankPayload h) cells < 100000

@@ -1,9 +1,11 @@
 -- What the crate `card` promises: the text of a card and of an answer, how a card text is read, and the statements of its theorems.
+-- definitions
 pub mod Text
 pub mod Card
 pub mod Parse
 pub mod Program
 pub mod Form
-pub mod RoundTrip
-pub mod Examples
+-- theorems
+pub mod theorems
+-- what work buffers hold: only contracts of functions that are private to the crate cite this
 pub mod Working

@@ -4,7 +4,7 @@ use mathlib.Core.Path.{sym}
 use lib.ListN.{length, take}
 use lib.Dec.{lit≤}
 use lib.Seq.{length-take-le}
-use Rattle.card.proofs.StepRun.{answer-within}
+use Rattle.card.proofs.theory.Answered.{answer-within}
 use Rattle.card.proofs.main.Statement.{statement}
 use Rattle.card.proofs.main.Tie as tie
 use Rattle.card.specs.Card.{maxAnswer}

@@ -3,7 +3,7 @@ use native.Mathlib.Omega.{arith}
 use Rattle.lattice.proofs.theory.Bools.{failed, passed}
 use Rattle.codec.proofs.theory.OneByOne.{Passed, passed-none, passed-more}
 use Rattle.card.specs.Parse.{isCellDigit}
-use Rattle.card.proofs.StepScan.{testAt, test-passes, test-fails, test-all}
+use Rattle.card.proofs.theory.ByteTests.{testAt, test-passes, test-fails, test-all}
 use Rattle.card.proofs.body.all_cells.Statement.{statement}
 use Rattle.card.proofs.body.all_cells.Tie as tie
 

@@ -5,8 +5,8 @@ use native.Mathlib.Nat.{le-refl}
 use native.Mathlib.Omega.{arith}
 use lib.ListN.{length, length-set}
 use Rattle.card.specs.Parse.{isHex}
-use Rattle.card.proofs.StepPayload.{payloadByte, payload-room, payload-digit, payload-byte, payload-stored, value-below}
-use Rattle.card.proofs.StepStored.{Stored, stored-none, stored-more}
+use Rattle.card.proofs.theory.PayloadStored.{payloadByte, payload-room, payload-digit, payload-byte, payload-stored, value-below}
+use Rattle.card.proofs.theory.StoredFront.{Stored, stored-none, stored-more}
 use Rattle.card.proofs.body.fill_payload.Statement.{statement}
 use Rattle.card.proofs.body.fill_payload.Tie as tie
 

@@ -1,6 +1,6 @@
 use mathlib.Core.Path.{sym}
-use Rattle.card.proofs.StepPayload.{hex-least, hex-letter}
-use Rattle.card.proofs.HexText.{value-low, value-high}
+use Rattle.card.proofs.theory.PayloadStored.{hex-least, hex-letter}
+use Rattle.card.proofs.theory.HexText.{value-low, value-high}
 use Rattle.card.proofs.body.hex_value.Statement.{statement}
 use Rattle.card.proofs.body.hex_value.Tie as tie
 

@@ -1,6 +1,6 @@
 -- `is_cell_digit` meets its contract.
 use borrow.Author.Needs.{needs}
-use Rattle.card.proofs.CellDigits.{low-digit, high-digit}
+use Rattle.card.proofs.theory.CellDigits.{low-digit, high-digit}
 use Rattle.card.proofs.body.is_cell_digit.Statement.{statement}
 use Rattle.card.proofs.body.is_cell_digit.Tie as tie
 

@@ -1,6 +1,6 @@
 use borrow.Author.Needs.{needs}
 use mathlib.Core.Path.{sym, _∙_}
-use Rattle.card.proofs.StepPayload.{hex-first, hex-second}
+use Rattle.card.proofs.theory.PayloadStored.{hex-first, hex-second}
 use Rattle.card.proofs.body.is_hex.Statement.{statement}
 use Rattle.card.proofs.body.is_hex.Tie as tie
 

@@ -7,7 +7,7 @@ use lib.ListN.{length}
 use Rattle.lattice.proofs.theory.Bools.{failed, passed}
 use Rattle.card.specs.Parse.{keyAt}
 use Rattle.card.specs.Text.{payloadKey}
-use Rattle.card.proofs.StepPayload.{payload-no-key, payload-inside, payload-short, payload-unended, payload-odd, payload-digits}
+use Rattle.card.proofs.theory.PayloadStored.{payload-no-key, payload-inside, payload-short, payload-unended, payload-odd, payload-digits}
 use Rattle.card.proofs.body.payload_ok.Statement.{statement}
 use Rattle.card.proofs.body.payload_ok.Tie as tie
 

@@ -1,7 +1,7 @@
 use borrow.Author.Needs.{needs}
 use native.Mathlib.Omega.{arith}
 use Rattle.lattice.proofs.theory.Bools.{failed, passed}
-use Rattle.card.proofs.StepRows.{row-no-key, row-other, row-ends}
+use Rattle.card.proofs.theory.RowsStored.{row-no-key, row-other, row-ends}
 use Rattle.card.proofs.body.row_ok.Statement.{statement}
 use Rattle.card.proofs.body.row_ok.Tie as tie
 

@@ -2,7 +2,7 @@ use borrow.Author.Needs.{needs}
 use native.Mathlib.Omega.{arith}
 use native.Mathlib.Nat.{zero-add}
 use mathlib.Core.Path.{_∙_}
-use Rattle.card.proofs.HeaderText.{header-most}
+use Rattle.card.proofs.theory.HeaderText.{header-most}
 use Rattle.card.proofs.header.header_length.Statement.{statement}
 use Rattle.card.proofs.header.header_length.Tie as tie
 

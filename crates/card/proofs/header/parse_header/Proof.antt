@@ -8,7 +8,7 @@ use Rattle.card.specs.declared.header.Header.{Header}
 use Rattle.card.specs.declared.header.HeaderAnswer.the-variants as head
 use Rattle.card.specs.Text.{headerKeys}
 use Rattle.card.specs.Parse.{headerRead, headerOf}
-use Rattle.card.proofs.StepHeader.{Reading, reading-none, reading-more, reading-fault, reading-all}
+use Rattle.card.proofs.header.Lines.{Reading, reading-none, reading-more, reading-fault, reading-all}
 use Rattle.card.proofs.header.parse_header.Statement.{statement}
 use Rattle.card.proofs.header.parse_header.Tie as tie
 

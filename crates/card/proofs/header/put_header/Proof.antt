@@ -6,7 +6,7 @@ use native.Mathlib.Omega.{arith}
 use lib.ListN.{length}
 use Rattle.card.specs.Text.{headerKeys, linesText, linesOf, headerText}
 use Rattle.card.specs.Working.{Room}
-use Rattle.card.proofs.StepHeader.{Writing, writing-none, writing-long, line-room, writing-more, writing-all}
+use Rattle.card.proofs.header.Lines.{Writing, writing-none, writing-long, line-room, writing-more, writing-all}
 use Rattle.card.proofs.header.put_header.Statement.{statement}
 use Rattle.card.proofs.header.put_header.Tie as tie
 

@@ -1,7 +1,7 @@
 -- `key_of` meets its contract: the key of an index lies between its start and the next.
 use borrow.Author.Needs.{needs}
 use Rattle.card.specs.Text.{headerKeys}
-use Rattle.card.proofs.KeyParts.{key-order, key-end, key-part}
+use Rattle.card.proofs.keys.Parts.{key-order, key-end, key-part}
 use Rattle.card.proofs.keys.key_of.Statement.{statement}
 use Rattle.card.proofs.keys.key_of.Tie as tie
 

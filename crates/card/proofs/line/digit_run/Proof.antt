@@ -1,7 +1,7 @@
 use Prim.Native.Nat.{_-_, _≤_, zero-le}
 use native.Mathlib.Omega.{arith}
 use Rattle.lattice.proofs.theory.Bools.{failed, passed}
-use Rattle.card.proofs.StepNumber.{Run, run-none, run-more, run-ends, run-full}
+use Rattle.card.proofs.line.Digits.{Run, run-none, run-more, run-ends, run-full}
 use Rattle.card.proofs.line.digit_run.Statement.{statement}
 use Rattle.card.proofs.line.digit_run.Tie as tie
 

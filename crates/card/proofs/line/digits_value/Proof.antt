@@ -2,7 +2,7 @@ use Prim.Native.Nat.{_-_, _≤_, zero-le, _<_}
 use mathlib.Core.Path.{_≡_, refl}
 use native.Mathlib.Omega.{arith}
 use Rattle.card.specs.Parse.{digitsValue}
-use Rattle.card.proofs.StepNumber.{digit-low, digit-high, value-room, value-more, value-all}
+use Rattle.card.proofs.line.Digits.{digit-low, digit-high, value-room, value-more, value-all}
 use Rattle.card.proofs.line.digits_value.Statement.{statement}
 use Rattle.card.proofs.line.digits_value.Tie as tie
 

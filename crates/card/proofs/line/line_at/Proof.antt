@@ -1,7 +1,7 @@
 use borrow.Author.Needs.{needs}
 use native.Mathlib.Omega.{arith}
 use Rattle.lattice.proofs.theory.Bools.{failed, passed}
-use Rattle.card.proofs.StepNumber.{line-faults, line-found}
+use Rattle.card.proofs.line.Digits.{line-faults, line-found}
 use Rattle.card.proofs.line.line_at.Statement.{statement}
 use Rattle.card.proofs.line.line_at.Tie as tie
 

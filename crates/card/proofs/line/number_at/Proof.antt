@@ -3,7 +3,7 @@ use Prim.Native.Nat.{_+_, _<_}
 use native.Mathlib.Omega.{arith}
 use lib.ListN.{length}
 use Rattle.lattice.proofs.theory.Bools.{failed, passed}
-use Rattle.card.proofs.StepNumber.{number-faults, number-most, number-inside, number-found}
+use Rattle.card.proofs.line.Digits.{number-faults, number-most, number-inside, number-found}
 use Rattle.card.proofs.line.number_at.Statement.{statement}
 use Rattle.card.proofs.line.number_at.Tie as tie
 

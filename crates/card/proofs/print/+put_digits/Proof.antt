@@ -3,7 +3,7 @@ use Prim.Native.Nat.{ℕ, _<_}
 use native.Mathlib.Omega.{arith}
 use borrow.Fn.Kinds.{In}
 use borrow.Fn.PlainCycle.{Measures, is, falls, and}
-use Rattle.card.proofs.StepText.{digits-done, digits-room, last-room, digits-printed}
+use Rattle.card.proofs.print.Text.{digits-done, digits-room, last-room, digits-printed}
 use Rattle.card.proofs.print.put_digits.Reads as put-digits
 use Rattle.card.proofs.print.put_digits.Kinds as put-digits-kinds
 use Rattle.card.proofs.print.+put_digits.Lts-put_digits as put-digits-lts

@@ -1,4 +1,4 @@
-use Rattle.card.proofs.StepText.{digit-count-one, digit-count-two, digit-count-three, digit-count-four, digit-count-five}
+use Rattle.card.proofs.print.Text.{digit-count-one, digit-count-two, digit-count-three, digit-count-four, digit-count-five}
 use Rattle.card.proofs.print.digit_count.Statement.{statement}
 use Rattle.card.proofs.print.digit_count.Tie as tie
 

@@ -1,6 +1,6 @@
 use mathlib.Core.Path.{sym}
 use native.Mathlib.Omega.{arith}
-use Rattle.card.proofs.HexText.{digit-low, digit-high}
+use Rattle.card.proofs.theory.HexText.{digit-low, digit-high}
 use Rattle.card.proofs.print.hex_digit.Statement.{statement}
 use Rattle.card.proofs.print.hex_digit.Tie as tie
 

@@ -1,7 +1,7 @@
 use borrow.Author.Needs.{needs}
 use native.Mathlib.Omega.{arith}
-use Rattle.card.proofs.LineText.{length-line}
-use Rattle.card.proofs.DecimalText.{digit-count-range}
+use Rattle.card.proofs.theory.LineText.{length-line}
+use Rattle.card.proofs.theory.DecimalText.{digit-count-range}
 use Rattle.card.proofs.print.number_line_length.Statement.{statement}
 use Rattle.card.proofs.print.number_line_length.Tie as tie
 

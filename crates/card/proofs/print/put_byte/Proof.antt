@@ -1,6 +1,6 @@
 use borrow.Author.Needs.{needs}
 use native.Mathlib.Omega.{arith}
-use Rattle.card.proofs.StepPrint.{printed-one}
+use Rattle.card.proofs.theory.Printed.{printed-one}
 use Rattle.card.proofs.print.put_byte.Statement.{statement}
 use Rattle.card.proofs.print.put_byte.Tie as tie
 

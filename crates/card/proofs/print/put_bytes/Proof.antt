@@ -3,7 +3,7 @@ use mathlib.Core.Path.{refl}
 use native.Mathlib.Omega.{arith}
 use lib.ListN.{length, take}
 use Rattle.card.specs.Working.{Printed}
-use Rattle.card.proofs.StepPrint.{prefix-none, prefix-more, prefix-index, prefix-long, prefix-all}
+use Rattle.card.proofs.theory.Printed.{prefix-none, prefix-more, prefix-index, prefix-long, prefix-all}
 use Rattle.card.proofs.print.put_bytes.Statement.{statement}
 use Rattle.card.proofs.print.put_bytes.Tie as tie
 

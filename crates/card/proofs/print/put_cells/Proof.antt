@@ -4,8 +4,8 @@ use lib.ListN.{length, take}
 use Rattle.card.specs.Text.{cellsText}
 use Rattle.card.specs.Working.{Printed}
 use Rattle.codec.proofs.theory.CellValues.{received-digit}
-use Rattle.card.proofs.StepText.{length-cells, cell-digit}
-use Rattle.card.proofs.StepPrint.{prefix-none, prefix-more, prefix-index, prefix-long, prefix-all}
+use Rattle.card.proofs.print.Text.{length-cells, cell-digit}
+use Rattle.card.proofs.theory.Printed.{prefix-none, prefix-more, prefix-index, prefix-long, prefix-all}
 use Rattle.card.proofs.print.put_cells.Statement.{statement}
 use Rattle.card.proofs.print.put_cells.Tie as tie
 

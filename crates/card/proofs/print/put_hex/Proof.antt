@@ -2,7 +2,7 @@ use Prim.Native.Nat.{_-_, _≤_, zero-le}
 use mathlib.Core.Path.{refl}
 use native.Mathlib.Omega.{arith}
 use lib.ListN.{length, length-set}
-use Rattle.card.proofs.StepHex.{HexPrinted, hex-none, hex-long, hex-room, hex-more, hex-all}
+use Rattle.card.proofs.print.Hex.{HexPrinted, hex-none, hex-long, hex-room, hex-more, hex-all}
 use Rattle.card.proofs.print.put_hex.Statement.{statement}
 use Rattle.card.proofs.print.put_hex.Tie as tie
 

@@ -2,7 +2,7 @@ use borrow.Author.Needs.{needs}
 use mathlib.Core.List.{[], _∷_, _++_}
 use mathlib.Core.Path.{_≡_, refl}
 use Rattle.card.specs.Text.{digits, digitCount, numberLine}
-use Rattle.card.proofs.StepLines.{key-room, value-room, feed-room, line-printed, number-parts}
+use Rattle.card.proofs.print.Lines.{key-room, value-room, feed-room, line-printed, number-parts}
 use Rattle.card.proofs.print.put_number_line.Statement.{statement}
 use Rattle.card.proofs.print.put_number_line.Tie as tie
 

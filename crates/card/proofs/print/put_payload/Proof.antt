@@ -1,6 +1,6 @@
 use borrow.Author.Needs.{needs}
 use Rattle.card.specs.Text.{payloadKey, hexText}
-use Rattle.card.proofs.StepLines.{key-room, value-room, feed-room, line-printed, payload-parts}
+use Rattle.card.proofs.print.Lines.{key-room, value-room, feed-room, line-printed, payload-parts}
 use Rattle.card.proofs.print.put_payload.Statement.{statement}
 use Rattle.card.proofs.print.put_payload.Tie as tie
 

@@ -1,6 +1,6 @@
 use borrow.Author.Needs.{needs}
 use Rattle.card.specs.Text.{rowKey, cellsText}
-use Rattle.card.proofs.StepLines.{key-room, value-room, feed-room, line-printed, row-parts}
+use Rattle.card.proofs.print.Lines.{key-room, value-room, feed-room, line-printed, row-parts}
 use Rattle.card.proofs.print.put_row.Statement.{statement}
 use Rattle.card.proofs.print.put_row.Tie as tie
 

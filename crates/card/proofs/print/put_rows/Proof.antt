@@ -3,7 +3,7 @@ use native.Mathlib.Omega.{arith}
 use lib.ListN.{length}
 use Rattle.card.specs.Text.{rowsText}
 use Rattle.card.specs.Working.{Printed}
-use Rattle.card.proofs.StepLines.{rows-none, rows-long, part-behind, row-room, row-printed, rows-all, part-cells}
+use Rattle.card.proofs.print.Lines.{rows-none, rows-long, part-behind, row-room, row-printed, rows-all, part-cells}
 use Rattle.card.proofs.print.put_rows.Statement.{statement}
 use Rattle.card.proofs.print.put_rows.Tie as tie
 

@@ -1,6 +1,6 @@
 use borrow.Author.Needs.{needs}
 use native.Mathlib.Omega.{arith}
-use Rattle.card.proofs.StepReply.{length-head, head-most}
+use Rattle.card.proofs.theory.Replies.{length-head, head-most}
 use Rattle.card.proofs.reply.head_length.Statement.{statement}
 use Rattle.card.proofs.reply.head_length.Tie as tie
 

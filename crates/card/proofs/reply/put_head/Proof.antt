@@ -1,5 +1,5 @@
 use borrow.Author.Needs.{needs}
-use Rattle.card.proofs.StepReply.{header-room, line-room, head-printed}
+use Rattle.card.proofs.theory.Replies.{header-room, line-room, head-printed}
 use Rattle.card.proofs.reply.put_head.Statement.{statement}
 use Rattle.card.proofs.reply.put_head.Tie as tie
 

@@ -2,7 +2,7 @@
 use mathlib.Core.Path.{ap}
 use borrow.Author.Needs.{needs}
 use Rattle.card.specs.Text.{refusalText}
-use Rattle.card.proofs.StepReply.{answered-same, answered-short, answered-printed, room-front}
+use Rattle.card.proofs.theory.Replies.{answered-same, answered-short, answered-printed, room-front}
 use Rattle.card.proofs.reply.refuse.Statement.{statement}
 use Rattle.card.proofs.reply.refuse.Tie as tie
 

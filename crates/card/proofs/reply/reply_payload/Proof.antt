@@ -7,8 +7,8 @@ use native.Mathlib.Omega.{arith}
 use lib.ListN.{length}
 use Rattle.card.specs.Text.{mendedKey, payloadText}
 use Rattle.card.specs.Working.{Room, headText}
-use Rattle.card.proofs.PayloadText.{length-payload}
-use Rattle.card.proofs.StepReply.{answered-short, room-front, head-most, length-success, rest-room, success-answered}
+use Rattle.card.proofs.theory.PayloadText.{length-payload}
+use Rattle.card.proofs.theory.Replies.{answered-short, room-front, head-most, length-success, rest-room, success-answered}
 use Rattle.card.proofs.reply.reply_payload.Statement.{statement}
 use Rattle.card.proofs.reply.reply_payload.Tie as tie
 

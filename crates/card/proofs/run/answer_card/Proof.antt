@@ -1,8 +1,8 @@
 use borrow.Author.Needs.{needs}
 use mathlib.Core.Path.{refl, sym, _∙_}
-use Rattle.card.proofs.StepReply.{answered-same}
-use Rattle.card.proofs.StepRun.{answered-leaves}
-use Rattle.card.proofs.StepProgram.{too-long, no-header}
+use Rattle.card.proofs.theory.Replies.{answered-same}
+use Rattle.card.proofs.theory.Answered.{answered-leaves}
+use Rattle.card.proofs.run.Program.{too-long, no-header}
 use Rattle.card.proofs.run.answer_card.Statement.{statement}
 use Rattle.card.proofs.run.answer_card.Tie as tie
 

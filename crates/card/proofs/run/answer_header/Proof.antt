@@ -3,9 +3,9 @@ use mathlib.Core.Path.{sym, _∙_}
 use borrow.Author.Needs.{needs}
 use Rattle.lattice.proofs.theory.NewShapes.{new-refused, new-accepted}
 use Rattle.card.specs.Working.{BodyRead}
-use Rattle.card.proofs.StepProgram.{bad-shape, too-many}
-use Rattle.card.proofs.StepCard.{new-many, new-card}
-use Rattle.card.proofs.StepReply.{answered-same}
+use Rattle.card.proofs.run.Program.{bad-shape, too-many}
+use Rattle.card.proofs.run.Card.{new-many, new-card}
+use Rattle.card.proofs.theory.Replies.{answered-same}
 use Rattle.card.proofs.run.answer_header.Statement.{statement}
 use Rattle.card.proofs.run.answer_header.Tie as tie
 

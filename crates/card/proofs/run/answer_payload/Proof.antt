@@ -12,10 +12,10 @@ use Rattle.codec.specs.Plan.{planBytes}
 use Rattle.card.specs.Parse.{payloadOk, payloadOf}
 use Rattle.card.specs.Card.{maxCardCells, maxCardBytes}
 use Rattle.card.specs.Working.{encodedText}
-use Rattle.card.proofs.StepProgram.{bad-payload, wrong-length, payload-read}
-use Rattle.card.proofs.StepCard.{cells-are, cells-fit, bytes-fit}
-use Rattle.card.proofs.StepReply.{answered-same}
-use Rattle.card.proofs.StepRun.{zeros-count, part-again, part-within, part-count, length-read, bytes-read}
+use Rattle.card.proofs.run.Program.{bad-payload, wrong-length, payload-read}
+use Rattle.card.proofs.run.Card.{cells-are, cells-fit, bytes-fit}
+use Rattle.card.proofs.theory.Replies.{answered-same}
+use Rattle.card.proofs.theory.Answered.{zeros-count, part-again, part-within, part-count, length-read, bytes-read}
 use Rattle.card.proofs.run.answer_payload.Statement.{statement}
 use Rattle.card.proofs.run.answer_payload.Tie as tie
 

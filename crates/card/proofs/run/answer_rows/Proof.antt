@@ -9,11 +9,11 @@ use Rattle.codec.specs.Plan.{planBytes}
 use Rattle.card.specs.Program.{cellsIn}
 use Rattle.card.specs.Working.{decodedText}
 use Rattle.card.specs.Card.{maxCardCells, maxCardBytes}
-use Rattle.card.proofs.StepCard.{cells-are, cells-fit, bytes-are, bytes-fit, columns-some, columns-narrow, lines-most, rows-fit, cells-read, cells-long}
-use Rattle.card.proofs.StepProgram.{bad-rows, rows-read}
-use Rattle.card.proofs.HeaderRest.{header-found}
-use Rattle.card.proofs.StepReply.{answered-same}
-use Rattle.card.proofs.StepRun.{zeros-count, zeros-take, part-again, part-within, part-count}
+use Rattle.card.proofs.run.Card.{cells-are, cells-fit, bytes-are, bytes-fit, columns-some, columns-narrow, lines-most, rows-fit, cells-read, cells-long}
+use Rattle.card.proofs.run.Program.{bad-rows, rows-read}
+use Rattle.card.proofs.theory.HeaderRest.{header-found}
+use Rattle.card.proofs.theory.Replies.{answered-same}
+use Rattle.card.proofs.theory.Answered.{zeros-count, zeros-take, part-again, part-within, part-count}
 use Rattle.card.proofs.run.answer_rows.Statement.{statement}
 use Rattle.card.proofs.run.answer_rows.Tie as tie
 

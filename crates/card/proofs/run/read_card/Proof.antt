@@ -2,8 +2,8 @@
 use mathlib.Core.Path.{sym, ap, _∙_}
 use borrow.Author.Needs.{needs}
 use Rattle.codec.specs.Answer.{decodeAnswerNumber, decodeAnswerCount}
-use Rattle.card.proofs.StepCard.{decoded-refused, decoded-long, card-decoded}
-use Rattle.card.proofs.StepReply.{answered-same}
+use Rattle.card.proofs.run.Card.{decoded-refused, decoded-long, card-decoded}
+use Rattle.card.proofs.theory.Replies.{answered-same}
 use Rattle.card.proofs.run.read_card.Statement.{statement}
 use Rattle.card.proofs.run.read_card.Tie as tie
 

@@ -2,8 +2,8 @@
 use mathlib.Core.Path.{sym, ap, _∙_}
 use borrow.Author.Needs.{needs}
 use Rattle.codec.specs.Answer.{encodeAnswerNumber}
-use Rattle.card.proofs.StepCard.{encoded-refused, encoded-length, encoded-done, encoded-cells, card-written}
-use Rattle.card.proofs.StepReply.{answered-same}
+use Rattle.card.proofs.run.Card.{encoded-refused, encoded-length, encoded-done, encoded-cells, card-written}
+use Rattle.card.proofs.theory.Replies.{answered-same}
 use Rattle.card.proofs.run.write_card.Statement.{statement}
 use Rattle.card.proofs.run.write_card.Tie as tie
 

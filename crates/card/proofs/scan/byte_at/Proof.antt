@@ -1,7 +1,7 @@
 use borrow.Author.Needs.{needs}
 use Prim.Native.Nat.{_+_}
 use native.Mathlib.Omega.{arith}
-use Rattle.card.proofs.StepScan.{byte-behind}
+use Rattle.card.proofs.theory.ByteTests.{byte-behind}
 use Rattle.card.proofs.scan.byte_at.Statement.{statement}
 use Rattle.card.proofs.scan.byte_at.Tie as tie
 

@@ -2,7 +2,7 @@ use Prim.Native.Nat.{_-_, _≤_, zero-le}
 use native.Mathlib.Omega.{arith}
 use lib.ListN.{length}
 use Rattle.codec.proofs.theory.OneByOne.{Passed, passed-none, passed-more}
-use Rattle.card.proofs.StepScan.{keyByte, key-passes, key-fails, key-all}
+use Rattle.card.proofs.theory.ByteTests.{keyByte, key-passes, key-fails, key-all}
 use Rattle.card.proofs.scan.key_at.Statement.{statement}
 use Rattle.card.proofs.scan.key_at.Tie as tie
 

@@ -1,0 +1,2 @@
+-- What reading and printing the header uses alone.
+mod Lines

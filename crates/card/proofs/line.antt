@@ -1,0 +1,2 @@
+-- What reading a line uses alone.
+mod Digits

@@ -1,0 +1,4 @@
+-- What printing uses alone.
+mod Text
+mod Hex
+mod Lines

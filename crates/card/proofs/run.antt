@@ -1,0 +1,3 @@
+-- What running the program uses alone.
+mod Program
+mod Card

@@ -1,0 +1,55 @@
+-- The worked card of document 01 and a witness of each refusal, by computation of the definitions.
+use mathlib.Core.Path.{refl}
+use Rattle.lattice.specs.Shape.{maxStrength, sizeOk, strengthOk, shapeNumber}
+use Rattle.lattice.specs.Range.{inRange}
+use Rattle.lattice.specs.Settings.{oddSettings, evenSettings, flatSettings, settingsFor}
+use Rattle.lattice.specs.Cell.{cellAt}
+use Rattle.lattice.specs.Class.{minusMod, classWith, classesOf, classOf}
+use Rattle.lattice.specs.Position.{sizeTo, position}
+use Rattle.lattice.specs.Check.{isPower, isCheck, checks, holdsData, capacity}
+use Rattle.codec.specs.Field.{isCell, isReceived, cellsOk, differences}
+use Rattle.codec.specs.Hamming.{tagsOf, isTag, inReach, allInReach, corrected}
+use Rattle.codec.specs.Payload.{payloadBytes, rank, payloadBit, padding, dataValue, dataField, encoded, paddingOk, heldPayload}
+use Rattle.codec.specs.Plan.{planClasses, planCapacity, planBytes, planCells}
+use Rattle.codec.specs.Encode.{encodeNumber, encodedField}
+use Rattle.codec.specs.Decode.{fieldNumber, correctedCount, decodeNumber, decodeCount, decodeLeaves}
+use Rattle.card.specs.Text.{digitCount, decimal, numberLine, headerText, hexDigit, payloadText, cellsText, rowText, fieldText, refusalText}
+use Rattle.card.specs.Parse.{keyAt, numberEnds, numberAt, lineAt, headerOf, isHex, hexValue, payloadOk, payloadOf, isCellDigit, rowOk, rowsOk, cellsAt}
+use Rattle.card.specs.Program.{bodyOk, operationNumber, numberAfter, programNumber, writtenText, readText, successText, answer}
+use Rattle.card.specs.theorems.Examples.{CardExamples}
+
+-- Theorem. The program's answers to the listed texts.
+pub cardExamples : CardExamples
+unfolding
+    inRange maxStrength sizeOk strengthOk shapeNumber
+    oddSettings evenSettings flatSettings settingsFor cellAt minusMod classWith classesOf classOf
+    sizeTo position isPower isCheck checks holdsData capacity
+    isCell isReceived cellsOk differences tagsOf isTag inReach allInReach corrected
+    payloadBytes rank payloadBit padding dataValue dataField encoded paddingOk heldPayload planClasses planCapacity planBytes planCells
+    encodeNumber encodedField
+    fieldNumber correctedCount decodeNumber decodeCount decodeLeaves
+    digitCount decimal numberLine headerText hexDigit payloadText cellsText rowText fieldText refusalText
+    keyAt numberEnds numberAt lineAt headerOf isHex hexValue payloadOk payloadOf isCellDigit rowOk rowsOk cellsAt
+    bodyOk operationNumber numberAfter programNumber writtenText readText successText answer
+cardExamples =
+    record {
+      written = refl;
+      read = refl;
+      damaged = refl;
+      key-order = refl;
+      leading-zero = refl;
+      six-digits = refl;
+      carriage-return = refl;
+      size = refl;
+      strength = refl;
+      cells = refl;
+      upper-case = refl;
+      odd-digits = refl;
+      no-feed = refl;
+      trailing = refl;
+      few-rows = refl;
+      no-cell = refl;
+      long-payload = refl;
+      out-of-reach = refl;
+      wrong-padding = refl;
+    }

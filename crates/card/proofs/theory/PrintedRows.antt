@@ -1,0 +1,98 @@
+-- Card texts there and back: what is printed of a payload is read again, whole and damaged.
+use Prim.Native.Nat.{ℕ}
+use mathlib.Core.Bool.{Bool}
+use mathlib.Core.List.{List, _++_}
+use mathlib.Core.Path.{_≡_, refl, sym, _∙_, ap}
+use native.Mathlib.Nat.{le-of-lt}
+use lib.ListN.{length}
+use Rattle.lattice.specs.Shape.{cellsOf}
+use Rattle.lattice.specs.Cell.{Cell, cellAt}
+use Rattle.codec.specs.Field.{fieldOf}
+use Rattle.codec.specs.Payload.{Bytes}
+use Rattle.codec.specs.Plan.{planBytes}
+use Rattle.codec.specs.Encode.{encodedField}
+use Rattle.codec.specs.Decode.{decodeNumber, decodeCount, decodeLeaves}
+use Rattle.codec.specs.Damage.{damaged, damagedField}
+use Rattle.codec.proofs.theory.Accepted.{encode-number}
+use Rattle.codec.proofs.theory.Damage.{damaged-cells}
+use Rattle.codec.proofs.theory.FieldLists.{length-listOf, getD-listOf, cells-same}
+use Rattle.codec.proofs.theory.CellValues.{cells-received}
+use Rattle.codec.proofs.theorems.Undamaged.{nothingToCorrect}
+use Rattle.codec.proofs.theorems.Writing.{encodeMeaning}
+use Rattle.card.specs.declared.header.Header.{Header}
+use Rattle.card.specs.Text.{headerText, numberLine, payloadText, fieldText, mendedKey}
+use Rattle.card.specs.Card.{shapeOf, FieldCells, CardHeader, payloadCard, fieldCard}
+use Rattle.card.specs.Program.{blankField, blankPayload, writtenText, readText, answer}
+use Rattle.card.specs.theorems.RoundTrip.{ReadBack}
+use Rattle.card.proofs.theory.ProgramParts.{blank-field, blank-payload, body-payload, operation-payload, success-payload, body-rows, operation-rows, success-rows, answer-found}
+use Rattle.card.proofs.theorems.Parsing.{textParses}
+
+-- a field's text is read to the count and the payload that decoding gives
+pub read-text : (h : Header) (cells p : List ℕ) (n : ℕ) → decodeCount (shapeOf h) (blankPayload h) cells ≡ n
+    → decodeLeaves (shapeOf h) (blankPayload h) cells ≡ p
+    → readText h cells ≡ headerText h ++ (numberLine mendedKey n ++ payloadText p)
+unfolding readText
+read-text h cells p n count leaves = rw (count, leaves)
+
+-- the cells of the field written, and of that field damaged
+module _ (h : Header) (card : CardHeader h) (p : List ℕ) (long : length p ≡ planBytes (shapeOf h)) (bytes : Bytes p) where
+  pub written-cells : FieldCells h (encodedField (shapeOf h) p)
+  written-cells =
+      record {
+        long = encodeMeaning .long (shapeOf h) p;
+        each = cells-received _ _ (encodeMeaning .lawful (shapeOf h) (card .accepted) p long bytes .cells);
+      }
+
+  pub damaged-field : (selected : Cell → Bool) → FieldCells h (damagedField (shapeOf h) p selected)
+  damaged-field selected =
+      let f = damaged (fieldOf (encodedField (shapeOf h) p)) (λ i. selected (cellAt (shapeOf h) i)) in
+      let n = cellsOf (shapeOf h) in
+      record {
+        long = length-listOf f n;
+        each =
+            cells-received _ _
+            (cells-same f (fieldOf (damagedField (shapeOf h) p selected)) n (λ i l. sym (getD-listOf f n i l))
+            (damaged-cells (fieldOf (encodedField (shapeOf h) p)) (λ i. selected (cellAt (shapeOf h) i)) n
+            (encodeMeaning .lawful (shapeOf h) (card .accepted) p long bytes .cells)));
+      }
+
+module _ (h : Header) (card : CardHeader h) where
+  -- a payload's card is answered with the field written
+  printed : (p : List ℕ) → length p ≡ planBytes (shapeOf h) → Bytes p → answer (payloadCard h p) ≡ writtenText h p
+  printed p long bytes =
+      let s = payloadCard h p in
+      let next = length (headerText h) in
+      let head = textParses .payload-header h card p in
+      let back = textParses .payload-back h p bytes in
+      answer-found s h next (le-of-lt (textParses .payload-short h card p long)) (head .0) card (body-payload s h next (head .1) ∙ back .0)
+      (operation-payload s h next (head .1) ∙ rw (back .1) (encode-number (shapeOf h) (card .accepted) p (blankField h) long (blank-field h)))
+      ∙ success-payload s h next (head .1)
+      ∙ ap (writtenText h) (back .1)
+
+  -- a field's card that decoding accepts is answered with what it gives
+  pub read : (cells : List ℕ) → FieldCells h cells → decodeNumber (shapeOf h) (blankPayload h) cells ≡ 0
+      → answer (fieldCard h cells) ≡ readText h cells
+  read cells each success =
+      let s = fieldCard h cells in
+      let next = length (headerText h) in
+      let head = textParses .field-header h card cells in
+      let back = textParses .field-back h cells each in
+      answer-found s h next (le-of-lt (textParses .field-short h card cells each)) (head .0) card (body-rows s h next (head .1) ∙ back .0)
+      (operation-rows s h next (head .1) ∙ rw (back .1) success)
+      ∙ success-rows s h next (head .1)
+      ∙ ap (readText h) (back .1)
+
+  -- with the line of the classes taken out, what is printed of a payload is the card of the field written, and is read back
+  pub read-back : (p : List ℕ) → length p ≡ planBytes (shapeOf h) → Bytes p → ReadBack h p
+  unfolding writtenText
+  read-back p long bytes =
+      let F = encodedField (shapeOf h) p in
+      let back = nothingToCorrect .written (shapeOf h) (card .accepted) p long bytes (blankPayload h) (blank-payload h) in
+      record {
+        rest = fieldText h F;
+        printed = printed p long bytes;
+        rows = refl;
+        read =
+            read F (written-cells h card p long bytes) (back .decoded-number)
+            ∙ read-text h F p 0 (back .decoded-count ∙ nothingToCorrect .count (fieldOf F) (cellsOf (shapeOf h))) (back .decoded-payload);
+      }

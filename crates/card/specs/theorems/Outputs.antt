@@ -1,0 +1,17 @@
+-- The theorem on the form and the length of the output.
+use Prim.Native.Nat.{ℕ, _<_, _≤_}
+use mathlib.Core.List.{List}
+use lib.ListN.{length}
+use Rattle.codec.specs.Plan.{planClasses}
+use Rattle.codec.specs.Decode.{decodeCount}
+use Rattle.card.specs.declared.header.Header.{Header}
+use Rattle.card.specs.Card.{maxAnswer, shapeOf, CardHeader}
+use Rattle.card.specs.Program.{blankPayload, answer}
+use Rattle.card.specs.Form.{OneOfThree}
+
+-- Theorem. The output is one of the three forms and never longer than 36,915 bytes, and the numbers in it have at most five digits.
+pub record OutputForms : Type 0 where
+  pub form : (s : List ℕ) → OneOfThree s
+  pub short : (s : List ℕ) → length (answer s) ≤ maxAnswer
+  pub classes : (h : Header) → CardHeader h → planClasses (shapeOf h) < 100000
+  pub count : (h : Header) → CardHeader h → (cells : List ℕ) → decodeCount (shapeOf h) (blankPayload h) cells < 100000

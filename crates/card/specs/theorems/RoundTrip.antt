@@ -1,0 +1,39 @@
+-- Card texts there and back: what is printed is read again, whole and damaged.
+use Prim.Native.Nat.{ℕ}
+use mathlib.Core.Bool.{Bool, true}
+use mathlib.Core.List.{List, _++_}
+use mathlib.Core.Path.{_≡_}
+use lib.ListN.{length}
+use Rattle.lattice.specs.Shape.{cellsOf}
+use Rattle.lattice.specs.Cell.{Cell}
+use Rattle.lattice.specs.Cluster.{Cluster, AtMost}
+use Rattle.codec.specs.Field.{fieldOf, differences}
+use Rattle.codec.specs.Payload.{Bytes}
+use Rattle.codec.specs.Plan.{planClasses, planBytes}
+use Rattle.codec.specs.Encode.{encodedField}
+use Rattle.codec.specs.Damage.{damagedField}
+use Rattle.card.specs.declared.header.Header.{Header}
+use Rattle.card.specs.Text.{headerText, numberLine, payloadText, classesKey, mendedKey}
+use Rattle.card.specs.Card.{shapeOf, CardHeader, payloadCard, fieldCard}
+use Rattle.card.specs.Program.{answer}
+
+-- what is printed for a payload is the header, the line `classes` and a rest; with that line taken out it is the card text of the field written, and is
+-- read back to `mended=0` and the payload
+pub record ReadBack (h : Header) (p : List ℕ) : Type 0 where
+  pub rest : List ℕ
+  pub printed : answer (payloadCard h p) ≡ headerText h ++ (numberLine classesKey (planClasses (shapeOf h)) ++ rest)
+  pub rows : headerText h ++ rest ≡ fieldCard h (encodedField (shapeOf h) p)
+  pub read : answer (headerText h ++ rest) ≡ headerText h ++ (numberLine mendedKey 0 ++ payloadText p)
+
+-- Theorem. What the program prints for a payload it reads back; and with demand 3's damage to the rows, `mended` is the number of cells changed and the
+-- payload is the same.
+pub record PrintedIsRead : Type 1 where
+  pub whole : (h : Header) → CardHeader h → (p : List ℕ) → length p ≡ planBytes (shapeOf h) → Bytes p → ReadBack h p
+  pub damaged : (h : Header) → CardHeader h → (p : List ℕ) → length p ≡ planBytes (shapeOf h) → Bytes p
+      → (S : Cell → Type 0) → Cluster (shapeOf h) S → AtMost (h .numbers .strength) S
+      → (selected : Cell → Bool) → ((x : Cell) → selected x ≡ true → S x)
+      → answer (fieldCard h (damagedField (shapeOf h) p selected))
+      ≡ headerText h
+      ++ (numberLine mendedKey
+      (differences (fieldOf (encodedField (shapeOf h) p)) (fieldOf (damagedField (shapeOf h) p selected)) (cellsOf (shapeOf h)))
+      ++ payloadText p)
