@@ -10,7 +10,10 @@ use Rattle.card.proofs.main.Tie as tie
 use Rattle.card.specs.Card.{maxAnswer}
 
 within : (c : tie.After-answer-card) → c .answer-card .result ≤ length (c .answer-card .last .1 .0)
-within c = answer-within (take (c .before .before .before .before .read-full .result) (c .before .before .before .before .read-full .last .1 .0)) (c .answer-card .last .1 .0) _ maxAnswer (lit≤ tt) (c .answer-card .ensures .0) (c .answer-card .kept .1 .0)
+within c =
+    let read-full = c .before .before .before .before .read-full in
+    answer-within (take (read-full .result) (read-full .last .1 .0)) (c .answer-card .last .1 .0) _ maxAnswer
+    (lit≤ tt) (c .answer-card .ensures .0) (c .answer-card .kept .1 .0)
 
 slice-aggregate-read-full : tie.Need-slice-aggregate-read-full
 slice-aggregate-read-full c = search needs
@@ -34,7 +37,9 @@ array-share-prefix-output : tie.Need-array-share-prefix-output
 array-share-prefix-output c = within (c .before)
 
 slice-aggregate-write-all : tie.Need-slice-aggregate-write-all
-slice-aggregate-write-all c = sym (length-take-le _ (c .before .before .answer-card .last .1 .0) (within (c .before .before)))
+slice-aggregate-write-all c =
+    let here = c .before .before in
+    sym (length-take-le _ (here .answer-card .last .1 .0) (within here))
 
 write-all-requires : tie.Need-write-all-requires
 write-all-requires c κs = search needs

@@ -15,9 +15,10 @@ class-requires c κs = search needs
 
 returns : tie.Need-returns
 returns c =
+    let class-of = c .before .before .class-of in
     record {
-      number = c .before .number .ensures ∙ c .before .before .class-of .ensures .number;
-      class = c .class .ensures ∙ c .before .before .class-of .ensures .class;
+      number = c .before .number .ensures ∙ class-of .ensures .number;
+      class = c .class .ensures ∙ class-of .ensures .class;
     }
 
 pub varmintfoil-class-spec : {M : Type 1} → statement M

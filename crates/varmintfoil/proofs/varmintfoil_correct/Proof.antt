@@ -18,10 +18,11 @@ same-length c = search needs
 
 returns : tie.Need-returns
 returns c =
+    let correct-in = c .before .before .before .before .correct-in in
     record {
-      number = c .before .number .ensures ∙ c .before .before .before .before .correct-in .ensures .number;
-      count = c .count .ensures ∙ c .before .before .before .before .correct-in .ensures .count;
-      leaves = c .before .before .before .before .correct-in .ensures .leaves;
+      number = c .before .number .ensures ∙ correct-in .ensures .number;
+      count = c .count .ensures ∙ correct-in .ensures .count;
+      leaves = correct-in .ensures .leaves;
     }
 
 pub varmintfoil-correct-spec : {M : Type 1} → statement M

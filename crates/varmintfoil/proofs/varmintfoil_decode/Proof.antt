@@ -18,10 +18,11 @@ same-length c = search needs
 
 returns : tie.Need-returns
 returns c =
+    let decode-in = c .before .before .before .before .decode-in in
     record {
-      number = c .before .number .ensures ∙ c .before .before .before .before .decode-in .ensures .number;
-      count = c .count .ensures ∙ c .before .before .before .before .decode-in .ensures .count;
-      leaves = c .before .before .before .before .decode-in .ensures .leaves;
+      number = c .before .number .ensures ∙ decode-in .ensures .number;
+      count = c .count .ensures ∙ decode-in .ensures .count;
+      leaves = decode-in .ensures .leaves;
     }
 
 pub varmintfoil-decode-spec : {M : Type 1} → statement M

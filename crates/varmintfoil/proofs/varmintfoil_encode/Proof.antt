@@ -15,10 +15,8 @@ same-length c = search needs
 
 returns : tie.Need-returns
 returns c =
-    record {
-      number = c .number .ensures ∙ c .before .before .before .encode-in .ensures .number;
-      leaves = c .before .before .before .encode-in .ensures .leaves;
-    }
+    let encode-in = c .before .before .before .encode-in in
+    record { number = c .number .ensures ∙ encode-in .ensures .number; leaves = encode-in .ensures .leaves }
 
 pub varmintfoil-encode-spec : {M : Type 1} → statement M
 varmintfoil-encode-spec = tie.close (tie.spec encode-in-requires number-requires same-length returns)

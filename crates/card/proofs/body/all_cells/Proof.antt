@@ -23,7 +23,10 @@ is-cell-digit-requires : tie.Need-is-cell-digit-requires Inv-loop μ-loop
 is-cell-digit-requires c κs = tt
 
 returns : tie.Need-returns Inv-loop μ-loop
-returns c = test-fails isCellDigit (c .before .before .before .before .before .before .args .text .now) (c .before .before .before .before .before .before .args .start) _ _ _ (c .before .before .before .loop-test .taken) (c .before .before .byte-at .ensures) (failed _ _ (c .if1 .taken) (c .before .is-cell-digit .ensures))
+returns c =
+    let a = c .before .before .before .before .before .before .args in
+    test-fails isCellDigit (a .text .now) (a .start) _ _ _ (c .before .before .before .loop-test .taken)
+    (c .before .before .byte-at .ensures) (failed _ _ (c .if1 .taken) (c .before .is-cell-digit .ensures))
 
 add-j : tie.Need-add-j Inv-loop μ-loop
 add-j c = omega arith
@@ -35,7 +38,10 @@ loop-again : tie.Need-loop-again Inv-loop μ-loop
 loop-again c = (omega arith, passed-more _ _ (c .before .before .before .before .loop .inv .1) (test-passes isCellDigit _ _ _ _ (c .before .before .byte-at .ensures) (passed _ _ (c .if1 .left) (c .before .is-cell-digit .ensures))))
 
 returns-2 : tie.Need-returns-2 Inv-loop μ-loop
-returns-2 c = test-all isCellDigit (c .before .before .before .args .text .now) (c .before .before .before .args .start) _ _ (c .before .loop .inv .1) (c .before .loop .inv .0) (c .loop-test .left)
+returns-2 c =
+    let a = c .before .before .before .args in
+    test-all isCellDigit (a .text .now) (a .start) _ _ (c .before .loop .inv .1) (c .before .loop .inv .0)
+    (c .loop-test .left)
 
 pub all-cells-spec : {M : Type 1} → statement M
 all-cells-spec =

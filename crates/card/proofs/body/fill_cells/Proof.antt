@@ -14,9 +14,10 @@ abbrev μ-loop : tie.MeasureT-loop
 
 far : (c : tie.In-loop Inv-loop μ-loop) → c .before .loop .i / c .before .before .before .before .args .width * (c .before .before .before .before .args .width + 5) ≤ 17104896
 far c =
-    cell-far (c .before .before .before .before .args .text .now) (c .before .before .before .before .args .at) (c .before .before .before .before .args .width) (c .before .before .before .before .pre .narrow) (c .before .loop .i) (length (c .before .loop .field))
-    (c .loop-test .taken)
-    (omega arith)
+    let e = c .before .before .before .before in
+    let a = e .args in
+    cell-far (a .text .now) (a .at) (a .width) (e .pre .narrow) (c .before .loop .i) (length (c .before .loop .field))
+    (c .loop-test .taken) (omega arith)
 
 loop-holds : tie.Need-loop-holds Inv-loop μ-loop
 loop-holds c = (zero-le, stored-none _ _)
@@ -55,15 +56,12 @@ loop-less : tie.Need-loop-less Inv-loop μ-loop
 loop-less c = simp length-set (omega arith)
 
 loop-again : tie.Need-loop-again Inv-loop μ-loop
-loop-again c = (
-  simp length-set (omega arith),
-  stored-more
-      _ _ _ _
-      (c .before .before .before .loop .inv .1)
-      _
-      (c .before .before .loop-test .taken)
-      (cell-byte (c .before .before .before .before .before .before .args .text .now) (c .before .before .before .before .before .before .args .at) (c .before .before .before .before .before .before .args .width) _ _ _ (c .before .byte-at .ensures) (c .cell-value .ensures)),
-)
+loop-again c =
+    let a = c .before .before .before .before .before .before .args in (
+      simp length-set (omega arith),
+      stored-more _ _ _ _ (c .before .before .before .loop .inv .1) _ (c .before .before .loop-test .taken)
+          (cell-byte (a .text .now) (a .at) (a .width) _ _ _ (c .before .byte-at .ensures) (c .cell-value .ensures)),
+    )
 
 same-length : tie.Need-same-length Inv-loop μ-loop
 same-length c = c .before .loop .inv .1 .long

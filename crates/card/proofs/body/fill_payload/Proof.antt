@@ -18,18 +18,17 @@ abbrev μ-loop : tie.MeasureT-loop
 
 high : (c : tie.After-byte-at Inv-loop μ-loop) → isHex (c .byte-at .result) ≡ true
 high c =
-    payload-digit (c .before .before .before .before .before .args .text .now) (c .before .before .before .before .before .args .at) (c .before .before .before .before .before .pre .0) _ (c .before .before .loop .j) (2 * c .before .before .loop .j) _
-    (c .before .before .loop .inv .1 .long ∙ c .before .before .before .before .before .pre .1)
-    (c .before .loop-test .taken)
-    (omega arith)
-    (c .byte-at .ensures)
+    let e = c .before .before .before .before .before in
+    let turn = c .before .before .loop in
+    payload-digit (e .args .text .now) (e .args .at) (e .pre .0) _ (turn .j) (2 * turn .j) _
+    (turn .inv .1 .long ∙ e .pre .1) (c .before .loop-test .taken) (omega arith) (c .byte-at .ensures)
 
 low : (c : tie.After-byte-at2 Inv-loop μ-loop) → isHex (c .byte-at2 .result) ≡ true
 low c =
-    payload-digit (c .before .before .before .before .before .before .before .args .text .now) (c .before .before .before .before .before .before .before .args .at) (c .before .before .before .before .before .before .before .pre .0) _ (c .before .before .before .before .loop .j) (2 * c .before .before .before .before .loop .j + 1) _
-    (c .before .before .before .before .loop .inv .1 .long ∙ c .before .before .before .before .before .before .before .pre .1)
-    (c .before .before .before .loop-test .taken)
-    (le-refl _)
+    let e = c .before .before .before .before .before .before .before in
+    let turn = c .before .before .before .before .loop in
+    payload-digit (e .args .text .now) (e .args .at) (e .pre .0) _ (turn .j) (2 * turn .j + 1) _
+    (turn .inv .1 .long ∙ e .pre .1) (c .before .before .before .loop-test .taken) (le-refl _)
     (c .byte-at2 .ensures)
 
 add-start : tie.Need-add-start Inv-loop μ-loop
@@ -75,15 +74,14 @@ loop-less : tie.Need-loop-less Inv-loop μ-loop
 loop-less c = simp length-set (omega arith)
 
 loop-again : tie.Need-loop-again Inv-loop μ-loop
-loop-again c = (
-  simp length-set (omega arith),
-  stored-more
-      _ _ _ _
-      (c .before .before .before .before .before .loop .inv .1)
-      _
-      (c .before .before .before .before .loop-test .taken)
-      (payload-byte (c .before .before .before .before .before .before .before .before .args .text .now) (c .before .before .before .before .before .before .before .before .args .at) _ _ _ _ _ (c .before .before .before .byte-at .ensures) (c .before .byte-at2 .ensures) (c .before .before .hex-value .ensures) (c .hex-value2 .ensures)),
-)
+loop-again c =
+    let a = c .before .before .before .before .before .before .before .before .args in (
+      simp length-set (omega arith),
+      stored-more _ _ _ _ (c .before .before .before .before .before .loop .inv .1) _
+          (c .before .before .before .before .loop-test .taken)
+          (payload-byte (a .text .now) (a .at) _ _ _ _ _ (c .before .before .before .byte-at .ensures)
+          (c .before .byte-at2 .ensures) (c .before .before .hex-value .ensures) (c .hex-value2 .ensures)),
+    )
 
 same-length : tie.Need-same-length Inv-loop μ-loop
 same-length c = c .before .loop .inv .1 .long

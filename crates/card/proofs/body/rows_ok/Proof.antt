@@ -23,7 +23,13 @@ add-if2 : tie.Need-add-if2 Inv-loop μ-loop
 add-if2 c = omega arith
 
 mul-if2 : tie.Need-mul-if2 Inv-loop μ-loop
-mul-if2 c = omega (arith, rows-product (c .before .before .args .text .now) (c .before .before .args .at) (c .before .before .args .columns) (c .before .before .args .rows) (c .before .before .fits .rows .fits) (c .before .before .fits .columns .fits))
+mul-if2 c =
+    let e = c .before .before in
+    let a = e .args in
+    omega (
+      arith,
+      rows-product (a .text .now) (a .at) (a .columns) (a .rows) (e .fits .rows .fits) (e .fits .columns .fits),
+    )
 
 returns-2 : tie.Need-returns-2 Inv-loop μ-loop
 returns-2 c = rows-long _ _ _ _ (c .before .if1 .left) (c .if2 .taken)
@@ -35,16 +41,38 @@ add-row-ok : tie.Need-add-row-ok Inv-loop μ-loop
 add-row-ok c = omega arith
 
 mul-row-ok : tie.Need-mul-row-ok Inv-loop μ-loop
-mul-row-ok c = omega (arith, row-product (c .before .before .before .before .before .args .text .now) (c .before .before .before .before .before .args .at) (c .before .before .before .before .before .args .columns) (c .before .before .before .before .before .args .rows) (c .before .before .before .if1 .left) (c .before .before .if2 .left) _ (c .loop-test .taken))
+mul-row-ok c =
+    let a = c .before .before .before .before .before .args in
+    omega (
+      arith,
+      row-product (a .text .now) (a .at) (a .columns) (a .rows) (c .before .before .before .if1 .left)
+          (c .before .before .if2 .left) _ (c .loop-test .taken),
+    )
 
 add-row-ok-2 : tie.Need-add-row-ok-2 Inv-loop μ-loop
-add-row-ok-2 c = omega (arith, row-inside (c .before .before .before .before .before .args .text .now) (c .before .before .before .before .before .args .at) (c .before .before .before .before .before .args .columns) (c .before .before .before .before .before .args .rows) (c .before .before .before .if1 .left) (c .before .before .if2 .left) _ (c .loop-test .taken))
+add-row-ok-2 c =
+    let a = c .before .before .before .before .before .args in
+    omega (
+      arith,
+      row-inside (a .text .now) (a .at) (a .columns) (a .rows) (c .before .before .before .if1 .left)
+          (c .before .before .if2 .left) _ (c .loop-test .taken),
+    )
 
 row-ok-requires : tie.Need-row-ok-requires Inv-loop μ-loop
-row-ok-requires c κs = row-inside (c .before .before .before .before .before .args .text .now) (c .before .before .before .before .before .args .at) (c .before .before .before .before .before .args .columns) (c .before .before .before .before .before .args .rows) (c .before .before .before .if1 .left) (c .before .before .if2 .left) _ (c .loop-test .taken)
+row-ok-requires c κs =
+    let a = c .before .before .before .before .before .args in
+    row-inside (a .text .now) (a .at) (a .columns) (a .rows) (c .before .before .before .if1 .left)
+    (c .before .before .if2 .left) _ (c .loop-test .taken)
 
 returns-3 : tie.Need-returns-3 Inv-loop μ-loop
-returns-3 c = rows-fail (c .before .before .before .before .before .before .before .args .text .now) (c .before .before .before .before .before .before .before .args .at) (c .before .before .before .before .before .before .before .args .columns) (c .before .before .before .before .before .before .before .args .rows) (c .before .before .before .before .before .if1 .left) (c .before .before .before .before .if2 .left) _ (c .before .before .loop-test .taken) (failed _ _ (c .if3 .taken) (row-moved (c .before .before .before .before .before .before .before .args .text .now) (c .before .before .before .before .before .before .before .args .at) (c .before .before .before .before .before .before .before .args .columns) (c .before .before .before .before .before .before .before .args .rows) (c .before .before .before .before .before .if1 .left) (c .before .before .before .before .if2 .left) _ _ (c .before .row-ok .ensures)))
+returns-3 c =
+    let a = c .before .before .before .before .before .before .before .args in
+    let if1 = c .before .before .before .before .before .if1 in
+    let if2 = c .before .before .before .before .if2 in
+    rows-fail (a .text .now) (a .at) (a .columns) (a .rows) (if1 .left) (if2 .left) _
+    (c .before .before .loop-test .taken) (failed _ _ (c .if3 .taken)
+    (row-moved (a .text .now) (a .at) (a .columns) (a .rows) (if1 .left) (if2 .left) _ _
+    (c .before .row-ok .ensures)))
 
 add-r : tie.Need-add-r Inv-loop μ-loop
 add-r c = omega arith
@@ -53,10 +81,20 @@ loop-less : tie.Need-loop-less Inv-loop μ-loop
 loop-less c = omega arith
 
 loop-again : tie.Need-loop-again Inv-loop μ-loop
-loop-again c = (omega arith, passed-more _ _ (c .before .before .before .loop .inv .1) (passed _ _ (c .if3 .left) (row-moved (c .before .before .before .before .before .before .before .args .text .now) (c .before .before .before .before .before .before .before .args .at) (c .before .before .before .before .before .before .before .args .columns) (c .before .before .before .before .before .before .before .args .rows) (c .before .before .before .before .before .if1 .left) (c .before .before .before .before .if2 .left) _ _ (c .before .row-ok .ensures))))
+loop-again c =
+    let a = c .before .before .before .before .before .before .before .args in (
+      omega arith,
+      passed-more _ _ (c .before .before .before .loop .inv .1)
+          (passed _ _ (c .if3 .left) (row-moved (a .text .now) (a .at) (a .columns) (a .rows)
+          (c .before .before .before .before .before .if1 .left) (c .before .before .before .before .if2 .left) _
+          _ (c .before .row-ok .ensures))),
+    )
 
 returns-4 : tie.Need-returns-4 Inv-loop μ-loop
-returns-4 c = rows-pass (c .before .before .before .before .before .args .text .now) (c .before .before .before .before .before .args .at) (c .before .before .before .before .before .args .columns) (c .before .before .before .before .before .args .rows) (c .before .before .before .if1 .left) (c .before .before .if2 .left) _ (c .before .loop .inv .1) (c .before .loop .inv .0) (c .loop-test .left)
+returns-4 c =
+    let a = c .before .before .before .before .before .args in
+    rows-pass (a .text .now) (a .at) (a .columns) (a .rows) (c .before .before .before .if1 .left)
+    (c .before .before .if2 .left) _ (c .before .loop .inv .1) (c .before .loop .inv .0) (c .loop-test .left)
 
 pub rows-ok-spec : {M : Type 1} → statement M
 rows-ok-spec =

@@ -17,7 +17,9 @@ line-at-requires : tie.Need-line-at-requires
 line-at-requires c κs = search needs
 
 returns : tie.Need-returns
-returns c = c .line-at .ensures ∙ ap (λ (key : List ℕ). lineAt key (c .before .before .before .before .args .text .now) (c .before .before .before .before .args .at)) (c .before .key-of .ensures)
+returns c =
+    let a = c .before .before .before .before .args in
+    c .line-at .ensures ∙ ap (λ (key : List ℕ). lineAt key (a .text .now) (a .at)) (c .before .key-of .ensures)
 
 pub line-of-spec : {M : Type 1} → statement M
 line-of-spec = tie.close (tie.spec slice-aggregate-key-of key-of-requires line-at-requires returns)

@@ -13,10 +13,16 @@ abbrev μ-loop : tie.MeasureT-loop
 μ-loop text at k value₀ i₀ value i = k - i
 
 room : (c : tie.In-loop Inv-loop μ-loop) → c .before .loop .value < 10000
-room c = value-room (c .before .before .before .args .text .now) (c .before .before .before .args .at) _ (c .before .before .before .pre .0) (c .before .before .before .pre .1) _ (c .loop-test .taken) _ (c .before .loop .inv .1)
+room c =
+    let e = c .before .before .before in
+    value-room (e .args .text .now) (e .args .at) _ (e .pre .0) (e .pre .1) _ (c .loop-test .taken) _
+    (c .before .loop .inv .1)
 
 high : (c : tie.After-byte-at Inv-loop μ-loop) → c .byte-at .result ≤ 57
-high c = digit-high (c .before .before .before .before .args .text .now) (c .before .before .before .before .args .at) _ (c .before .before .before .before .pre .0) (c .before .before .before .before .pre .1) _ (c .before .loop-test .taken) _ (c .byte-at .ensures)
+high c =
+    let e = c .before .before .before .before in
+    digit-high (e .args .text .now) (e .args .at) _ (e .pre .0) (e .pre .1) _ (c .before .loop-test .taken) _
+    (c .byte-at .ensures)
 
 loop-holds : tie.Need-loop-holds Inv-loop μ-loop
 loop-holds c = (zero-le, refl)
@@ -28,7 +34,10 @@ byte-at-requires : tie.Need-byte-at-requires Inv-loop μ-loop
 byte-at-requires c κs = tt
 
 sub-value : tie.Need-sub-value Inv-loop μ-loop
-sub-value c = digit-low (c .before .before .before .before .args .text .now) (c .before .before .before .before .args .at) _ (c .before .before .before .before .pre .0) (c .before .before .before .before .pre .1) _ (c .before .loop-test .taken) _ (c .byte-at .ensures)
+sub-value c =
+    let e = c .before .before .before .before in
+    digit-low (e .args .text .now) (e .args .at) _ (e .pre .0) (e .pre .1) _ (c .before .loop-test .taken) _
+    (c .byte-at .ensures)
 
 cast-value : tie.Need-cast-value Inv-loop μ-loop
 cast-value c = omega (arith, high c)
@@ -43,10 +52,14 @@ loop-less : tie.Need-loop-less Inv-loop μ-loop
 loop-less c = omega arith
 
 loop-again : tie.Need-loop-again Inv-loop μ-loop
-loop-again c = (omega arith, value-more (c .before .before .before .before .args .text .now) (c .before .before .before .before .args .at) _ _ _ (c .before .before .loop .inv .1) (c .byte-at .ensures))
+loop-again c =
+    let a = c .before .before .before .before .args in
+    (omega arith, value-more (a .text .now) (a .at) _ _ _ (c .before .before .loop .inv .1) (c .byte-at .ensures))
 
 returns : tie.Need-returns Inv-loop μ-loop
-returns c = value-all (c .before .before .before .args .text .now) (c .before .before .before .args .at) _ _ _ (c .before .loop .inv .0) (c .loop-test .left) (c .before .loop .inv .1)
+returns c =
+    let a = c .before .before .before .args in
+    value-all (a .text .now) (a .at) _ _ _ (c .before .loop .inv .0) (c .loop-test .left) (c .before .loop .inv .1)
 
 pub digits-value-spec : {M : Type 1} → statement M
 digits-value-spec =

@@ -20,7 +20,11 @@ returns : tie.Need-returns
 returns c = number-faults _ _ _ (c .before .before .digit-run .ensures) (failed _ _ (c .if1 .taken) (c .before .number-ends .ensures))
 
 digits-value-requires : tie.Need-digits-value-requires
-digits-value-requires c κs = (c .before .before .digit-run .ensures, number-most _ _ _ (c .before .before .digit-run .ensures) (passed _ _ (c .if1 .left) (c .before .number-ends .ensures)))
+digits-value-requires c κs =
+    let digit-run = c .before .before .digit-run in (
+      digit-run .ensures,
+      number-most _ _ _ (digit-run .ensures) (passed _ _ (c .if1 .left) (c .before .number-ends .ensures)),
+    )
 
 add-t7 : tie.Need-add-t7
 add-t7 c = omega (arith, inside (c .before))

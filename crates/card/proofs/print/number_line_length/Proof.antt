@@ -15,7 +15,9 @@ add-result-2 : tie.Need-add-result-2
 add-result-2 c = omega (arith, digit-count-range (c .before .before .args .n), c .digit-count .ensures)
 
 returns : tie.Need-returns
-returns c = omega (arith, length-line (c .before .before .args .key .now) (c .before .before .args .n), c .digit-count .ensures)
+returns c =
+    let a = c .before .before .args in
+    omega (arith, length-line (a .key .now) (a .n), c .digit-count .ensures)
 
 pub number-line-length-spec : {M : Type 1} → statement M
 number-line-length-spec = tie.close (tie.spec digit-count-requires add-result add-result-2 returns)

@@ -25,10 +25,24 @@ shared-slice-read-out : tie.Need-shared-slice-read-out Inv-loop μ-loop
 shared-slice-read-out c = omega arith
 
 add-out : tie.Need-add-out Inv-loop μ-loop
-add-out c = omega (arith, length-cells (c .before .before .before .args .cells .now), c .before .before .before .pre .0 .fits, received-digit _ (c .before .before .before .pre .1 (c .before .before .loop .i) (c .before .loop-test .taken)))
+add-out c =
+    let e = c .before .before .before in
+    omega (
+      arith,
+      length-cells (e .args .cells .now),
+      e .pre .0 .fits,
+      received-digit _ (e .pre .1 (c .before .before .loop .i) (c .before .loop-test .taken)),
+    )
 
 add-out-2 : tie.Need-add-out-2 Inv-loop μ-loop
-add-out-2 c = omega (arith, length-cells (c .before .before .before .args .cells .now), c .before .before .before .pre .0 .fits, received-digit _ (c .before .before .before .pre .1 (c .before .before .loop .i) (c .before .loop-test .taken)))
+add-out-2 c =
+    let e = c .before .before .before in
+    omega (
+      arith,
+      length-cells (e .args .cells .now),
+      e .pre .0 .fits,
+      received-digit _ (e .pre .1 (c .before .before .loop .i) (c .before .loop-test .taken)),
+    )
 
 slice-write-out : tie.Need-slice-write-out Inv-loop μ-loop
 slice-write-out c = prefix-index (c .before .before .before .pre .0) _ (inside (c .before)) (c .before .before .loop .inv .1)
@@ -40,16 +54,28 @@ loop-less : tie.Need-loop-less Inv-loop μ-loop
 loop-less c = omega arith
 
 loop-again : tie.Need-loop-again Inv-loop μ-loop
-loop-again c = (omega arith, prefix-more (c .before .before .before .pre .0) _ _ (inside (c .before)) (cell-digit (c .before .before .before .args .cells .now) _ (c .before .loop-test .taken)) (c .before .before .loop .inv .1))
+loop-again c =
+    let e = c .before .before .before in (
+      omega arith,
+      prefix-more (e .pre .0) _ _ (inside (c .before))
+          (cell-digit (e .args .cells .now) _ (c .before .loop-test .taken)) (c .before .before .loop .inv .1),
+    )
 
 add-result : tie.Need-add-result Inv-loop μ-loop
-add-result c = omega (arith, length-cells (c .before .before .args .cells .now), c .before .before .pre .0 .fits)
+add-result c =
+    let e = c .before .before in
+    omega (arith, length-cells (e .args .cells .now), e .pre .0 .fits)
 
 same-length : tie.Need-same-length Inv-loop μ-loop
-same-length c = prefix-long (c .before .before .pre .0) _ (omega (arith, length-cells (c .before .before .args .cells .now))) (c .before .loop .inv .1)
+same-length c =
+    let e = c .before .before in
+    prefix-long (e .pre .0) _ (omega (arith, length-cells (e .args .cells .now))) (c .before .loop .inv .1)
 
 returns : tie.Need-returns Inv-loop μ-loop
-returns c = prefix-all (c .before .before .pre .0) _ _ (length-cells (c .before .before .args .cells .now)) (c .before .loop .inv .0) (c .loop-test .left) (c .before .loop .inv .1)
+returns c =
+    let e = c .before .before in
+    prefix-all (e .pre .0) _ _ (length-cells (e .args .cells .now)) (c .before .loop .inv .0) (c .loop-test .left)
+    (c .before .loop .inv .1)
 
 pub put-cells-spec : {M : Type 1} → statement M
 put-cells-spec =

@@ -28,13 +28,27 @@ hex-digit-requires-2 : tie.Need-hex-digit-requires-2 Inv-loop μ-loop
 hex-digit-requires-2 c κs = omega arith
 
 add-out : tie.Need-add-out Inv-loop μ-loop
-add-out c = omega (arith, hex-room (c .before .before .before .before .before .before .before .pre) (c .before .before .before .before .loop .inv .1) (c .before .before .before .loop-test .taken), hex-long (c .before .before .before .before .before .before .before .pre) (c .before .before .before .before .loop .inv .1) (c .before .before .before .before .loop .inv .0))
+add-out c =
+    let pre = c .before .before .before .before .before .before .before .pre in
+    let turn = c .before .before .before .before .loop in
+    omega (
+      arith,
+      hex-room pre (turn .inv .1) (c .before .before .before .loop-test .taken),
+      hex-long pre (turn .inv .1) (turn .inv .0),
+    )
 
 slice-write-out-2 : tie.Need-slice-write-out-2 Inv-loop μ-loop
 slice-write-out-2 c = simp length-set (hex-room (c .before .before .before .before .before .before .before .pre) (c .before .before .before .before .loop .inv .1) (c .before .before .before .loop-test .taken))
 
 add-next : tie.Need-add-next Inv-loop μ-loop
-add-next c = omega (arith, hex-room (c .before .before .before .before .before .before .before .pre) (c .before .before .before .before .loop .inv .1) (c .before .before .before .loop-test .taken), hex-long (c .before .before .before .before .before .before .before .pre) (c .before .before .before .before .loop .inv .1) (c .before .before .before .before .loop .inv .0))
+add-next c =
+    let pre = c .before .before .before .before .before .before .before .pre in
+    let turn = c .before .before .before .before .loop in
+    omega (
+      arith,
+      hex-room pre (turn .inv .1) (c .before .before .before .loop-test .taken),
+      hex-long pre (turn .inv .1) (turn .inv .0),
+    )
 
 add-j : tie.Need-add-j Inv-loop μ-loop
 add-j c = omega arith

@@ -7,10 +7,15 @@ use Rattle.card.proofs.print.put_number_line.Statement.{statement}
 use Rattle.card.proofs.print.put_number_line.Tie as tie
 
 line : (c : tie.After-digit-count) → numberLine (c .before .before .before .before .before .before .before .before .args .key .now) (c .before .before .before .before .before .before .before .before .args .n) ≡ c .before .before .before .before .before .before .before .before .args .key .now ++ (digits (c .digit-count .result) (c .before .before .before .before .before .before .before .before .args .n) ++ (10 ∷ []))
-line c = number-parts (c .before .before .before .before .before .before .before .before .args .key .now) (c .before .before .before .before .before .before .before .before .args .n) _ (c .digit-count .ensures)
+line c =
+    let a = c .before .before .before .before .before .before .before .before .args in
+    number-parts (a .key .now) (a .n) _ (c .digit-count .ensures)
 
 put-bytes-requires : tie.Need-put-bytes-requires
-put-bytes-requires c κs = key-room _ (digits (digitCount (c .before .before .before .args .n)) (c .before .before .before .args .n)) (number-parts (c .before .before .before .args .key .now) (c .before .before .before .args .n) _ refl) (c .before .before .before .pre)
+put-bytes-requires c κs =
+    let e = c .before .before .before in
+    let a = e .args in
+    key-room _ (digits (digitCount (a .n)) (a .n)) (number-parts (a .key .now) (a .n) _ refl) (e .pre)
 
 digit-count-requires : tie.Need-digit-count-requires
 digit-count-requires c κs = search needs

@@ -8,19 +8,31 @@ slice-aggregate-put-bytes : tie.Need-slice-aggregate-put-bytes
 slice-aggregate-put-bytes c = search needs
 
 put-bytes-requires : tie.Need-put-bytes-requires
-put-bytes-requires c κs = key-room payloadKey (hexText (c .before .before .before .before .args .payload .now)) (payload-parts (c .before .before .before .before .args .payload .now)) (c .before .before .before .before .pre)
+put-bytes-requires c κs =
+    let e = c .before .before .before .before in
+    key-room payloadKey (hexText (e .args .payload .now)) (payload-parts (e .args .payload .now)) (e .pre)
 
 put-hex-requires : tie.Need-put-hex-requires
-put-hex-requires c κs = value-room _ _ (payload-parts (c .before .before .before .before .before .before .before .before .args .payload .now)) (c .before .before .before .before .before .before .before .before .pre) (c .before .before .before .put-bytes .ensures)
+put-hex-requires c κs =
+    let e = c .before .before .before .before .before .before .before .before in
+    value-room _ _ (payload-parts (e .args .payload .now)) (e .pre) (c .before .before .before .put-bytes .ensures)
 
 put-byte-requires : tie.Need-put-byte-requires
-put-byte-requires c κs = feed-room _ _ (payload-parts (c .before .before .before .before .before .before .before .before .before .before .before .before .args .payload .now)) (c .before .before .before .before .before .before .before .before .before .before .before .before .pre) (c .before .before .before .before .before .before .before .put-bytes .ensures) (c .before .before .before .put-hex .ensures)
+put-byte-requires c κs =
+    let e = c .before .before .before .before .before .before .before .before .before .before .before .before in
+    feed-room _ _ (payload-parts (e .args .payload .now)) (e .pre)
+    (c .before .before .before .before .before .before .before .put-bytes .ensures)
+    (c .before .before .before .put-hex .ensures)
 
 same-length : tie.Need-same-length
 same-length c = search needs
 
 returns : tie.Need-returns
-returns c = line-printed _ _ (payload-parts (c .before .before .before .before .before .before .before .before .before .before .before .before .before .before .before .args .payload .now)) (c .before .before .before .before .before .before .before .before .before .before .before .before .before .before .before .pre) (c .before .before .before .before .before .before .before .before .before .before .put-bytes .ensures) (c .before .before .before .before .before .before .put-hex .ensures) (c .before .before .put-byte .ensures)
+returns c =
+    let e = c .before .before .before .before .before .before .before .before .before .before .before .before .before .before .before in
+    line-printed _ _ (payload-parts (e .args .payload .now)) (e .pre)
+    (c .before .before .before .before .before .before .before .before .before .before .put-bytes .ensures)
+    (c .before .before .before .before .before .before .put-hex .ensures) (c .before .before .put-byte .ensures)
 
 pub put-payload-spec : {M : Type 1} → statement M
 put-payload-spec =

@@ -8,19 +8,33 @@ slice-aggregate-put-bytes : tie.Need-slice-aggregate-put-bytes
 slice-aggregate-put-bytes c = search needs
 
 put-bytes-requires : tie.Need-put-bytes-requires
-put-bytes-requires c κs = key-room rowKey (cellsText (c .before .before .before .before .args .cells .now)) (row-parts (c .before .before .before .before .args .cells .now)) (c .before .before .before .before .pre .0)
+put-bytes-requires c κs =
+    let e = c .before .before .before .before in
+    key-room rowKey (cellsText (e .args .cells .now)) (row-parts (e .args .cells .now)) (e .pre .0)
 
 put-cells-requires : tie.Need-put-cells-requires
-put-cells-requires c κs = (value-room _ _ (row-parts (c .before .before .before .before .before .before .before .before .args .cells .now)) (c .before .before .before .before .before .before .before .before .pre .0) (c .before .before .before .put-bytes .ensures), c .before .before .before .before .before .before .before .before .pre .1)
+put-cells-requires c κs =
+    let e = c .before .before .before .before .before .before .before .before in (
+      value-room _ _ (row-parts (e .args .cells .now)) (e .pre .0) (c .before .before .before .put-bytes .ensures),
+      e .pre .1,
+    )
 
 put-byte-requires : tie.Need-put-byte-requires
-put-byte-requires c κs = feed-room _ _ (row-parts (c .before .before .before .before .before .before .before .before .before .before .before .before .args .cells .now)) (c .before .before .before .before .before .before .before .before .before .before .before .before .pre .0) (c .before .before .before .before .before .before .before .put-bytes .ensures) (c .before .before .before .put-cells .ensures)
+put-byte-requires c κs =
+    let e = c .before .before .before .before .before .before .before .before .before .before .before .before in
+    feed-room _ _ (row-parts (e .args .cells .now)) (e .pre .0)
+    (c .before .before .before .before .before .before .before .put-bytes .ensures)
+    (c .before .before .before .put-cells .ensures)
 
 same-length : tie.Need-same-length
 same-length c = search needs
 
 returns : tie.Need-returns
-returns c = line-printed _ _ (row-parts (c .before .before .before .before .before .before .before .before .before .before .before .before .before .before .before .args .cells .now)) (c .before .before .before .before .before .before .before .before .before .before .before .before .before .before .before .pre .0) (c .before .before .before .before .before .before .before .before .before .before .put-bytes .ensures) (c .before .before .before .before .before .before .put-cells .ensures) (c .before .before .put-byte .ensures)
+returns c =
+    let e = c .before .before .before .before .before .before .before .before .before .before .before .before .before .before .before in
+    line-printed _ _ (row-parts (e .args .cells .now)) (e .pre .0)
+    (c .before .before .before .before .before .before .before .before .before .before .put-bytes .ensures)
+    (c .before .before .before .before .before .before .put-cells .ensures) (c .before .before .put-byte .ensures)
 
 pub put-row-spec : {M : Type 1} → statement M
 put-row-spec =

@@ -14,10 +14,15 @@ abbrev μ-loop : tie.MeasureT-loop
 μ-loop out₀ at width lines cells next₀ r₀ out next r = lines - r
 
 behind : (c : tie.In-loop Inv-loop μ-loop) → c .before .loop .r * c .before .before .before .before .args .width + c .before .before .before .before .args .width ≤ length (c .before .before .before .before .args .cells .now)
-behind c = part-behind _ _ (c .before .before .before .before .args .cells .now) (c .before .before .before .before .pre .1 .1) (c .before .before .before .before .pre .0) _ (c .loop-test .taken)
+behind c =
+    let e = c .before .before .before .before in
+    part-behind _ _ (e .args .cells .now) (e .pre .1 .1) (e .pre .0) _ (c .loop-test .taken)
 
 loop-holds : tie.Need-loop-holds Inv-loop μ-loop
-loop-holds c = (zero-le, rows-none (c .before .before .args .width) (c .before .before .args .lines) (c .before .before .args .cells .now) (c .before .before .pre .1 .1) (c .before .before .pre .0))
+loop-holds c =
+    let e = c .before .before in
+    let a = e .args in
+    (zero-le, rows-none (a .width) (a .lines) (a .cells .now) (e .pre .1 .1) (e .pre .0))
 
 mul-first : tie.Need-mul-first Inv-loop μ-loop
 mul-first c = omega (arith, behind c)
@@ -35,10 +40,16 @@ part-put-row-end : tie.Need-part-put-row-end Inv-loop μ-loop
 part-put-row-end c = behind (c .before)
 
 put-row-requires : tie.Need-put-row-requires Inv-loop μ-loop
-put-row-requires c κs = (
-  row-room _ _ _ (c .before .before .before .before .before .before .pre .1 .1) (c .before .before .before .before .before .before .pre .0) _ (c .before .before .loop-test .taken) (c .before .before .before .loop .inv .1),
-  part-cells (c .before .before .before .before .before .before .args .cells .now) (c .before .before .before .before .before .before .pre .1 .0) (c .before .before .before .loop .r * c .before .before .before .before .before .before .args .width) (c .before .before .before .loop .r * c .before .before .before .before .before .before .args .width + c .before .before .before .before .before .before .args .width - c .before .before .before .loop .r * c .before .before .before .before .before .before .args .width) (omega (arith, behind (c .before .before))),
-)
+put-row-requires c κs =
+    let e = c .before .before .before .before .before .before in
+    let pre = e .pre in
+    let a = e .args in
+    let turn = c .before .before .before .loop in
+    let here = c .before .before in (
+      row-room _ _ _ (pre .1 .1) (pre .0) _ (here .loop-test .taken) (turn .inv .1),
+      part-cells (a .cells .now) (pre .1 .0) (turn .r * a .width) (turn .r * a .width + a .width - turn .r * a .width)
+          (omega (arith, behind here)),
+    )
 
 add-r : tie.Need-add-r Inv-loop μ-loop
 add-r c = omega arith
@@ -47,13 +58,26 @@ loop-less : tie.Need-loop-less Inv-loop μ-loop
 loop-less c = omega arith
 
 loop-again : tie.Need-loop-again Inv-loop μ-loop
-loop-again c = (omega arith, row-printed _ _ _ (c .before .before .before .before .before .before .before .before .before .pre .1 .1) (c .before .before .before .before .before .before .before .before .before .pre .0) _ (c .before .before .before .before .before .loop-test .taken) (c .before .before .before .before .before .before .loop .inv .1) (c .before .before .put-row .ensures))
+loop-again c =
+    let pre = c .before .before .before .before .before .before .before .before .before .pre in (
+      omega arith,
+      row-printed _ _ _ (pre .1 .1) (pre .0) _ (c .before .before .before .before .before .loop-test .taken)
+          (c .before .before .before .before .before .before .loop .inv .1) (c .before .before .put-row .ensures),
+    )
 
 same-length : tie.Need-same-length Inv-loop μ-loop
-same-length c = rows-long (c .before .before .before .before .args .width) (c .before .before .before .before .args .lines) (c .before .before .before .before .args .cells .now) (c .before .before .before .before .pre .1 .1) (c .before .before .before .before .pre .0) _ (c .before .loop .inv .0) (c .before .loop .inv .1)
+same-length c =
+    let e = c .before .before .before .before in
+    let a = e .args in
+    rows-long (a .width) (a .lines) (a .cells .now) (e .pre .1 .1) (e .pre .0) _ (c .before .loop .inv .0)
+    (c .before .loop .inv .1)
 
 returns : tie.Need-returns Inv-loop μ-loop
-returns c = rows-all (c .before .before .before .before .args .width) (c .before .before .before .before .args .lines) (c .before .before .before .before .args .cells .now) (c .before .before .before .before .pre .1 .1) (c .before .before .before .before .pre .0) _ (c .before .loop .inv .0) (c .loop-test .left) (c .before .loop .inv .1)
+returns c =
+    let e = c .before .before .before .before in
+    let a = e .args in
+    rows-all (a .width) (a .lines) (a .cells .now) (e .pre .1 .1) (e .pre .0) _ (c .before .loop .inv .0)
+    (c .loop-test .left) (c .before .loop .inv .1)
 
 pub put-rows-spec : {M : Type 1} → statement M
 put-rows-spec =

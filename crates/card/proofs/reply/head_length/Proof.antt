@@ -11,10 +11,14 @@ number-line-length-requires : tie.Need-number-line-length-requires
 number-line-length-requires c κs = search needs
 
 add-result : tie.Need-add-result
-add-result c = omega (arith, length-head (c .before .before .before .args .header) (c .before .before .before .args .key .now) (c .before .before .before .args .n), head-most (c .before .before .before .args .header) (c .before .before .before .args .key .now) (c .before .before .before .args .n))
+add-result c =
+    let a = c .before .before .before .args in
+    omega (arith, length-head (a .header) (a .key .now) (a .n), head-most (a .header) (a .key .now) (a .n))
 
 returns : tie.Need-returns
-returns c = omega (arith, length-head (c .before .before .before .args .header) (c .before .before .before .args .key .now) (c .before .before .before .args .n))
+returns c =
+    let a = c .before .before .before .args in
+    omega (arith, length-head (a .header) (a .key .now) (a .n))
 
 pub head-length-spec : {M : Type 1} → statement M
 head-length-spec =

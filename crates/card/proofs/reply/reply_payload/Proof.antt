@@ -27,13 +27,17 @@ head-length-requires : tie.Need-head-length-requires
 head-length-requires c κs = search needs
 
 add-length : tie.Need-add-length
-add-length c = omega (arith, c .head-length .ensures, head-most (c .before .before .before .before .args .header) mendedKey (c .before .before .before .before .args .mended))
+add-length c =
+    let a = c .before .before .before .before .args in
+    omega (arith, c .head-length .ensures, head-most (a .header) mendedKey (a .mended))
 
 mul-length : tie.Need-mul-length
 mul-length c = omega arith
 
 add-length-2 : tie.Need-add-length-2
-add-length-2 c = omega (arith, c .head-length .ensures, head-most (c .before .before .before .before .args .header) mendedKey (c .before .before .before .before .args .mended))
+add-length-2 c =
+    let a = c .before .before .before .before .args in
+    omega (arith, c .head-length .ensures, head-most (a .header) mendedKey (a .mended))
 
 returns : tie.Need-returns
 returns c = answered-short _ _ _ (total (c .before)) (c .if1 .taken)

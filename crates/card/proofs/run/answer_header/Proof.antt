@@ -11,9 +11,11 @@ use Rattle.card.proofs.run.answer_header.Tie as tie
 
 read : (c : tie.Else1) → BodyRead (c .before .before .before .before .before .before .before .before .args .input .now) (c .before .before .before .before .before .before .before .before .args .header) (c .before .before .before .before .before .before .before .before .args .next) (c .before .before .before .shape .given .0 .0)
 read c =
+    let e = c .before .before .before .before .before .before .before .before in
     record {
-      header = c .before .before .before .before .before .before .before .before .pre;
-      shaped = new-card (c .before .before .before .before .before .before .before .before .args .header) _ (c .before .before .before .before .before .new .ensures .0) _ (c .before .before .before .shape .given .1) _ (c .before .cells .ensures) (c .if1 .left);
+      header = e .pre;
+      shaped = new-card (e .args .header) _ (c .before .before .before .before .before .new .ensures .0) _
+          (c .before .before .before .shape .given .1) _ (c .before .cells .ensures) (c .if1 .left);
     }
 
 new-requires : tie.Need-new-requires
@@ -39,11 +41,14 @@ same-length c = search needs
 
 returns : tie.Need-returns
 returns c =
-    let h = c .before .before .before .before .before .before .before .before .before .before .before .before .args .header in
+    let e = c .before .before .before .before .before .before .before .before .before .before .before .before in
+    let h = e .args .header in
     let made = c .before .before .before .before .before .before .before .before .before .new .ensures .0 in
     let shape = c .before .before .before .before .before .before .before .shape .given .1 in
     answered-same
-    (too-many _ _ _ (c .before .before .before .before .before .before .before .before .before .before .before .before .pre) (new-accepted _ _ made _ shape) (new-many h _ made _ shape _ (c .before .before .before .before .before .cells .ensures) (c .before .before .before .before .if1 .taken)))
+    (too-many _ _ _ (e .pre) (new-accepted _ _ made _ shape)
+    (new-many h _ made _ shape _ (c .before .before .before .before .before .cells .ensures)
+    (c .before .before .before .before .if1 .taken)))
     (c .before .before .refuse2 .ensures)
 
 is-payload-requires : tie.Need-is-payload-requires

@@ -90,7 +90,10 @@ array-share-prefix-payload c =
 
 slice-aggregate-write-card : tie.Need-slice-aggregate-write-card
 slice-aggregate-write-card c =
-    part-count _ (c .before .before .fill-payload .last .1 .1 .0) (drop (c .before .before .before .before .before .before .payload-bytes .result) (replicate maxCardBytes 0)) (long (c .before .before))
+    let here = c .before .before in
+    part-count _ (here .fill-payload .last .1 .1 .0)
+    (drop (c .before .before .before .before .before .before .payload-bytes .result) (replicate maxCardBytes 0))
+    (long here)
 
 array-borrow-prefix-field : tie.Need-array-borrow-prefix-field
 array-borrow-prefix-field c = cells-room (c .before .before .before .before)
@@ -100,11 +103,14 @@ slice-aggregate-write-card-2 c = zeros-count _ maxCardCells (cells-room (c .befo
 
 write-card-requires : tie.Need-write-card-requires
 write-card-requires c κs =
-    let p = c .before .before .before .before .before .before .before .before .before .before .before .before .before .pre in (
+    let here = c .before .before .before .before .before .before in
+    let p = c .before .before .before .before .before .before .before .before .before .before .before .before .before
+    .pre in (
       p .0 .shaped,
       (
-        subst Bytes (sym (again (c .before .before .before .before))) (bytes-read _ _ (ok (c .before .before .before .before .before .before .before .before .before))),
-        sym (zeros-count _ maxCardCells (cells-room (c .before .before .before .before .before .before))) ∙ cells-are _ _ (p .0 .shaped) _ (c .before .before .before .before .before .before .cells .ensures),
+        subst Bytes (sym (again (c .before .before .before .before)))
+            (bytes-read _ _ (ok (c .before .before .before .before .before .before .before .before .before))),
+        sym (zeros-count _ maxCardCells (cells-room here)) ∙ cells-are _ _ (p .0 .shaped) _ (here .cells .ensures),
       ),
     )
 

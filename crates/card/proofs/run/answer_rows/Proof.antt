@@ -36,9 +36,12 @@ again : (c : tie.After-fill-cells)
     → take (c .before .before .before .before .cells .result) (c .fill-cells .last .1 .1 .1 .0 ++ drop (c .before .before .before .before .cells .result) (replicate maxCardCells 0))
     ≡ cellsIn (c .before .before .before .before .before .before .before .before .before .before .before .args .input .now) (c .before .before .before .before .before .before .before .before .before .before .before .args .header) (c .before .before .before .before .before .before .before .before .before .before .before .args .next)
 again c =
+    let pre = c .before .before .before .before .before .before .before .before .before .before .before .pre in
+    let here = c .before .before .before .before in
     part-again _ _ _ (long c)
-    ∙ cells-read _ _ (c .before .before .before .before .before .before .before .before .before .before .before .pre .0 .shaped) _ _ _ _
-    (sym (zeros-count _ maxCardCells (cells-room (c .before .before .before .before))) ∙ cells-are _ _ (c .before .before .before .before .before .before .before .before .before .before .before .pre .0 .shaped) _ (c .before .before .before .before .cells .ensures))
+    ∙ cells-read _ _ (pre .0 .shaped) _ _ _ _
+    (sym (zeros-count _ maxCardCells (cells-room here))
+    ∙ cells-are _ _ (pre .0 .shaped) _ (here .cells .ensures))
     (c .fill-cells .ensures)
 
 cast-rows-ok : tie.Need-cast-rows-ok
@@ -60,7 +63,13 @@ same-length : tie.Need-same-length
 same-length c = search needs
 
 returns : tie.Need-returns
-returns c = answered-same (bad-rows _ _ _ (c .before .before .before .before .before .before .before .before .before .before .pre .0 .header) (c .before .before .before .before .before .before .before .before .before .before .pre .0 .shaped .card) (c .before .before .before .before .before .before .before .before .before .before .pre .1) (failed _ _ (c .before .before .before .before .if1 .taken) (rows-fit _ _ (c .before .before .before .before .before .before .before .before .before .before .pre .0 .shaped) _ _ _ (c .before .before .before .before .before .rows-ok .ensures)))) (c .before .before .refuse .ensures)
+returns c =
+    let pre = c .before .before .before .before .before .before .before .before .before .before .pre in
+    answered-same
+    (bad-rows _ _ _ (pre .0 .header) (pre .0 .shaped .card) (pre .1)
+    (failed _ _ (c .before .before .before .before .if1 .taken)
+    (rows-fit _ _ (pre .0 .shaped) _ _ _ (c .before .before .before .before .before .rows-ok .ensures))))
+    (c .before .before .refuse .ensures)
 
 cells-requires : tie.Need-cells-requires
 cells-requires c κs = search needs
@@ -79,18 +88,24 @@ slice-aggregate-fill-cells c = zeros-count _ maxCardCells (cells-room (c .before
 
 fill-cells-requires : tie.Need-fill-cells-requires
 fill-cells-requires c κs =
+    let pre = c .before .before .before .before .before .before .before .before .before .before .pre in
+    let here = c .before .before .before in
     record {
-      inside = header-found _ _ _ (c .before .before .before .before .before .before .before .before .before .before .pre .0 .header .found) .inside;
-      some = columns-some _ _ (c .before .before .before .before .before .before .before .before .before .before .pre .0 .shaped);
-      narrow = columns-narrow _ _ (c .before .before .before .before .before .before .before .before .before .before .pre .0 .shaped);
-      cells = omega (arith, cells-room (c .before .before .before), zeros-count (c .before .before .before .cells .result) maxCardCells (cells-room (c .before .before .before)));
+      inside = header-found _ _ _ (pre .0 .header .found) .inside;
+      some = columns-some _ _ (pre .0 .shaped);
+      narrow = columns-narrow _ _ (pre .0 .shaped);
+      cells = omega (arith, cells-room here, zeros-count (here .cells .result) maxCardCells (cells-room here));
     }
 
 array-share-prefix-field : tie.Need-array-share-prefix-field
 array-share-prefix-field c = part-within _ (c .before .fill-cells .last .1 .1 .1 .0) (drop (c .before .before .before .before .before .cells .result) (replicate maxCardCells 0)) (long (c .before))
 
 slice-aggregate-read-card : tie.Need-slice-aggregate-read-card
-slice-aggregate-read-card c = part-count _ (c .before .before .fill-cells .last .1 .1 .1 .0) (drop (c .before .before .before .before .before .before .cells .result) (replicate maxCardCells 0)) (long (c .before .before))
+slice-aggregate-read-card c =
+    let here = c .before .before in
+    part-count _ (here .fill-cells .last .1 .1 .1 .0)
+    (drop (c .before .before .before .before .before .before .cells .result) (replicate maxCardCells 0))
+    (long here)
 
 array-borrow-prefix-payload : tie.Need-array-borrow-prefix-payload
 array-borrow-prefix-payload c = bytes-room (c .before .before .before .before .before)
@@ -99,18 +114,30 @@ slice-aggregate-read-card-2 : tie.Need-slice-aggregate-read-card-2
 slice-aggregate-read-card-2 c = zeros-count _ maxCardBytes (bytes-room (c .before .before .before .before .before .before))
 
 read-card-requires : tie.Need-read-card-requires
-read-card-requires c κs = (c .before .before .before .before .before .before .before .before .before .before .before .before .before .before .before .pre .0 .shaped, zeros-take _ maxCardBytes (bytes-room (c .before .before .before .before .before .before .before)) ∙ ap (λ (n : ℕ). replicate n 0) (bytes-planned (c .before .before .before .before .before .before .before) ∙ ap planBytes (c .before .before .before .before .before .before .before .before .before .before .before .before .before .before .before .pre .0 .shaped .shape)))
+read-card-requires c κs =
+    let pre = c .before .before .before .before .before .before .before .before .before .before .before .before .before .before .before .pre in
+    let here = c .before .before .before .before .before .before .before in (
+      pre .0 .shaped,
+      zeros-take _ maxCardBytes (bytes-room here)
+          ∙ ap (λ (n : ℕ). replicate n 0) (bytes-planned here ∙ ap planBytes (pre .0 .shaped .shape)),
+    )
 
 same-length-2 : tie.Need-same-length-2
 same-length-2 c = search needs
 
 returns-2 : tie.Need-returns-2
 returns-2 c =
+    let e = c .before .before .before .before .before .before .before .before .before .before .before .before .before .before .before .before .before .before .before in
+    let pre = e .pre in
     answered-same
-    (ap (decodedText (c .before .before .before .before .before .before .before .before .before .before .before .before .before .before .before .before .before .before .before .args .header)) (again (c .before .before .before .before .before .before .before .before))
-    ∙ sym
-    (rows-read _ _ _ (c .before .before .before .before .before .before .before .before .before .before .before .before .before .before .before .before .before .before .before .pre .0 .header) (c .before .before .before .before .before .before .before .before .before .before .before .before .before .before .before .before .before .before .before .pre .0 .shaped .card) (c .before .before .before .before .before .before .before .before .before .before .before .before .before .before .before .before .before .before .before .pre .1)
-    (passed _ _ (c .before .before .before .before .before .before .before .before .before .before .before .before .before .if1 .left) (rows-fit _ _ (c .before .before .before .before .before .before .before .before .before .before .before .before .before .before .before .before .before .before .before .pre .0 .shaped) _ _ _ (c .before .before .before .before .before .before .before .before .before .before .before .before .before .before .rows-ok .ensures)))))
+    (ap (decodedText (e .args .header))
+    (again (c .before .before .before .before .before .before .before .before))
+    ∙ sym (rows-read _ _ _ (pre .0 .header) (pre .0 .shaped .card) (pre .1)
+    (passed _ _
+    (c .before .before .before .before .before .before .before .before .before .before .before .before
+    .before .if1 .left)
+    (rows-fit _ _ (pre .0 .shaped) _ _ _ (c .before .before .before .before .before .before .before
+    .before .before .before .before .before .before .before .rows-ok .ensures)))))
     (c .before .before .before .read-card .ensures)
 
 pub answer-rows-spec : {M : Type 1} → statement M

@@ -18,7 +18,9 @@ returns : tie.Need-returns
 returns c = search needs
 
 returns-2 : tie.Need-returns-2
-returns-2 c = byte-behind (c .before .before .args .text .now) (c .before .before .args .at + c .before .before .args .j) (omega arith)
+returns-2 c =
+    let a = c .before .before .args in
+    byte-behind (a .text .now) (a .at + a .j) (omega arith)
 
 returns-3 : tie.Need-returns-3
 returns-3 c = byte-behind (c .before .args .text .now) (c .before .args .at + c .before .args .j) (omega arith)

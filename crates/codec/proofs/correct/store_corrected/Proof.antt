@@ -22,12 +22,15 @@ same-length c = search needs
 
 returns : tie.Need-returns
 returns c =
+    let turn-cells = c .before .before .before .turn-cells in
     let e = c .before .before .before .before .before .before .before .before .before .before in
     let ok = e .pre .0 .fits .accepted in
-    let own = classes-given _ ok _ (c .before .before .before .before .before .before .before .before .classes .ensures) in
-    let damaged = all-damaged _ (e .args .field .now) _ (e .pre .0) (e .pre .1) _ own _ (c .before .before .before .before .before .before .cells-at .ensures .0 ok) in (
-      mended-cells _ (e .args .field .now) _ (e .pre .0) (e .pre .1) _ own _ (c .before .before .before .turn-cells .kept .1 .1 .0)
-          (c .before .before .before .turn-cells .ensures _ (sym (e .pre .0 .fits .long)) damaged),
+    let own = classes-given _ ok _
+    (c .before .before .before .before .before .before .before .before .classes .ensures) in
+    let damaged = all-damaged _ (e .args .field .now) _ (e .pre .0) (e .pre .1) _ own _
+    (c .before .before .before .before .before .before .cells-at .ensures .0 ok) in (
+      mended-cells _ (e .args .field .now) _ (e .pre .0) (e .pre .1) _ own _ (turn-cells .kept .1 .1 .0)
+          (turn-cells .ensures _ (sym (e .pre .0 .fits .long)) damaged),
       mended-count _ (e .args .field .now) _ (e .pre .0) (e .pre .1) _ own _ (c .count-damaged .ensures),
     )
 

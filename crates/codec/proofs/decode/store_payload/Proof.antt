@@ -44,9 +44,14 @@ gather-requires c κs =
 
 mend-payload-requires : tie.Need-mend-payload-requires
 mend-payload-requires c κs =
-    let e = c .before .before .before .before .before .before .before .before .before .before .before .before .before .before .before .before .before in
-    let listed = c .before .before .before .before .before .before .before .before .before .before .before .before .check-cells .ensures in
-    let long = c .before .before .before .before .gather .kept .1 .1 .1 .1 .1 .0 ∙ c .before .before .before .before .before .before .before .before .before .clear .kept .0 ∙ e .pre .1 .1 in (
+    let gather = c .before .before .before .before .gather in
+    let e = c .before .before .before .before .before .before .before .before .before .before .before .before .before
+    .before .before .before .before in
+    let listed = c .before .before .before .before .before .before .before .before .before .before .before .before
+    .check-cells .ensures in
+    let long = gather .kept .1 .1 .1 .1 .1 .0
+    ∙ c .before .before .before .before .before .before .before .before .before .clear .kept .0
+    ∙ e .pre .1 .1 in (
       all (c .before .before .before .before .before .before .before .before .before .before .before),
       (
         e .pre .0,
@@ -54,7 +59,7 @@ mend-payload-requires c κs =
           e .pre .1 .0 .held,
           (
             (listed .1, listed .0 (e .pre .0 .fits .accepted) (e .pre .1 .0 .sized .at) .0),
-            gathered-bits _ _ _ (received-cells _ _ (e .pre .0 .cells)) long (c .before .before .before .before .gather .ensures),
+            gathered-bits _ _ _ (received-cells _ _ (e .pre .0 .cells)) long (gather .ensures),
           ),
         ),
       ),

@@ -41,17 +41,21 @@ element-copy-out-if1-2 c = below (c .before)
 
 returns : tie.Need-returns Inv-loop μ-loop
 returns c =
+    let turn = c .before .before .before .before .loop in
     let a = c .before .before .before .before .before .args in
-    last-fails (reaches (a .sizes .now) (a .syndromes .now)) (a .m) (c .before .before .before .before .loop .left) (c .before .before .before .before .loop .inv .1) (c .before .before .before .loop-test .taken) (lt-leb _ _ (c .if1 .taken))
+    last-fails (reaches (a .sizes .now) (a .syndromes .now)) (a .m) (turn .left) (turn .inv .1)
+    (c .before .before .before .loop-test .taken) (lt-leb _ _ (c .if1 .taken))
 
 loop-less : tie.Need-loop-less Inv-loop μ-loop
 loop-less c = omega arith
 
 loop-again : tie.Need-loop-again Inv-loop μ-loop
 loop-again c =
+    let turn = c .before .before .before .before .loop in
     let a = c .before .before .before .before .before .args in (
       omega arith,
-      last-passes (reaches (a .sizes .now) (a .syndromes .now)) (a .m) (c .before .before .before .before .loop .left) (c .before .before .before .before .loop .inv .1) (c .before .before .before .loop-test .taken) (le-leb _ _ (c .if1 .left)),
+      last-passes (reaches (a .sizes .now) (a .syndromes .now)) (a .m) (turn .left) (turn .inv .1)
+          (c .before .before .before .loop-test .taken) (le-leb _ _ (c .if1 .left)),
     )
 
 returns-2 : tie.Need-returns-2 Inv-loop μ-loop

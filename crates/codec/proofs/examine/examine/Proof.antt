@@ -31,8 +31,12 @@ examined : (c : tie.After-field-syndromes)
     → let e = entry (c .before .before .before .before) in
     Examined (e .args .shape) (e .args .field .now) (e .args .sizes .now) (c .field-syndromes .last .1 .1 .0)
 examined c =
-    let e = entry (c .before .before .before .before) in
-    record { sized = e .pre .1 .0; held = c .field-syndromes .ensures (e .args .shape) (e .pre .0 .accepted) (own (c .before .before .before .before)) }
+    let here = c .before .before .before .before in
+    let e = entry here in
+    record {
+      sized = e .pre .1 .0;
+      held = c .field-syndromes .ensures (e .args .shape) (e .pre .0 .accepted) (own here);
+    }
 
 cells : (c : tie.After-cells-ok)
     → let e = entry (c .before) in c .cells-ok .result ≡ cellsOk (fieldOf (e .args .field .now)) (cellsOf (e .args .shape))
@@ -41,15 +45,10 @@ cells c = let e = entry (c .before) in c .cells-ok .ensures ∙ ap (cellsOk (fie
 reach : (c : tie.After-all-in-reach)
     → let e = entry (c .before .before .before .before .before .before) in c .all-in-reach .result ≡ fieldInReach (e .args .shape) (fieldOf (e .args .field .now))
 reach c =
-    let e = entry (c .before .before .before .before .before .before) in
-    all-reach
-    _
-    (e .args .field .now)
-    _ _ _ _
-    (e .pre .0 .accepted)
-    (examined (c .before .before))
-    (classes-are _ (e .pre .0 .accepted) _ (own (c .before .before .before .before .before .before)))
-    (c .all-in-reach .ensures)
+    let here = c .before .before .before .before .before .before in
+    let e = entry here in
+    all-reach _ (e .args .field .now) _ _ _ _ (e .pre .0 .accepted) (examined (c .before .before))
+    (classes-are _ (e .pre .0 .accepted) _ (own here)) (c .all-in-reach .ensures)
 
 cells-hold : (c : tie.Else1)
     → let e = entry (c .before .before) in cellsOk (fieldOf (e .args .field .now)) (cellsOf (e .args .shape)) ≡ true
@@ -70,18 +69,21 @@ returns c = (number-cell _ _ (failed _ _ (c .if1 .taken) (cells (c .before))), �
 
 field-syndromes-requires : tie.Need-field-syndromes-requires
 field-syndromes-requires c κs =
-    let e = entry (c .before .before .before) in
+    let here = c .before .before .before in
+    let e = entry here in
     let fits = e .pre .0 in (
       (
-        record { shape = _; accepted = fits .accepted; same = own (c .before .before .before) },
-        fits .long ∙ sym (all (c .before .before .before)),
+        record { shape = _; accepted = fits .accepted; same = own here },
+        fits .long ∙ sym (all here),
         rw (c .field-syndromes-arg .given .0 .1) (le-refl _),
       ),
       (cells-tested _ _ fits (cells-hold (c .before)), e .pre .1 .1),
     )
 
 all-in-reach-requires : tie.Need-all-in-reach-requires
-all-in-reach-requires c κs = most _ (entry (c .before .before .before .before .before) .pre .0 .accepted) _ (own (c .before .before .before .before .before))
+all-in-reach-requires c κs =
+    let here = c .before .before .before .before .before in
+    most _ (entry here .pre .0 .accepted) _ (own here)
 
 returns-2 : tie.Need-returns-2
 returns-2 c = (

@@ -52,15 +52,22 @@ cast-end c =
 
 gather-run-requires : tie.Need-gather-run-requires Inv-loop μ-loop
 gather-run-requires c κs =
+    let there = c .before .before .before in
     let e = c .before .before .before .before .before .before in
-    let turn = c .before .before .before .loop in
+    let turn = there .loop in
     let inside = c .before .before .loop-test .taken in
-    let here = before (c .before .before .before) in
-    let run = next-run _ _ _ _ (own (c .before .before .before)) (le-of-eq (e .pre .0)) (turn .k) (turn .begin) (turn .inv .1) here inside in (
+    let here = before there in
+    let run = next-run _ _ _ _ (own there) (le-of-eq (e .pre .0)) (turn .k) (turn .begin) (turn .inv .1) here
+    inside in (
       (
         checks-before _ _ _ here,
         run .ordered,
-        omega (arith, e .pre .0, e .pre .1 .0 .long, listed-inside _ _ _ _ (e .pre .0) (e .pre .1 .1 .1 .0 .1) _ inside),
+        omega (
+          arith,
+          e .pre .0,
+          e .pre .1 .0 .long,
+          listed-inside _ _ _ _ (e .pre .0) (e .pre .1 .1 .1 .0 .1) _ inside,
+        ),
       ),
       e .pre .1 .1 .0,
     )
@@ -98,10 +105,15 @@ loop-again c =
 
 gather-run-requires-2 : tie.Need-gather-run-requires-2 Inv-loop μ-loop
 gather-run-requires-2 c κs =
+    let here = c .before .before in
     let e = c .before .before .before .before .before in
-    let turn = c .before .before .loop in
+    let turn = here .loop in
     let all : turn .k ≡ e .args .amount = le-antisymm (turn .inv .0) (c .before .loop-test .left) in (
-      (omega (arith, checks-before _ _ _ (before (c .before .before))), turn .inv .1, le-of-eq (e .pre .0 ∙ sym (e .pre .1 .0 .long))),
+      (
+        omega (arith, checks-before _ _ _ (before here)),
+        turn .inv .1,
+        le-of-eq (e .pre .0 ∙ sym (e .pre .1 .0 .long)),
+      ),
       e .pre .1 .1 .0,
     )
 
@@ -110,15 +122,17 @@ same-length c = c .before .before .gather-run2 .kept .1 .0 ∙ c .before .before
 
 returns : tie.Need-returns Inv-loop μ-loop
 returns c =
+    let here = c .before .before .before .before .before in
     let e = c .before .before .before .before .before .before .before .before in
-    let turn = c .before .before .before .before .before .loop in
-    let lists = own (c .before .before .before .before .before) in
+    let turn = here .loop in
+    let lists = own here in
     let last = c .before .before .gather-run2 in
-    let all : turn .k ≡ e .args .amount = le-antisymm (turn .inv .0) (c .before .before .before .before .loop-test .left) in
+    let all : turn .k
+    ≡ e .args .amount = le-antisymm (turn .inv .0) (c .before .before .before .before .loop-test .left) in
     let held = turn .inv .3 _ (sym (e .pre .0)) lists in
     let run = last-run _ _ _ _ lists (le-of-eq (e .pre .0)) (turn .begin) (turn .inv .1) (held .0 ∙ all) in
-    subst (λ (n : ℕ). HoldsBytes (layoutOf (e .args .shape)) (fieldOf (e .args .field .now)) (last .last .1 .0) n) (e .pre .0)
-    (last .ensures _ run (held .1))
+    subst (λ (n : ℕ). HoldsBytes (layoutOf (e .args .shape)) (fieldOf (e .args .field .now)) (last .last .1 .0) n)
+    (e .pre .0) (last .ensures _ run (held .1))
 
 pub gather-spec : {M : Type 1} → statement M
 gather-spec =

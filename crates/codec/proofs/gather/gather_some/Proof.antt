@@ -49,11 +49,11 @@ same-length-2 c = search needs
 
 returns-2 : tie.Need-returns-2
 returns-2 c =
+    let store-bit = c .before .before .store-bit in
     let e = c .before .before .before .before .before .before .before .before .before in (
       (omega arith, omega arith),
-      λ L run holds.
-          gathered-cell L _ _ _ holds _ _ run _ (e .pre .0 .1) (c .before .before .store-bit .kept .0)
-          (rw (c .before .before .before .cell-at .ensures) at (c .before .before .store-bit .ensures)),
+      λ L run holds. gathered-cell L _ _ _ holds _ _ run _ (e .pre .0 .1) (store-bit .kept .0)
+          (rw (c .before .before .before .cell-at .ensures) at (store-bit .ensures)),
     )
 
 pub gather-some-spec : {M : Type 1} → statement M

@@ -16,7 +16,9 @@ mul-payload : tie.Need-mul-payload
 mul-payload c = omega (arith, c .slice-known .given (c .before .before .args .rank / 8))
 
 add-payload : tie.Need-add-payload
-add-payload c = omega (arith, c .slice-known .given (c .before .before .args .rank / 8), c .before .before .fits .value)
+add-payload c =
+    let e = c .before .before in
+    omega (arith, c .slice-known .given (e .args .rank / 8), e .fits .value)
 
 cast-payload-2 : tie.Need-cast-payload-2
 cast-payload-2 c = search needs

@@ -28,8 +28,9 @@ module _ (c : tie.After-class-sizes) where
 
 planned : (c : tie.After-data-in) → c .data-in .result / 8 ≡ planBytes (c .before .before .before .before .before .before .before .before .before .before .args .shape)
 planned c =
+    let here = c .before .before .before in
     let own = c .before .classes .ensures in
-    bytes-given _ _ _ _ (accepted (c .before .before .before)) (sized (c .before .before .before)) own (c .data-in .ensures (rw own (classes-given _)))
+    bytes-given _ _ _ _ (accepted here) (sized here) own (c .data-in .ensures (rw own (classes-given _)))
 
 bytes : (c : tie.Else1) → length (c .before .before .before .before .before .before .before .before .before .before .before .args .payload .now) ≡ planBytes (c .before .before .before .before .before .before .before .before .before .before .before .args .shape)
 bytes c = c .if1 .left ∙ planned (c .before)

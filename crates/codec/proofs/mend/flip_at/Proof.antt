@@ -29,10 +29,14 @@ same-length c = search needs
 
 returns-3 : tie.Need-returns-3
 returns-3 c =
+    let flip-bit = c .before .before .flip-bit in
     λ L same lists f holds.
-    let before = c .before .before .before .before .before .before .before .checks-before .ensures .1 L lists (omega arith) in
-    bits-unlisted L f _ _ _ _ lists _ (omega arith) before (c .before .before .before .before .before .before .is-at .ensures .1 (c .before .before .before .before .before .if2 .left)) _
-    (c .before .before .flip-bit .kept .0) (c .before .before .flip-bit .ensures) holds
+    let before = c .before .before .before .before .before .before .before .checks-before .ensures .1 L lists
+    (omega arith) in
+    bits-unlisted L f _ _ _ _ lists _ (omega arith) before
+    (c .before .before .before .before .before .before .is-at .ensures .1
+    (c .before .before .before .before .before .if2 .left))
+    _ (flip-bit .kept .0) (flip-bit .ensures) holds
 
 returns-4 : tie.Need-returns-4
 returns-4 c =

@@ -34,12 +34,13 @@ cells-requires c κs = search needs
 returns-2 : tie.Need-returns-2
 unfolding planClasses planCapacity planBytes planCells
 returns-2 c =
+    let capacity2 = c .before .before .capacity in
     let e = c .before .before .before in
     record {
       number = sym (told-none (e .before .before .tests .ensures) (e .enum-told .given .1));
       classes = c .before .classes .ensures;
-      capacity = c .before .before .capacity .ensures;
-      bytes = ap (λ (k : ℕ). k / 8) (c .before .before .capacity .ensures);
+      capacity = capacity2 .ensures;
+      bytes = ap (λ (k : ℕ). k / 8) (capacity2 .ensures);
       cells = c .cells .ensures;
     }
 

@@ -93,10 +93,10 @@ same-length c = c .before .before .loop .inv .1
 
 returns : tie.Need-returns Inv-loop μ-loop
 returns c =
+    let turn = c .before .before .loop in
     let e = c .before .before .before .before in
-    let n : c .before .before .loop .l ≡ e .args .pass .lines = omega arith in
-    λ s accepted same a.
-    c .before .before .loop .inv .2 s accepted same .1 a ∙ ap (startsAt (lineStart (settingsOf s) (s .rows)) a) n
+    let n : turn .l ≡ e .args .pass .lines = omega arith in
+    λ s accepted same a. turn .inv .2 s accepted same .1 a ∙ ap (startsAt (lineStart (settingsOf s) (s .rows)) a) n
 
 pub count-starts-spec : {M : Type 1} → statement M
 count-starts-spec =

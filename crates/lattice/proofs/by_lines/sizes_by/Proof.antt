@@ -28,11 +28,12 @@ slice-aggregate-sum-starts-2 c = search needs
 -- no place has more lines than there are cells
 entry : (c : tie.After-count-starts) → (a : ℕ) → getD (c .count-starts .last .1 .0) a 0 ≤ maxCells
 entry c a =
-    let p = c .before .before .before .pre .0 .0 in
+    let e = c .before .before .before in
+    let p = e .pre .0 .0 in
     omega (
       arith,
       c .count-starts .ensures (p .shape) (p .accepted) (p .same) a,
-      starts-most (lineStart (settingsOf (p .shape)) (p .shape .rows)) a (c .before .before .before .args .pass .lines),
+      starts-most (lineStart (settingsOf (p .shape)) (p .shape .rows)) a (e .args .pass .lines),
       lines-most (p .shape) (p .accepted) _ (p .same),
     )
 
@@ -95,13 +96,15 @@ same-length c = search needs
 
 returns : tie.Need-returns
 returns c =
-    let e = c .before .before .before .before .before .before .before .before .before .before .before .before .before .before .before .before in
+    let spread = c .before .before .spread in
+    let e = c .before .before .before .before .before .before .before .before .before .before .before .before .before
+    .before .before .before in
     let sums = c .before .before .before .before .before .before .before .before .before .sum-starts in
-    let counts = c .before .before .before .before .before .before .before .before .before .before .before .before .before .count-starts in
-    λ s accepted same.
-    sizes-right s accepted _ same (counts .last .1 .0) (sums .last .1 .1 .0) (counts .ensures s accepted same) (sums .ensures)
-    (e .args .sizes .now) (c .before .before .spread .last .1 .1 .1 .1 .0) (e .pre .1) (c .before .before .spread .ensures .0)
-    (c .before .before .spread .ensures .1)
+    let counts = c .before .before .before .before .before .before .before .before .before .before .before .before
+    .before .count-starts in
+    λ s accepted same. sizes-right s accepted _ same (counts .last .1 .0) (sums .last .1 .1 .0)
+    (counts .ensures s accepted same) (sums .ensures) (e .args .sizes .now) (spread .last .1 .1 .1 .1 .0)
+    (e .pre .1) (spread .ensures .0) (spread .ensures .1)
 
 pub sizes-by-spec : {M : Type 1} → statement M
 sizes-by-spec =

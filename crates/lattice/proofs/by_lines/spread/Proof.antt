@@ -76,17 +76,17 @@ loop-less : tie.Need-loop-less Inv-loop μ-loop
 loop-less c = omega arith
 
 loop-again : tie.Need-loop-again Inv-loop μ-loop
-loop-again c = (
-  omega arith,
-  simp length-set (c .before .before .before .loop .inv .1),
-  store-more (λ k n. n + getD (c .before .before .before .before .args .heads .now)
-      (k + 1 + c .before .before .before .before .args .m - c .before .before .before .before .args .gap) 0
-      ≡ c .before .before .before .before .args .base + getD (c .before .before .before .before .args .heads .now)
-      (k + 1 + c .before .before .before .before .args .m) 0) (c .before .before .before .loop .sizes) _ _ (omega arith)
-      (c .before .before .before .loop .inv .2) (omega (arith, less (c .before .before))),
-  store-left (c .before .before .before .before .args .sizes .now) (c .before .before .before .loop .sizes) _ _
-      (c .before .before .before .loop .inv .3),
-)
+loop-again c =
+    let a = c .before .before .before .before .args in
+    let turn = c .before .before .before .loop in (
+      omega arith,
+      simp length-set (turn .inv .1),
+      store-more
+          (λ k n. n + getD (a .heads .now) (k + 1 + a .m - a .gap) 0
+          ≡ a .base + getD (a .heads .now) (k + 1 + a .m) 0)
+          (turn .sizes) _ _ (omega arith) (turn .inv .2) (omega (arith, less (c .before .before))),
+      store-left (a .sizes .now) (turn .sizes) _ _ (turn .inv .3),
+    )
 
 same-length : tie.Need-same-length Inv-loop μ-loop
 same-length c = c .before .loop .inv .1

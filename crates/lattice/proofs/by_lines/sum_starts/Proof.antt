@@ -32,7 +32,9 @@ module _ (c : tie.In-loop Inv-loop μ-loop) where
   entry = c .before .before .before .before .pre .1 .0 (c .before .loop .a) place
 
 loop-holds : tie.Need-loop-holds Inv-loop μ-loop
-loop-holds c = (zero-le, refl, sym (zero-mod _), sums-none _ (c .before .before .args .heads .now) (c .before .before .pre .1 .1))
+loop-holds c =
+    let e = c .before .before in
+    (zero-le, refl, sym (zero-mod _), sums-none _ (e .args .heads .now) (e .pre .1 .1))
 
 mul-loop : tie.Need-mul-loop Inv-loop μ-loop
 mul-loop c = omega arith
@@ -51,12 +53,8 @@ shared-slice-read-heads c = omega (arith, place (c .before .before))
 
 add-heads : tie.Need-add-heads Inv-loop μ-loop
 add-heads c =
-    omega (
-      arith,
-      entry (c .before .before),
-      c .before .before .before .loop .inv .3 .most
-          (c .before .before .before .loop .y) (omega arith),
-    )
+    let turn = c .before .before .before .loop in
+    omega (arith, entry (c .before .before), turn .inv .3 .most (turn .y) (omega arith))
 
 add-heads-2 : tie.Need-add-heads-2 Inv-loop μ-loop
 add-heads-2 c = omega arith
@@ -77,24 +75,17 @@ loop-less : tie.Need-loop-less Inv-loop μ-loop
 loop-less c = omega arith
 
 loop-again : tie.Need-loop-again Inv-loop μ-loop
-loop-again c = (
-  omega arith,
-  simp length-set (c .before .before .before .before .loop .inv .1),
-  place-next _ (c .before .before .before .before .loop .y) _ _ (c .before .before .before .before .loop .inv .2)
-      (c .next-place .ensures (place (c .before .before .before))),
-  sums-more (λ k. getD (c .before .before .before .before .before .before .before .args .starts .now)
-      (k % c .before .before .before .before .before .before .before .args .m) 0) (c .before .before .before .before .loop .y)
-      (c .before .before .before .before .loop .heads) _ (c .before .before .before .before .loop .inv .3) (omega arith) (ap (λ
-      (k : ℕ). getD (c .before .before .before .before .loop .heads) (c .before .before .before .before .loop .y) 0 + getD
-      (c .before .before .before .before .before .before .before .args .starts .now) k 0)
-      (c .before .before .before .before .loop .inv .2)) (omega (
-        arith,
-        entry (c .before .before .before),
-        ap (λ (k : ℕ). getD
-            (c .before .before .before .before .before .before .before .args .starts .now) k 0)
-            (c .before .before .before .before .loop .inv .2),
-      )),
-)
+loop-again c =
+    let a = c .before .before .before .before .before .before .before .args in
+    let turn = c .before .before .before .before .loop in
+    let here = c .before .before .before in (
+      omega arith,
+      simp length-set (turn .inv .1),
+      place-next _ (turn .y) _ _ (turn .inv .2) (c .next-place .ensures (place here)),
+      sums-more (λ k. getD (a .starts .now) (k % a .m) 0) (turn .y) (turn .heads) _ (turn .inv .3) (omega arith)
+          (ap (λ (k : ℕ). getD (turn .heads) (turn .y) 0 + getD (a .starts .now) k 0) (turn .inv .2))
+          (omega (arith, entry here, ap (λ (k : ℕ). getD (a .starts .now) k 0) (turn .inv .2))),
+    )
 
 same-length : tie.Need-same-length Inv-loop μ-loop
 same-length c = c .before .loop .inv .1

@@ -31,20 +31,19 @@ mul-z-2 c =
 
 add-z : tie.Need-add-z
 add-z c =
-    fits-below
-    tt
-    (add-le-add
-    (product-16-32 (c .struct-known3 .given .1 .0) (c .before .before .before .before .fits .row))
-    (product-16-32 (c .struct-known3 .given .1 .1 .0) (c .before .before .before .before .fits .plane)))
+    let fits = c .before .before .before .before .fits in
+    fits-below tt (add-le-add (product-16-32 (c .struct-known3 .given .1 .0) (fits .row))
+    (product-16-32 (c .struct-known3 .given .1 .1 .0) (fits .plane)))
 
 minus-mod-requires : tie.Need-minus-mod-requires
 minus-mod-requires c κs =
+    let fits = c .before .before .before .before .fits in
     omega (
       arith,
       most-16 (c .struct-known3 .given .0),
-      most-32 (c .before .before .before .before .fits .column),
-      product-16-32 (c .struct-known3 .given .1 .0) (c .before .before .before .before .fits .row),
-      product-16-32 (c .struct-known3 .given .1 .1 .0) (c .before .before .before .before .fits .plane),
+      most-32 (fits .column),
+      product-16-32 (c .struct-known3 .given .1 .0) (fits .row),
+      product-16-32 (c .struct-known3 .given .1 .1 .0) (fits .plane),
     )
 
 returns-2 : tie.Need-returns-2

@@ -22,11 +22,8 @@ sub-result-2 c = search needs
 
 returns-3 : tie.Need-returns-3
 returns-3 c =
-    λ below less. omega (
-      arith,
-      back-below (c .before .before .args .m) (omega arith) (c .before .before .args .start)
-          (c .before .before .args .step) (omega arith) less,
-    )
+    let a = c .before .before .args in
+    λ below less. omega (arith, back-below (a .m) (omega arith) (a .start) (a .step) (omega arith) less)
 
 pub next-start-spec : {M : Type 1} → statement M
 next-start-spec = tie.close (tie.spec returns sub-if2 returns-2 sub-result sub-result-2 returns-3)

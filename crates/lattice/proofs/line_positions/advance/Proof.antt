@@ -51,18 +51,20 @@ cast-e-2 c =
 
 add-e-2 : tie.Need-add-e-2 Inv-loop μ-loop
 add-e-2 c =
+    let turn = c .before .before .before .loop in
     omega (
       arith,
-      c .before .slice-known .given (c .before .before .before .loop .y),
-      c .shared-slice-known .given (c .before .before .before .loop .y + c .before .before .before .before .args .from),
+      c .before .slice-known .given (turn .y),
+      c .shared-slice-known .given (turn .y + c .before .before .before .before .args .from),
     )
 
 add-e-3 : tie.Need-add-e-3 Inv-loop μ-loop
 add-e-3 c =
+    let turn = c .before .before .before .loop in
     omega (
       arith,
-      c .before .slice-known .given (c .before .before .before .loop .y),
-      c .shared-slice-known .given (c .before .before .before .loop .y + c .before .before .before .before .args .from),
+      c .before .slice-known .given (turn .y),
+      c .shared-slice-known .given (turn .y + c .before .before .before .before .args .from),
     )
 
 cast-e-3 : tie.Need-cast-e-3 Inv-loop μ-loop

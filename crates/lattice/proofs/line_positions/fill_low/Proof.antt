@@ -35,13 +35,14 @@ loop-less : tie.Need-loop-less Inv-loop μ-loop
 loop-less c = omega arith
 
 loop-again : tie.Need-loop-again Inv-loop μ-loop
-loop-again c = (
-  omega arith,
-  simp length-set (c .before .before .loop .inv .1),
-  store-more (λ k n. n ≡ c .before .before .before .before .args .up + cond (ltb k
-      (c .before .before .before .before .args .gap)) 1 0) (c .before .before .loop .p) _ _ (omega arith)
-      (c .before .before .loop .inv .2) (c .raised .ensures),
-)
+loop-again c =
+    let a = c .before .before .before .before .args in
+    let turn = c .before .before .loop in (
+      omega arith,
+      simp length-set (turn .inv .1),
+      store-more (λ k n. n ≡ a .up + cond (ltb k (a .gap)) 1 0) (turn .p) _ _ (omega arith) (turn .inv .2)
+          (c .raised .ensures),
+    )
 
 same-length : tie.Need-same-length Inv-loop μ-loop
 same-length c = c .before .loop .inv .1

@@ -19,14 +19,10 @@ same-length c = search needs
 
 returns : tie.Need-returns
 returns c =
-    filled-first
-    _ _
-    (omega arith)
-    (c .before .before .before .before .before .before .fill-low .last .0)
-    (c .before .before .repeat .last .0)
-    (c .before .before .repeat .ensures .0)
-    (c .before .before .before .before .before .before .fill-low .ensures)
-    (repeats-less _ _ _ _ (c .before .before .repeat .last .0) (omega arith) (c .before .before .repeat .ensures .1))
+    let fill-low = c .before .before .before .before .before .before .fill-low in
+    let repeat = c .before .before .repeat in
+    filled-first _ _ (omega arith) (fill-low .last .0) (repeat .last .0) (repeat .ensures .0) (fill-low .ensures)
+    (repeats-less _ _ _ _ (repeat .last .0) (omega arith) (repeat .ensures .1))
 
 pub first-positions-spec : {M : Type 1} → statement M
 first-positions-spec = tie.close (tie.spec fill-low-requires repeat-requires same-length returns)

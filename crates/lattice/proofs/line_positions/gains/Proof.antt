@@ -13,37 +13,37 @@ div-fill-low : tie.Need-div-fill-low
 div-fill-low c = search needs
 
 cast-fill-low : tie.Need-cast-fill-low
-cast-fill-low c = omega (arith, quotient-most (c .before .before .args .n) (c .before .before .args .m))
+cast-fill-low c =
+    let a = c .before .before .args in
+    omega (arith, quotient-most (a .n) (a .m))
 
 fill-low-requires : tie.Need-fill-low-requires
-fill-low-requires c κs = (omega arith, omega (arith, quotient-most (c .before .before .args .n) (c .before .before .args .m)))
+fill-low-requires c κs =
+    let a = c .before .before .args in
+    (omega arith, omega (arith, quotient-most (a .n) (a .m)))
 
 repeat-requires : tie.Need-repeat-requires
-repeat-requires c κs = (
-  (omega arith, omega arith, omega arith, omega arith),
-  λ z l. omega (
-    arith,
-    c .before .before .before .fill-low .ensures z l,
-    bit-most z
-        (c .before .before .before .before .before .before .args .n % c .before .before .before .before .before .before .args .m),
-    quotient-most (c .before .before .before .before .before .before .args .n) (c .before .before .before .before .before .before .args .m),
-  ),
-)
+repeat-requires c κs =
+    let a = c .before .before .before .before .before .before .args in (
+      (omega arith, omega arith, omega arith, omega arith),
+      λ z l. omega (
+        arith,
+        c .before .before .before .fill-low .ensures z l,
+        bit-most z (a .n % a .m),
+        quotient-most (a .n) (a .m),
+      ),
+    )
 
 same-length : tie.Need-same-length
 same-length c = search needs
 
 returns : tie.Need-returns
 returns c =
-    filled-gains
-    _ _
-    (omega arith)
-    (c .before .before .before .before .before .before .fill-low .last .0)
-    (c .before .before .repeat .last .0)
-    (c .before .before .repeat .ensures .0)
-    (c .before .before .before .before .before .before .before .before .before .args .n)
-    (c .before .before .before .before .before .before .fill-low .ensures)
-    (repeats-less _ _ _ _ (c .before .before .repeat .last .0) (omega arith) (c .before .before .repeat .ensures .1))
+    let fill-low = c .before .before .before .before .before .before .fill-low in
+    let repeat = c .before .before .repeat in
+    filled-gains _ _ (omega arith) (fill-low .last .0) (repeat .last .0) (repeat .ensures .0)
+    (c .before .before .before .before .before .before .before .before .before .args .n) (fill-low .ensures)
+    (repeats-less _ _ _ _ (repeat .last .0) (omega arith) (repeat .ensures .1))
 
 pub gains-spec : {M : Type 1} → statement M
 gains-spec =

@@ -50,17 +50,16 @@ loop-less : tie.Need-loop-less Inv-loop μ-loop
 loop-less c = omega arith
 
 loop-again : tie.Need-loop-again Inv-loop μ-loop
-loop-again c = (
-  omega arith,
-  simp length-set (omega arith),
-  simp length-set (c .before .before .loop .inv .2),
-  store-low (c .before .before .before .args .p .now) (c .before .before .loop .p) _ _ _ (omega arith)
-      (c .before .before .loop .inv .3),
-  store-again (c .before .before .loop .p) _ _ _ _ (omega arith) (omega arith) (omega arith) refl
-      (c .before .before .loop .inv .4),
-  store-more (λ k n. n ≤ 32768 + k) (c .before .before .loop .p) _ _ (omega arith) (c .before .before .loop .inv .5) (omega
-      (arith, before (c .before))),
-)
+loop-again c =
+    let turn = c .before .before .loop in (
+      omega arith,
+      simp length-set (omega arith),
+      simp length-set (turn .inv .2),
+      store-low (c .before .before .before .args .p .now) (turn .p) _ _ _ (omega arith) (turn .inv .3),
+      store-again (turn .p) _ _ _ _ (omega arith) (omega arith) (omega arith) refl (turn .inv .4),
+      store-more (λ k n. n ≤ 32768 + k) (turn .p) _ _ (omega arith) (turn .inv .5)
+          (omega (arith, before (c .before))),
+    )
 
 same-length : tie.Need-same-length Inv-loop μ-loop
 same-length c = c .before .loop .inv .2

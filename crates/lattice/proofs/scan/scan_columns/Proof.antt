@@ -54,16 +54,13 @@ tried-next c =
 
 returns : tie.Need-returns Inv-loop μ-loop
 returns c =
+    let here = c .before .before in
     let a = c .before .before .before .before .before .args in
     let l = c .before .before .before .before .loop in (
       columns-found (a .k) (read (a .row)) (read (a .plane)) (read (a .first)) (a .count) (l .tried) (omega arith)
-          (triple (read (a .row)) (read (a .plane)) (read (c .before .before .shifted .result)))
-          (c .before .fails .result)
+          (triple (read (a .row)) (read (a .plane)) (read (here .shifted .result))) (c .before .fails .result)
           (scan (a .k) (columnsAt (read (a .row)) (read (a .plane)) (run (read (a .first)) (a .count))))
-          (tried-next (c .before .before))
-          (c .before .fails .ensures)
-          (c .if1 .taken)
-          (l .inv .1)
+          (tried-next here) (c .before .fails .ensures) (c .if1 .taken) (l .inv .1)
           ∙ columns-read (a .k) (a .row) (a .plane) (a .first) (a .count) (omega arith) (omega arith) (omega arith),
       omega arith,
     )
@@ -73,17 +70,14 @@ loop-less c = omega arith
 
 loop-again : tie.Need-loop-again Inv-loop μ-loop
 loop-again c =
+    let here = c .before .before in
     let a = c .before .before .before .before .before .args in
     let l = c .before .before .before .before .loop in (
       omega arith,
       columns-next (a .k) (read (a .row)) (read (a .plane)) (read (a .first)) (a .count) (l .tried) (omega arith)
-          (triple (read (a .row)) (read (a .plane)) (read (c .before .before .shifted .result)))
-          (c .before .fails .result)
+          (triple (read (a .row)) (read (a .plane)) (read (here .shifted .result))) (c .before .fails .result)
           (scan (a .k) (columnsAt (read (a .row)) (read (a .plane)) (run (read (a .first)) (a .count))))
-          (tried-next (c .before .before))
-          (c .before .fails .ensures)
-          (c .if1 .left)
-          (l .inv .1),
+          (tried-next here) (c .before .fails .ensures) (c .if1 .left) (l .inv .1),
     )
 
 nothing-requires : tie.Need-nothing-requires Inv-loop μ-loop

@@ -37,19 +37,12 @@ after-requires c κs = omega arith
 
 returns : tie.Need-returns
 returns c =
+    let remaining = c .before .before .before .remaining in
+    let minus = c .before .before .minus in
     let a = c .before .before .before .before .args in (
-      plane-scanned (a .n) (c .before .before .before .remaining .result) (a .plane) (c .before .before .minus .result)
-          (omega arith)
-          (omega arith)
-          (c .before .before .before .remaining .ensures)
-          (c .before .before .minus .ensures)
-          (a .k)
-          (a .tried)
-          (scanOf (c .before .scan-columns .result))
-          (scanOf (c .after .result))
-          (c .after .ensures)
-          (a .row)
-          (omega arith)
+      plane-scanned (a .n) (remaining .result) (a .plane) (minus .result) (omega arith) (omega arith)
+          (remaining .ensures) (minus .ensures) (a .k) (a .tried) (scanOf (c .before .scan-columns .result))
+          (scanOf (c .after .result)) (c .after .ensures) (a .row) (omega arith)
           (c .before .scan-columns .ensures .0),
       omega (arith, ap (λ (s : Scan). s .tried) (c .after .ensures)),
     )

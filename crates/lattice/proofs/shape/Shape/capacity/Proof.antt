@@ -17,9 +17,11 @@ data-in-requires c κs = tt
 
 returns : tie.Need-returns
 returns c =
+    let class-sizes = c .before .before .before .class-sizes in
     let s = c .before .before .before .before .before .args .self in
     c .data-in .ensures (rw (c .before .classes .ensures) (classes-given s))
-    ∙ capacity-given s (replicate maxClasses 0) (c .before .before .before .class-sizes .last .1 .0) _ (c .before .before .before .class-sizes .ensures) (c .before .classes .ensures)
+    ∙ capacity-given s (replicate maxClasses 0) (class-sizes .last .1 .0) _ (class-sizes .ensures)
+    (c .before .classes .ensures)
 
 pub capacity-spec : {M : Type 1} → statement M
 capacity-spec = tie.close (tie.spec class-sizes-requires classes-requires data-in-requires returns)
