@@ -12,7 +12,9 @@ Inv-loop text at width field₀ i₀ field i = (i ≤ length field) × Stored (c
 abbrev μ-loop : tie.MeasureT-loop
 μ-loop text at width field₀ i₀ field i = length field - i
 
-far : (c : tie.In-loop Inv-loop μ-loop) → c .before .loop .i / c .before .before .before .before .args .width * (c .before .before .before .before .args .width + 5) ≤ 17104896
+far : (c : tie.In-loop Inv-loop μ-loop)
+    → let a = c .before .before .before .before .args in
+    c .before .loop .i / a .width * (a .width + 5) ≤ 17104896
 far c =
     let e = c .before .before .before .before in
     let a = e .args in

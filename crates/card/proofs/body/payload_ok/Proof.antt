@@ -11,10 +11,14 @@ use Rattle.card.proofs.theory.PayloadStored.{payload-no-key, payload-in
 use Rattle.card.proofs.body.payload_ok.Statement.{statement}
 use Rattle.card.proofs.body.payload_ok.Tie as tie
 
-key : (c : tie.Else1) → keyAt payloadKey (c .before .before .before .args .text .now) (c .before .before .before .args .at) ≡ true
+key : (c : tie.Else1)
+    → let a = c .before .before .before .args in
+    keyAt payloadKey (a .text .now) (a .at) ≡ true
 key c = passed _ _ (c .if1 .left) (c .before .is-payload .ensures)
 
-inside : (c : tie.Else1) → c .before .before .before .args .at + 8 ≤ length (c .before .before .before .args .text .now)
+inside : (c : tie.Else1)
+    → let a = c .before .before .before .args in
+    a .at + 8 ≤ length (a .text .now)
 inside c = payload-inside _ _ (key c)
 
 is-payload-requires : tie.Need-is-payload-requires

@@ -7,7 +7,9 @@ use Rattle.card.proofs.line.Digits.{number-faults, number-most, number-
 use Rattle.card.proofs.line.number_at.Statement.{statement}
 use Rattle.card.proofs.line.number_at.Tie as tie
 
-inside : (c : tie.Else1) → c .before .before .before .before .args .at + c .before .before .digit-run .result < length (c .before .before .before .before .args .text .now)
+inside : (c : tie.Else1)
+    → let a = c .before .before .before .before .args in
+    a .at + c .before .before .digit-run .result < length (a .text .now)
 inside c = number-inside _ _ _ (c .before .before .digit-run .ensures) (passed _ _ (c .if1 .left) (c .before .number-ends .ensures))
 
 digit-run-requires : tie.Need-digit-run-requires

@@ -6,7 +6,9 @@ use Rattle.card.proofs.print.Lines.{key-room, value-room, feed-room, li
 use Rattle.card.proofs.print.put_number_line.Statement.{statement}
 use Rattle.card.proofs.print.put_number_line.Tie as tie
 
-line : (c : tie.After-digit-count) → numberLine (c .before .before .before .before .before .before .before .before .args .key .now) (c .before .before .before .before .before .before .before .before .args .n) ≡ c .before .before .before .before .before .before .before .before .args .key .now ++ (digits (c .digit-count .result) (c .before .before .before .before .before .before .before .before .args .n) ++ (10 ∷ []))
+line : (c : tie.After-digit-count)
+    → let a = c .before .before .before .before .before .before .before .before .args in
+    numberLine (a .key .now) (a .n) ≡ a .key .now ++ (digits (c .digit-count .result) (a .n) ++ (10 ∷ []))
 line c =
     let a = c .before .before .before .before .before .before .before .before .args in
     number-parts (a .key .now) (a .n) _ (c .digit-count .ensures)

@@ -13,7 +13,9 @@ Inv-loop out₀ at width lines cells next₀ r₀ out next r = (r ≤ lines) × 
 abbrev μ-loop : tie.MeasureT-loop
 μ-loop out₀ at width lines cells next₀ r₀ out next r = lines - r
 
-behind : (c : tie.In-loop Inv-loop μ-loop) → c .before .loop .r * c .before .before .before .before .args .width + c .before .before .before .before .args .width ≤ length (c .before .before .before .before .args .cells .now)
+behind : (c : tie.In-loop Inv-loop μ-loop)
+    → let a = c .before .before .before .before .args in
+    c .before .loop .r * a .width + a .width ≤ length (a .cells .now)
 behind c =
     let e = c .before .before .before .before in
     part-behind _ _ (e .args .cells .now) (e .pre .1 .1) (e .pre .0) _ (c .loop-test .taken)

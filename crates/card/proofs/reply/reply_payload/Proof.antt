@@ -13,11 +13,14 @@ use Rattle.card.proofs.reply.reply_payload.Statement.{statement}
 use Rattle.card.proofs.reply.reply_payload.Tie as tie
 
 total : (c : tie.After-head-length)
-    → c .head-length .result + 9 + 2 * length (c .before .before .before .before .args .payload .now)
-    ≡ length (headText (c .before .before .before .before .args .header) mendedKey (c .before .before .before .before .args .mended) ++ payloadText (c .before .before .before .before .args .payload .now))
+    → let a = c .before .before .before .before .args in
+    c .head-length .result + 9 + 2 * length (a .payload .now)
+    ≡ length (headText (a .header) mendedKey (a .mended) ++ payloadText (a .payload .now))
 total c = add-assoc _ 9 _ ∙ length-success _ _ _ _ _ _ (c .head-length .ensures) (sym (length-payload (c .before .before .before .before .args .payload .now)))
 
-room : (c : tie.Else1) → Room (c .before .before .before .before .before .args .output .now) 0 (headText (c .before .before .before .before .before .args .header) mendedKey (c .before .before .before .before .before .args .mended) ++ payloadText (c .before .before .before .before .before .args .payload .now))
+room : (c : tie.Else1)
+    → let a = c .before .before .before .before .before .args in
+    Room (a .output .now) 0 (headText (a .header) mendedKey (a .mended) ++ payloadText (a .payload .now))
 room c = room-front _ _ _ (total (c .before)) (c .if1 .left)
 
 slice-aggregate-head-length : tie.Need-slice-aggregate-head-length

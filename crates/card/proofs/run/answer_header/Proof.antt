@@ -9,7 +9,9 @@ use Rattle.card.proofs.theory.Replies.{answered-same}
 use Rattle.card.proofs.run.answer_header.Statement.{statement}
 use Rattle.card.proofs.run.answer_header.Tie as tie
 
-read : (c : tie.Else1) → BodyRead (c .before .before .before .before .before .before .before .before .args .input .now) (c .before .before .before .before .before .before .before .before .args .header) (c .before .before .before .before .before .before .before .before .args .next) (c .before .before .before .shape .given .0 .0)
+read : (c : tie.Else1)
+    → let a = c .before .before .before .before .before .before .before .before .args in
+    BodyRead (a .input .now) (a .header) (a .next) (c .before .before .before .shape .given .0 .0)
 read c =
     let e = c .before .before .before .before .before .before .before .before in
     record {

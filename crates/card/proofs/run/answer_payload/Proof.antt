@@ -19,11 +19,15 @@ use Rattle.card.proofs.theory.Answered.{zeros-count, part-again, part-w
 use Rattle.card.proofs.run.answer_payload.Statement.{statement}
 use Rattle.card.proofs.run.answer_payload.Tie as tie
 
-ok : (c : tie.Else1) → payloadOk (c .before .before .before .before .args .input .now) (c .before .before .before .before .args .next) ≡ true
+ok : (c : tie.Else1)
+    → let a = c .before .before .before .before .args in
+    payloadOk (a .input .now) (a .next) ≡ true
 ok c = passed _ _ (c .if1 .left) (c .before .payload-ok .ensures)
 
 -- the length of the payload read
-bytes-read-are : (c : tie.After-payload-bytes) → length (payloadOf (c .before .before .before .before .before .args .input .now) (c .before .before .before .before .before .args .next)) ≡ c .payload-bytes .result
+bytes-read-are : (c : tie.After-payload-bytes)
+    → let a = c .before .before .before .before .before .args in
+    length (payloadOf (a .input .now) (a .next)) ≡ c .payload-bytes .result
 bytes-read-are c = length-read _ _ ∙ sym (c .payload-bytes .ensures)
 
 cells-room : (c : tie.After-cells) → c .cells .result ≤ maxCardCells
@@ -34,8 +38,11 @@ long : (c : tie.After-fill-payload) → length (c .fill-payload .last .1 .1 .0) 
 long c = ap length (c .fill-payload .ensures) ∙ bytes-read-are (c .before .before .before .before)
 
 again : (c : tie.After-fill-payload)
-    → take (c .before .before .before .before .payload-bytes .result) (c .fill-payload .last .1 .1 .0 ++ drop (c .before .before .before .before .payload-bytes .result) (replicate maxCardBytes 0))
-    ≡ payloadOf (c .before .before .before .before .before .before .before .before .before .args .input .now) (c .before .before .before .before .before .before .before .before .before .args .next)
+    → let a = c .before .before .before .before .before .before .before .before .before .args in
+    let payload-bytes = c .before .before .before .before .payload-bytes in
+    take (payload-bytes .result)
+    (c .fill-payload .last .1 .1 .0 ++ drop (payload-bytes .result) (replicate maxCardBytes 0))
+    ≡ payloadOf (a .input .now) (a .next)
 again c = part-again _ _ _ (long c) ∙ c .fill-payload .ensures
 
 payload-ok-requires : tie.Need-payload-ok-requires

@@ -33,8 +33,10 @@ long c =
     ∙ sym (zeros-count _ maxCardCells (cells-room (c .before .before .before .before)))
 
 again : (c : tie.After-fill-cells)
-    → take (c .before .before .before .before .cells .result) (c .fill-cells .last .1 .1 .1 .0 ++ drop (c .before .before .before .before .cells .result) (replicate maxCardCells 0))
-    ≡ cellsIn (c .before .before .before .before .before .before .before .before .before .before .before .args .input .now) (c .before .before .before .before .before .before .before .before .before .before .before .args .header) (c .before .before .before .before .before .before .before .before .before .before .before .args .next)
+    → let a = c .before .before .before .before .before .before .before .before .before .before .before .args in
+    let cells = c .before .before .before .before .cells in
+    take (cells .result) (c .fill-cells .last .1 .1 .1 .0 ++ drop (cells .result) (replicate maxCardCells 0))
+    ≡ cellsIn (a .input .now) (a .header) (a .next)
 again c =
     let pre = c .before .before .before .before .before .before .before .before .before .before .before .pre in
     let here = c .before .before .before .before in

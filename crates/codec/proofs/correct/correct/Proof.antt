@@ -13,7 +13,9 @@ use Rattle.codec.proofs.correct.correct.Statement.{statement}
 use Rattle.codec.proofs.correct.correct.Tie as tie
 
 -- where the tests pass
-none : (c : tie.After-enum-told) → correctNumber (c .before .before .before .before .before .before .args .shape) (c .before .before .before .before .before .before .args .field .now) ≡ 0
+none : (c : tie.After-enum-told)
+    → let a = c .before .before .before .before .before .before .args in
+    correctNumber (a .shape) (a .field .now) ≡ 0
 none c = told-none (c .before .before .correct-tests .ensures .0) (c .enum-told .given .1)
 
 correct-tests-requires : tie.Need-correct-tests-requires

@@ -18,7 +18,9 @@ accepted : (c : tie.After-enum-told) → Accepted (c .before .before .before .be
 accepted c = told-none (c .before .before .tests .ensures) (c .enum-told .given .1)
 
 -- a field of an accepted shape's length
-fits : (c : tie.Else1) → FieldFits (c .before .before .before .before .before .before .args .shape) (c .before .before .before .before .before .before .args .field .now)
+fits : (c : tie.Else1)
+    → let a = c .before .before .before .before .before .before .args in
+    FieldFits (a .shape) (a .field .now)
 fits c =
     let a = accepted (c .before .before) in
     record { accepted = a; long = c .if1 .left ∙ cells-given _ _ (c .before .cells .ensures) ∙ plan-cells _ a }

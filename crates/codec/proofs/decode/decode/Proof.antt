@@ -13,7 +13,9 @@ use Rattle.codec.proofs.decode.decode.Statement.{statement}
 use Rattle.codec.proofs.decode.decode.Tie as tie
 
 -- where the tests pass
-none : (c : tie.After-enum-told) → decodeNumber (c .before .before .before .before .before .before .before .before .args .shape) (c .before .before .before .before .before .before .before .before .args .payload .now) (c .before .before .before .before .before .before .before .before .args .field .now) ≡ 0
+none : (c : tie.After-enum-told)
+    → let a = c .before .before .before .before .before .before .before .before .args in
+    decodeNumber (a .shape) (a .payload .now) (a .field .now) ≡ 0
 none c = told-none (c .before .before .decode-tests .ensures .0) (c .enum-told .given .1)
 
 decode-tests-requires : tie.Need-decode-tests-requires

@@ -12,7 +12,9 @@ use Rattle.codec.proofs.decode.decode_tests.Tie as tie
 
 -- where the lengths are the plan's
 module _ (c : tie.After-enum-told) where
-  none : lengthNumber (c .before .before .before .before .before .before .args .shape) (c .before .before .before .before .before .before .args .payload .now) (c .before .before .before .before .before .before .args .field .now) ≡ 0
+  none :
+      let a = c .before .before .before .before .before .before .args in
+      lengthNumber (a .shape) (a .payload .now) (a .field .now) ≡ 0
   none = told-none (c .before .before .length-tests .ensures .0) (c .enum-told .given .1)
 
 length-tests-requires : tie.Need-length-tests-requires

@@ -12,7 +12,9 @@ use Rattle.codec.proofs.encode.encode.Statement.{statement}
 use Rattle.codec.proofs.encode.encode.Tie as tie
 
 -- where the tests pass
-none : (c : tie.After-enum-told) → encodeNumber (c .before .before .before .before .before .before .before .args .shape) (c .before .before .before .before .before .before .before .args .payload .now) (c .before .before .before .before .before .before .before .args .field .now) ≡ 0
+none : (c : tie.After-enum-told)
+    → let a = c .before .before .before .before .before .before .before .args in
+    encodeNumber (a .shape) (a .payload .now) (a .field .now) ≡ 0
 none c = encode-tests _ _ _ ∙ told-none (c .before .before .length-tests .ensures .0) (c .enum-told .given .1)
 
 length-tests-requires : tie.Need-length-tests-requires

@@ -23,7 +23,9 @@ module _ (c : tie.After-class-sizes) where
   accepted : Accepted (c .before .before .before .before .before .before .before .args .shape)
   accepted = let e = c .before .before in told-none (e .before .before .tests .ensures) (e .enum-told .given .1)
 
-  sized : HoldsSizes (layoutOf (c .before .before .before .before .before .before .before .args .shape)) (c .class-sizes .last .1 .0) (cellsOf (c .before .before .before .before .before .before .before .args .shape))
+  sized :
+      let a = c .before .before .before .before .before .before .before .args in
+      HoldsSizes (layoutOf (a .shape)) (c .class-sizes .last .1 .0) (cellsOf (a .shape))
   sized = sizes-given _ _ _ accepted (c .class-sizes .ensures)
 
 planned : (c : tie.After-data-in) → c .data-in .result / 8 ≡ planBytes (c .before .before .before .before .before .before .before .before .before .before .args .shape)
@@ -32,7 +34,9 @@ planned c =
     let own = c .before .classes .ensures in
     bytes-given _ _ _ _ (accepted here) (sized here) own (c .data-in .ensures (rw own (classes-given _)))
 
-bytes : (c : tie.Else1) → length (c .before .before .before .before .before .before .before .before .before .before .before .args .payload .now) ≡ planBytes (c .before .before .before .before .before .before .before .before .before .before .before .args .shape)
+bytes : (c : tie.Else1)
+    → let a = c .before .before .before .before .before .before .before .before .before .before .before .args in
+    length (a .payload .now) ≡ planBytes (a .shape)
 bytes c = c .if1 .left ∙ planned (c .before)
 
 tests-requires : tie.Need-tests-requires

@@ -27,23 +27,26 @@ abbrev μ-loop : tie.MeasureT-loop
 module _ (c : tie.Then1 Inv-loop μ-loop) where
   place : c .before .before .loop .line .start < maxClasses
   place =
+      let turn = c .before .before .loop in
       let e = c .before .before .before .before in
       omega (
         arith,
-        c .before .before .loop .inv .2 _ (e .pre .0 .0 .accepted) (e .pre .0 .0 .same) .0 .start,
-        starts-below _ (e .pre .0 .0 .accepted) _ (e .pre .0 .0 .same) (c .before .before .loop .l),
+        turn .inv .2 _ (e .pre .0 .0 .accepted) (e .pre .0 .0 .same) .0 .start,
+        starts-below _ (e .pre .0 .0 .accepted) _ (e .pre .0 .0 .same) (turn .l),
         most _ (e .pre .0 .0 .accepted) _ (e .pre .0 .0 .same),
       )
 
-  entry : getD (c .before .before .loop .starts) (c .before .before .loop .line .start) 0 ≤ maxCells
+  entry :
+      let turn = c .before .before .loop in
+      getD (turn .starts) (turn .line .start) 0 ≤ maxCells
   entry =
+      let turn = c .before .before .loop in
       let e = c .before .before .before .before in
       omega (
         arith,
-        c .before .before .loop .inv .2 _ (e .pre .0 .0 .accepted) (e .pre .0 .0 .same) .1 (c .before .before .loop .line .start),
-        starts-most (lineStart (settingsOf (e .pre .0 .0 .shape)) (e .pre .0 .0 .shape .rows))
-            (c .before .before .loop .line .start)
-            (c .before .before .loop .l),
+        turn .inv .2 _ (e .pre .0 .0 .accepted) (e .pre .0 .0 .same) .1 (turn .line .start),
+        starts-most (lineStart (settingsOf (e .pre .0 .0 .shape)) (e .pre .0 .0 .shape .rows)) (turn .line .start)
+            (turn .l),
         lines-most _ (e .pre .0 .0 .accepted) _ (e .pre .0 .0 .same),
       )
 

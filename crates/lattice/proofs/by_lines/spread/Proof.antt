@@ -19,12 +19,17 @@ abbrev μ-loop : tie.MeasureT-loop
 
 -- the sums of a turn
 module _ (c : tie.In-loop Inv-loop μ-loop) where
-  small : getD (c .before .before .args .heads .now) (c .before .loop .a + 1 + c .before .before .args .m) 0 ≤ (c .before .loop .a + 1 + c .before .before .args .m) * maxCells
-  small = c .before .before .pre .1 .0 (c .before .loop .a + 1 + c .before .before .args .m) (omega arith)
+  small :
+      let a = c .before .before .args in
+      getD (a .heads .now) (c .before .loop .a + 1 + a .m) 0 ≤ (c .before .loop .a + 1 + a .m) * maxCells
+  small =
+      let e = c .before .before in
+      e .pre .1 .0 (c .before .loop .a + 1 + e .args .m) (omega arith)
 
-  less : getD (c .before .before .args .heads .now) (c .before .loop .a + 1 + c .before .before .args .m - c .before .before .args .gap) 0
-      ≤ c .before .before .args .base + getD (c .before .before .args .heads .now)
-      (c .before .loop .a + 1 + c .before .before .args .m) 0
+  less :
+      let a = c .before .before .args in
+      getD (a .heads .now) (c .before .loop .a + 1 + a .m - a .gap) 0
+      ≤ a .base + getD (a .heads .now) (c .before .loop .a + 1 + a .m) 0
   less = c .before .before .pre .1 .1 (c .before .loop .a) (c .loop-test .taken)
 
 loop-holds : tie.Need-loop-holds Inv-loop μ-loop

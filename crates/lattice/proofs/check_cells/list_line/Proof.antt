@@ -25,8 +25,9 @@ abbrev μ-loop : tie.MeasureT-loop
 
 -- the cell of a turn, its class and the count of that class
 module _ (c : tie.Then1 Inv-loop μ-loop) where
-  inside : c .before .before .before .before .args .l * c .before .before .before .before .args .pass .columns
-      + c .before .before .loop .x < maxCells
+  inside :
+      let a = c .before .before .before .before .args in
+      a .l * a .pass .columns + c .before .before .loop .x < maxCells
   inside =
       let e = c .before .before .before .before in
       let p = e .pre .0 .0 in
@@ -45,7 +46,9 @@ module _ (c : tie.Then1 Inv-loop μ-loop) where
       let p = c .before .before .before .before .pre .0 .0 in
       omega (arith, below, most (p .shape) (p .accepted) _ (p .same))
 
-  count : getD (c .before .before .loop .counts) (c .before .before .loop .a) 0 < maxCells
+  count :
+      let turn = c .before .before .loop in
+      getD (turn .counts) (turn .a) 0 < maxCells
   count =
       let e = c .before .before .before .before in
       let p = e .pre .0 .0 in

@@ -54,9 +54,8 @@ cast-minus-mod c = search needs
 
 -- b × the number of a plane's last row
 product : (c : tie.After-struct-known6)
-    → c .before .before .before .before .before .before .args .settings .b
-    * (c .before .before .before .before .before .before .args .shape .rows - 1)
-    ≤ 65535 * maxSide
+    → let a = c .before .before .before .before .before .before .args in
+    a .settings .b * (a .shape .rows - 1) ≤ 65535 * maxSide
 product c =
     let e = c .before .before .before .before .before .before in
     let few = legal _ (e .pre .0) .height-high in

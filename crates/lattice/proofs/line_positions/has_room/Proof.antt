@@ -11,17 +11,19 @@ use Rattle.lattice.proofs.theory.PassRoom.{refuted, pass-most, pass-nar
 use Rattle.lattice.proofs.line_positions.has_room.Statement.{statement}
 use Rattle.lattice.proofs.line_positions.has_room.Tie as tie
 
-first : (c : tie.Else1) → inRange 1 (c .before .before .args .e) (c .before .before .args .pass .classes) ≡ true
+first : (c : tie.Else1)
+    → let a = c .before .before .args in
+    inRange 1 (a .e) (a .pass .classes) ≡ true
 first c = passed _ _ (c .if1 .left) (c .before .within .ensures)
 
 row : (c : tie.Else2)
-    → inRange (c .before .before .before .before .args .pass .classes) 4096 (c .before .before .before .before .args .p) ≡ true
+    → let a = c .before .before .before .before .args in
+    inRange (a .pass .classes) 4096 (a .p) ≡ true
 row c = passed _ _ (c .if2 .left) (c .before .within2 .ensures)
 
 plane : (c : tie.Else3)
-    → inRange (c .before .before .before .before .before .before .args .pass .classes) 4096
-    (c .before .before .before .before .before .before .args .q)
-    ≡ true
+    → let a = c .before .before .before .before .before .before .args in
+    inRange (a .pass .classes) 4096 (a .q) ≡ true
 plane c = passed _ _ (c .if3 .left) (c .before .within3 .ensures)
 
 within-requires : tie.Need-within-requires

@@ -18,8 +18,8 @@ abbrev μ-loop : tie.MeasureT-loop
 
 -- the place m before z, in a turn
 before : (c : tie.In-loop Inv-loop μ-loop)
-    → getD (c .before .loop .p) (c .before .loop .z - c .before .before .args .m) 0 ≤ 32768 +
-    (c .before .loop .z - c .before .before .args .m)
+    → let a = c .before .before .args in
+    getD (c .before .loop .p) (c .before .loop .z - a .m) 0 ≤ 32768 + (c .before .loop .z - a .m)
 before c = c .before .loop .inv .5 (c .before .loop .z - c .before .before .args .m) (omega arith)
 
 loop-holds : tie.Need-loop-holds Inv-loop μ-loop

@@ -44,9 +44,9 @@ fails-requires c κs =
 
 -- the triple that is tried is the next of the list
 tried-next : (c : tie.After-shifted Inv-loop μ-loop)
-    → triple (read (c .before .before .before .args .row)) (read (c .before .before .before .args .plane)) (read (c .shifted .result))
-    ≡ triple (read (c .before .before .before .args .row)) (read (c .before .before .before .args .plane))
-    (read (c .before .before .before .args .first) +ℤ pos (c .before .before .loop .tried))
+    → let a = c .before .before .before .args in
+    triple (read (a .row)) (read (a .plane)) (read (c .shifted .result))
+    ≡ triple (read (a .row)) (read (a .plane)) (read (a .first) +ℤ pos (c .before .before .loop .tried))
 tried-next c =
     let a = c .before .before .before .args in
     ap (triple (read (a .row)) (read (a .plane)))

@@ -43,11 +43,10 @@ scan-plane-requires c κs =
 
 -- the scan of the plane is that of the next block
 next : (c : tie.After-scan-plane Inv-loop μ-loop)
-    → scanOf (c .scan-plane .result)
-    ≡ after (c .before .before .before .loop .tried)
-    (scan (c .before .before .before .before .args .k)
-    (planeBlock (read (c .before .before .before .before .args .row)) (c .before .before .before .before .args .n)
-    (read (c .before .before .before .before .args .first) +ℤ pos (c .before .before .before .loop .i))))
+    → let a = c .before .before .before .before .args in
+    let turn = c .before .before .before .loop in
+    scanOf (c .scan-plane .result)
+    ≡ after (turn .tried) (scan (a .k) (planeBlock (read (a .row)) (a .n) (read (a .first) +ℤ pos (turn .i))))
 next c =
     let a = c .before .before .before .before .args in
     let l = c .before .before .before .loop in

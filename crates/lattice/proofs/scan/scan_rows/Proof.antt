@@ -40,11 +40,9 @@ scan-row-requires c κs =
 
 -- the scan of the row is that of the next block
 next : (c : tie.After-scan-row Inv-loop μ-loop)
-    → scanOf (c .scan-row .result)
-    ≡ after (c .before .before .before .loop .tried)
-    (scan (c .before .before .before .before .args .k)
-    (rowBlock (c .before .before .before .before .args .n)
-    (pos 1 +ℤ pos (c .before .before .before .loop .i))))
+    → let a = c .before .before .before .before .args in
+    let turn = c .before .before .before .loop in
+    scanOf (c .scan-row .result) ≡ after (turn .tried) (scan (a .k) (rowBlock (a .n) (pos 1 +ℤ pos (turn .i))))
 next c =
     let a = c .before .before .before .before .args in
     let l = c .before .before .before .loop in

@@ -13,7 +13,9 @@ use Rattle.lattice.proofs.shape.Shape.class_of.Statement.{statement}
 use Rattle.lattice.proofs.shape.Shape.class_of.Tie as tie
 
 module _ (c : tie.After-enum-told) where
-  known : Classed (c .before .before .before .args .self) (cell (c .before .before .before .args .row) (c .before .before .before .args .plane) (c .before .before .before .args .column))
+  known :
+      let a = c .before .before .before .args in
+      Classed (a .self) (cell (a .row) (a .plane) (a .column))
   known = classed _ _ (told-none (c .before .before .class-tests .ensures .0) (c .enum-told .given .1))
 
 class-tests-requires : tie.Need-class-tests-requires

@@ -8,7 +8,9 @@ use Rattle.lattice.proofs.theory.Limits.{number-size, number-strength, 
 use Rattle.lattice.proofs.shape.Shape.tests_of.Statement.{statement}
 use Rattle.lattice.proofs.shape.Shape.tests_of.Tie as tie
 
-size-passed : (c : tie.Else1) → sizeOk (c .before .before .args .numbers .columns) (c .before .before .args .numbers .rows) (c .before .before .args .numbers .planes) ≡ true
+size-passed : (c : tie.Else1)
+    → let a = c .before .before .args in
+    sizeOk (a .numbers .columns) (a .numbers .rows) (a .numbers .planes) ≡ true
 size-passed c = passed _ _ (c .if1 .left) (c .before .size-ok .ensures)
 
 size-ok-requires : tie.Need-size-ok-requires
