@@ -77,7 +77,8 @@ laterRefusals s = headerRefusals shapeConditions s ++ (listed 8 (TooManyCells s)
 abbrev pub programRefusals : List ℕ → List Listed
 programRefusals s = listed 8 (TooLong s) ∷ listed 8 (NoHeader s) ∷ laterRefusals s
 
--- the output is one of three forms: the answer to a payload (header, `classes`, rows), the answer to rows (header, `mended`, payload), or a refusal alone
+-- the output is one of three forms: the answer to a payload (header, `classes`, rows), the answer to rows (header, `mended`,
+-- payload), or a refusal alone
 pub data OneOfThree (s : List ℕ) : Type 0 where
   written : (h : Header) (p : List ℕ) → CardHeader h → length p ≡ planBytes (shapeOf h) → Bytes p
       → programNumber s ≡ 0 → s ≡ payloadCard h p → answer s ≡ writtenText h p → OneOfThree s

@@ -1,4 +1,5 @@
--- How a card text is read: what stands at a position of the input. `getD s i 0` is byte i, and 0, which no card text has, past the end.
+-- How a card text is read: what stands at a position of the input. `getD s i 0` is byte i, and 0, which no card text has, past
+-- the end.
 use Prim.Native.Nat.{ℕ, zero, suc, _+_, _-_, _*_, _/_, _%_}
 use mathlib.Core.Bool.{Bool, cond, not, _&&_, _||_}
 use mathlib.Core.List.{List, [], _∷_, _++_}

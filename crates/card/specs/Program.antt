@@ -78,6 +78,7 @@ successText s (head.Found h next) = cond (isPayload s next) (writtenText h (payl
 unfoldable pub answer : List ℕ → List ℕ
 answer s = beside (programNumber s) (successText s (headerOf s)) (refusalText (programNumber s))
 
--- what an answer leaves in a lent output: its text and behind it the bytes as they were, or all of them as they were where it is too short
+-- what an answer leaves in a lent output: its text and behind it the bytes as they were, or all of them as they were where it is
+-- too short
 unfoldable pub outputLeaves : List ℕ → List ℕ → List ℕ
 outputLeaves text output = cond (leb (length text) (length output)) (text ++ drop (length text) output) output

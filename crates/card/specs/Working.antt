@@ -1,4 +1,5 @@
--- What the work buffers of the program hold. Only contracts of functions that are private to the crate cite this file; no promise to a caller rests on it.
+-- What the work buffers of the program hold. Only contracts of functions that are private to the crate cite this file; no promise
+-- to a caller rests on it.
 use Prim.Native.Nat.{ℕ, _+_, _<_, _≤_}
 use mathlib.Core.List.{List, [], _∷_, _++_}
 use mathlib.Core.Path.{_≡_}

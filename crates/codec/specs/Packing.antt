@@ -1,4 +1,5 @@
--- The bytes of a payload and the cells that hold their bits, as the loops of encoding and decoding go over them. Only contracts of
+-- The bytes of a payload and the cells that hold their bits, as the loops of encoding and decoding go over them. Only contracts
+-- of
 -- functions that are private to the crate cite this file.
 use Prim.Native.Nat.{ℕ, _+_, _*_, _/_, _%_, _<_, _≤_}
 use mathlib.Core.Bool.{true, cond}
@@ -36,7 +37,9 @@ pub record BitStored (before after : List ℕ) (k v : ℕ) : Type 0 where
 
 -- bit k of a payload is turned over
 pub record BitFlipped (before after : List ℕ) (k : ℕ) : Type 0 where
-  pub at : (j : ℕ) → j < 8 * length before → payloadBit after j ≡ cond (eqb j k) (flip (payloadBit before j)) (payloadBit before j)
+  pub at : (j : ℕ)
+      → j < 8 * length before
+      → payloadBit after j ≡ cond (eqb j k) (flip (payloadBit before j)) (payloadBit before j)
 
 -- the bits of a payload are the data cells of f, but for padding
 pub record HoldsBits (L : Layout) (f : Field) (l : List ℕ) : Type 0 where

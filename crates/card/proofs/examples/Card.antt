@@ -1,4 +1,5 @@
--- Examples that meet the hypotheses of the theorems on card texts: the worked card, 5 by 5 of strength 3 with the payload byte 165.
+-- Examples that meet the hypotheses of the theorems on card texts: the worked card, 5 by 5 of strength 3 with the payload byte
+-- 165.
 use Prim.Native.Nat.{ℕ}
 use mathlib.Core.Bool.{true}
 use mathlib.Core.List.{List}

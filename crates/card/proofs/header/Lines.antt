@@ -126,8 +126,10 @@ module _ {xs : List ℕ} {at : ℕ} (keys : List (List ℕ)) (ns : List ℕ) (co
     pub line-room : k < length keys → Room ys next (numberLine (getD keys k []) (getD ns k 0))
     line-room l = room-next (both l) (x .printed)
 
-    pub writing-more : k < length keys → {zs : List ℕ} {behind : ℕ}
-        → Printed ys zs next (numberLine (getD keys k []) (getD ns k 0)) behind → Writing (linesOf keys ns) xs at zs behind (k + 1)
+    pub writing-more : k < length keys
+        → {zs : List ℕ} {behind : ℕ}
+        → Printed ys zs next (numberLine (getD keys k []) (getD ns k 0)) behind
+        → Writing (linesOf keys ns) xs at zs behind (k + 1)
     writing-more l {zs} {behind} p =
         record {
           some = omega (arith, lines-long keys ns count);

@@ -102,7 +102,8 @@ module _ (s : List ℕ) (at k : ℕ) where
     pub ends-more : (k ≡ 1 → ⊥) → (d : ℕ) → d ≡ getD s (at + 0) 0 → not (eqb d 48) ≡ numberEnds s at k
     unfolding numberEnds
     ends-more p d e =
-        rw (range, ne-eqb k 1 p, eq-eqb (getD s (at + k) 0) 10 (sym here ∙ feeds), e, add-zero at) (last (not (eqb (getD s at 0) 48)))
+        rw (range, ne-eqb k 1 p, eq-eqb (getD s (at + k) 0) 10 (sym here ∙ feeds), e, add-zero at)
+        (last (not (eqb (getD s at 0) 48)))
       where
         last : (t : Bool) → t ≡ (t && true)
         last true = refl
@@ -122,7 +123,10 @@ module _ (s : List ℕ) (at k : ℕ) (counted : k ≡ digitRun s at 6) where
     pub number-inside : at + k < length s
     unfolding numberEnds
     number-inside =
-        byte-inside s (at + k) (λ e. let q : getD s (at + k) 0 ≡ 10 = eqb-true _ 10 (and-right (digitsEnd s at k) (eqb (getD s (at + k) 0) 10) ends) in omega arith)
+        byte-inside s (at + k) (λ e.
+        let q : getD s (at + k) 0 ≡ 10 =
+        eqb-true _ 10 (and-right (digitsEnd s at k) (eqb (getD s (at + k) 0) 10) ends) in
+        omega arith)
 
     pub number-found : (v : ℕ) → v ≡ digitsValue s at k → line.Number v (at + k + 1) ≡ numberAt s at
     unfolding numberAt

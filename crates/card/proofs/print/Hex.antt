@@ -32,23 +32,22 @@ module _ {xs : List ℕ} {at : ℕ} {p : List ℕ} (room : Room xs at (hexText p
     hex-more l b x y e f g =
         let far : 2 * j + 1 + 1 ≡ 2 * (j + 1) = omega arith in
         let first =
-        prefix-more room (2 * j) x (omega (arith, length-hex p)) (f ∙ ap (λ (v : ℕ). hexDigit (v / 16)) e ∙ sym (hex-high p j l)) (h .printed) in
+        prefix-more room (2 * j) x (omega (arith, length-hex p))
+        (f ∙ ap (λ (v : ℕ). hexDigit (v / 16)) e ∙ sym (hex-high p j l)) (h .printed) in
         let both =
-        prefix-more room (2 * j + 1) y (omega (arith, length-hex p)) (g ∙ ap (λ (v : ℕ). hexDigit (v % 16)) e ∙ sym (hex-low p j l)) first in
+        prefix-more room (2 * j + 1) y (omega (arith, length-hex p))
+        (g ∙ ap (λ (v : ℕ). hexDigit (v % 16)) e ∙ sym (hex-low p j l)) first in
         let here : at + 2 * j ≡ next = sym (h .behind) in
         let beside : at + (2 * j + 1) ≡ next + 1 = sym (add-assoc at (2 * j) 1) ∙ ap (λ (n : ℕ). n + 1) here in
         record {
-          printed =
-              subst
-              (λ (k : ℕ). Printed xs (set (set ys next x) (next + 1) y) at (take k (hexText p)) (at + k))
-              far
-              (subst
-              (λ (n : ℕ). Printed xs (set (set ys n x) (next + 1) y) at (take (2 * j + 1 + 1) (hexText p)) (at + (2 * j + 1 + 1)))
-              here
-              (subst
-              (λ (n : ℕ). Printed xs (set (set ys (at + 2 * j) x) n y) at (take (2 * j + 1 + 1) (hexText p)) (at + (2 * j + 1 + 1)))
-              beside
-              both));
+          printed = subst (λ (k : ℕ). Printed xs (set (set ys next x) (next + 1) y) at (take k (hexText p)) (at + k))
+              far (subst
+              (λ (n : ℕ). Printed xs (set (set ys n x) (next + 1) y) at (take (2 * j + 1 + 1) (hexText p))
+              (at + (2 * j + 1 + 1)))
+              here (subst
+              (λ (n : ℕ). Printed xs (set (set ys (at + 2 * j) x) n y) at (take (2 * j + 1 + 1) (hexText p))
+              (at + (2 * j + 1 + 1)))
+              beside both));
           behind = omega (arith, h .behind);
         }
 

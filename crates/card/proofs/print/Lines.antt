@@ -7,14 +7,16 @@ use native.Mathlib.Omega.{arith}
 use lib.ListN.{length, take, drop, length-drop}
 use lib.Seq.{getD-take, getD-drop, length-take-le}
 use Rattle.codec.specs.Field.{fieldOf, Received}
-use Rattle.card.specs.Text.{digits, digitCount, decimal, numberLine, payloadKey, hexText, payloadText, rowKey, rowsText, feed, cellsText, rowText}
+use Rattle.card.specs.Text.{digits, digitCount, decimal, numberLine, payloadKey, hexText, payloadText, rowKey, rowsText}
+use Rattle.card.specs.Text.{feed, cellsText, rowText}
 use Rattle.card.specs.Working.{Room, Printed}
 use Rattle.card.proofs.theory.RowText.{length-rows}
 use Rattle.card.proofs.theory.Printed.{printed-none, printed-then, printed-long, room-first, room-next}
 use Rattle.card.proofs.print.Text.{rows-more}
 
 -- a line of three parts
-module _ {xs : List ℕ} {at : ℕ} {text : List ℕ} (key value : List ℕ) (line : text ≡ key ++ (value ++ (feed ∷ []))) (room : Room xs at text) where
+module _ {xs : List ℕ} {at : ℕ} {text : List ℕ} (key value : List ℕ)
+    (line : text ≡ key ++ (value ++ (feed ∷ []))) (room : Room xs at text) where
   whole : Room xs at (key ++ (value ++ (feed ∷ [])))
   whole = subst (λ (t : List ℕ). Room xs at t) line room
 
@@ -33,7 +35,8 @@ module _ {xs : List ℕ} {at : ℕ} {text : List ℕ} (key value : List ℕ) (li
       feed-room = room-next rest q
 
       pub line-printed : {us : List ℕ} {r : ℕ} → Printed zs us k (feed ∷ []) r → Printed xs us at text r
-      line-printed {us} {r} f = subst (λ (t : List ℕ). Printed xs us at t r) (sym line) (printed-then whole p (printed-then rest q f))
+      line-printed {us} {r} f =
+          subst (λ (t : List ℕ). Printed xs us at t r) (sym line) (printed-then whole p (printed-then rest q f))
 
 -- the parts of each line
 pub number-parts : (key : List ℕ) (n k : ℕ) → k ≡ digitCount n → numberLine key n ≡ key ++ (digits k n ++ (feed ∷ []))
@@ -49,7 +52,8 @@ unfolding rowText
 row-parts cells = refl
 
 -- rows of w cells: r of them are written
-module _ {xs : List ℕ} {at : ℕ} (w k : ℕ) (cells : List ℕ) (long : length cells ≡ k * w) (room : Room xs at (rowsText w k cells)) where
+module _ {xs : List ℕ} {at : ℕ} (w k : ℕ) (cells : List ℕ)
+    (long : length cells ≡ k * w) (room : Room xs at (rowsText w k cells)) where
   pub rows-none : Printed xs xs at (rowsText w 0 cells) at
   rows-none = printed-none xs at (omega (arith, room .fits))
 
@@ -79,7 +83,8 @@ module _ {xs : List ℕ} {at : ℕ} (w k : ℕ) (cells : List ℕ) (long : lengt
       pub row-room : Room ys next (rowText (take (r * w + w - r * w) (drop (r * w) cells)))
       row-room = room-next one-more p
 
-      pub row-printed : {zs : List ℕ} {behind : ℕ} → Printed ys zs next (rowText (take (r * w + w - r * w) (drop (r * w) cells))) behind
+      pub row-printed : {zs : List ℕ} {behind : ℕ}
+          → Printed ys zs next (rowText (take (r * w + w - r * w) (drop (r * w) cells))) behind
           → Printed xs zs at (rowsText w (r + 1) cells) behind
       row-printed {zs} {behind} q =
           subst
@@ -95,6 +100,7 @@ module _ {xs : List ℕ} {at : ℕ} (w k : ℕ) (cells : List ℕ) (long : lengt
 pub part-cells : (cells : List ℕ) → Received (fieldOf cells) (length cells) → (first n : ℕ) → first + n ≤ length cells
     → Received (fieldOf (take n (drop first cells))) (length (take n (drop first cells)))
 part-cells cells each first n l i m =
-    let long : length (take n (drop first cells)) ≡ n = length-take-le n (drop first cells) (omega (arith, length-drop first cells)) in
+    let long : length (take n (drop first cells)) ≡ n =
+    length-take-le n (drop first cells) (omega (arith, length-drop first cells)) in
     let k : i < n = omega arith in
     rw (getD-take n (drop first cells) i 0 k, getD-drop first cells i 0) (each (first + i) (omega arith))

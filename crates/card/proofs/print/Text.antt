@@ -59,12 +59,16 @@ rows-last : (w k : ℕ) (cells : List ℕ) → rowsText w (suc k) cells ≡ rows
 rows-last w zero cells = append-nil (rowText (take w cells)) ∙ ap (λ (m : ℕ). rowText (take w (drop m cells))) (sym (zero-mul w))
 rows-last w (suc k) cells =
     let far : w + k * w ≡ suc k * w = omega arith in
-    let rest : rowsText w (suc k) (drop w cells) ≡ rowsText w k (drop w cells) ++ rowText (take w (drop (suc k * w) cells)) =
+    let rest : rowsText w (suc k) (drop w cells)
+    ≡ rowsText w k (drop w cells) ++ rowText (take w (drop (suc k * w) cells)) =
     rows-last w k (drop w cells)
-    ∙ ap (λ (l : List ℕ). rowsText w k (drop w cells) ++ rowText (take w l)) (drop-drop (k * w) w cells ∙ ap (λ (m : ℕ). drop m cells) far) in
-    ap (λ (t : List ℕ). rowText (take w cells) ++ t) rest ∙ sym (append-assoc (rowText (take w cells)) (rowsText w k (drop w cells)) _)
+    ∙ ap (λ (l : List ℕ). rowsText w k (drop w cells) ++ rowText (take w l))
+    (drop-drop (k * w) w cells ∙ ap (λ (m : ℕ). drop m cells) far) in
+    ap (λ (t : List ℕ). rowText (take w cells) ++ t) rest
+    ∙ sym (append-assoc (rowText (take w cells)) (rowsText w k (drop w cells)) _)
 
-pub rows-more : (w r : ℕ) (cells : List ℕ) → rowsText w (r + 1) cells ≡ rowsText w r cells ++ rowText (take w (drop (r * w) cells))
+pub rows-more : (w r : ℕ) (cells : List ℕ)
+    → rowsText w (r + 1) cells ≡ rowsText w r cells ++ rowText (take w (drop (r * w) cells))
 rows-more w r cells = ap (λ (k : ℕ). rowsText w k cells) (add-one r) ∙ rows-last w r cells
 
 -- the digits of a number, the last behind the others
@@ -85,4 +89,5 @@ module _ {xs : List ℕ} {at : ℕ} (k n : ℕ) (room : Room xs at (digits k n))
       last-room = room-next parts p
 
       pub digits-printed : {zs : List ℕ} {r : ℕ} → Printed ys zs m ((48 + n % 10) ∷ []) r → Printed xs zs at (digits k n) r
-      digits-printed {zs} {r} q = subst (λ (t : List ℕ). Printed xs zs at t r) (sym (digits-last k n some)) (printed-then parts p q)
+      digits-printed {zs} {r} q =
+          subst (λ (t : List ℕ). Printed xs zs at t r) (sym (digits-last k n some)) (printed-then parts p q)

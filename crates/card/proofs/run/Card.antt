@@ -47,7 +47,11 @@ module _ (h : Header) (r : NewShape) (x : IsNewShape (h .numbers) r) where
     new-many n p l = rw (cells-given n p) at l
 
     pub new-card : (n : ℕ) → n ≡ figure (shapeNumber s) (cellsOf s) → n ≤ maxCardCells → CardShape h s
-    new-card n p l = record { card = record { accepted = new-accepted _ _ x s e; cells = rw (cells-given n p) at l }; shape = new-shape _ _ x s e }
+    new-card n p l =
+        record {
+          card = record { accepted = new-accepted _ _ x s e; cells = rw (cells-given n p) at l };
+          shape = new-shape _ _ x s e;
+        }
 
 -- the figures of a card's shape
 module _ (h : Header) (s : Shape) (x : CardShape h s) where
@@ -97,7 +101,8 @@ module _ (h : Header) (s : Shape) (x : CardShape h s) where
     encoded-done e = sym (beside-zero (encodeNumber (shapeOf h) payload (blankField h)) _ _ (sym blank-number ∙ sym e))
 
   -- it leaves the field written
-  module _ (payload field last : List ℕ) (long : length payload ≡ planBytes s) (cells : length field ≡ cellsOf s) (leaves : last ≡ encodeLeaves s payload field) where
+  module _ (payload field last : List ℕ) (long : length payload ≡ planBytes s) (cells : length field ≡ cellsOf s)
+      (leaves : last ≡ encodeLeaves s payload field) where
     pub field-encoded : last ≡ encodedField (shapeOf h) payload
     unfolding encodeLeaves
     field-encoded =
@@ -124,14 +129,21 @@ module _ (h : Header) (s : Shape) (x : CardShape h s) where
     same-number : decodeNumber s payload cells ≡ decodeNumber (shapeOf h) (blankPayload h) cells
     same-number = ap₂ (λ (t : Shape) (p : List ℕ). decodeNumber t p cells) (x .shape) blank
 
-    pub decoded-refused : (why : Refusal) → refusalNumber why ≡ decodeNumber s payload cells → refusalText (refusalNumber why) ≡ decodedText h cells
+    pub decoded-refused : (why : Refusal)
+        → refusalNumber why ≡ decodeNumber s payload cells
+        → refusalText (refusalNumber why) ≡ decodedText h cells
     unfolding decodedText
     decoded-refused why e = let n = e ∙ same-number in ap refusalText n ∙ refused why _ _ _ n
 
     module _ (last : List ℕ) (leaves : last ≡ decodeLeaves s payload cells) where
       pub decoded-long : length last ≤ maxCardBytes
       decoded-long =
-          rw (leaves, leaves-long s accepted payload cells (ap length blank ∙ blank-payload h ∙ ap planBytes (sym (x .shape)))) bytes-fit
+          rw (
+            leaves,
+            leaves-long s accepted payload cells
+                (ap length blank ∙ blank-payload h ∙ ap planBytes (sym (x .shape))),
+          )
+          bytes-fit
 
       pub card-decoded : (k : ℕ) → 0 ≡ decodeNumber s payload cells → k ≡ decodeCount s payload cells
           → headText h mendedKey k ++ payloadText last ≡ decodedText h cells
@@ -149,8 +161,14 @@ module _ (h : Header) (s : Shape) (x : CardShape h s) (input : List ℕ) (next :
   pub rows-fit : (t : Bool) → t ≡ rowsOk input next (s .columns) (s .planes * s .rows) → t ≡ rowsFit input h next
   rows-fit t e = e ∙ ap (λ (k : Shape). rowsOk input next (k .columns) (k .planes * k .rows)) (x .shape)
 
-  pub cells-read : (last : List ℕ) (n : ℕ) → n ≡ cellsOf s → last ≡ cellsAt input next (s .columns) n → last ≡ cellsIn input h next
-  cells-read last n e p = p ∙ ap (cellsAt input next (s .columns)) e ∙ ap (λ (k : Shape). cellsAt input next (k .columns) (cellsOf k)) (x .shape)
+  pub cells-read : (last : List ℕ) (n : ℕ)
+      → n ≡ cellsOf s
+      → last ≡ cellsAt input next (s .columns) n
+      → last ≡ cellsIn input h next
+  cells-read last n e p =
+      p
+      ∙ ap (cellsAt input next (s .columns)) e
+      ∙ ap (λ (k : Shape). cellsAt input next (k .columns) (cellsOf k)) (x .shape)
 
   pub cells-long : (last : List ℕ) (n : ℕ) → last ≡ cellsAt input next (s .columns) n → length last ≡ n
   unfolding cellsAt cellByte

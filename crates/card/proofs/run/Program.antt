@@ -19,7 +19,8 @@ use Rattle.card.specs.Card.{maxInput, maxCardCells, shapeOf, CardHeader}
 use Rattle.card.specs.Parse.{headerOf, payloadOk, payloadOf}
 use Rattle.card.specs.Program.{isPayload, rowsFit, cellsIn, bodyOk, numberAfter, programNumber, answer}
 use Rattle.card.specs.Working.{HeaderRead, encodedText, decodedText}
-use Rattle.card.proofs.theory.ProgramParts.{body-payload, operation-payload, success-payload, body-rows, operation-rows, success-rows, answer-refused, number-operation}
+use Rattle.card.proofs.theory.ProgramParts.{body-payload, operation-payload, success-payload, body-rows, operation-rows}
+use Rattle.card.proofs.theory.ProgramParts.{success-rows, answer-refused, number-operation}
 
 -- an input that is refused has the refusal's text
 refused : (s : List ℕ) (r : Refusal) → refusalNumber r ≡ programNumber s → refusalText (refusalNumber r) ≡ answer s
@@ -86,5 +87,7 @@ module _ (s : List ℕ) (h : Header) (next : ℕ) (x : HeaderRead s h next) wher
       pub rows-read : rowsFit s h next ≡ true → answer s ≡ decodedText h (cellsIn s h next)
       unfolding decodedText answer
       rows-read ok =
-          let number = number-operation s h next (x .short) (x .found) card (body-rows s h next rows ∙ ok) ∙ operation-rows s h next rows in
+          let number =
+          number-operation s h next (x .short) (x .found) card (body-rows s h next rows ∙ ok)
+          ∙ operation-rows s h next rows in
           rw (number, x .found, success-rows s h next rows)

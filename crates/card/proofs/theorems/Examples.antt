@@ -13,9 +13,12 @@ use Rattle.codec.specs.Payload.{payloadBytes, rank, payloadBit, padding, dataVa
 use Rattle.codec.specs.Plan.{planClasses, planCapacity, planBytes, planCells}
 use Rattle.codec.specs.Encode.{encodeNumber, encodedField}
 use Rattle.codec.specs.Decode.{fieldNumber, correctedCount, decodeNumber, decodeCount, decodeLeaves}
-use Rattle.card.specs.Text.{digitCount, decimal, numberLine, headerText, hexDigit, payloadText, cellsText, rowText, fieldText, refusalText}
-use Rattle.card.specs.Parse.{keyAt, numberEnds, numberAt, lineAt, headerOf, isHex, hexValue, payloadOk, payloadOf, isCellDigit, rowOk, rowsOk, cellsAt}
-use Rattle.card.specs.Program.{bodyOk, operationNumber, numberAfter, programNumber, writtenText, readText, successText, answer}
+use Rattle.card.specs.Text.{digitCount, decimal, numberLine, headerText, hexDigit, payloadText, cellsText, rowText}
+use Rattle.card.specs.Text.{fieldText, refusalText}
+use Rattle.card.specs.Parse.{keyAt, numberEnds, numberAt, lineAt, headerOf, isHex, hexValue, payloadOk, payloadOf}
+use Rattle.card.specs.Parse.{isCellDigit, rowOk, rowsOk, cellsAt}
+use Rattle.card.specs.Program.{bodyOk, operationNumber, numberAfter, programNumber, writtenText, readText, successText}
+use Rattle.card.specs.Program.{answer}
 use Rattle.card.specs.theorems.Examples.{CardExamples}
 
 -- Theorem. The program's answers to the listed texts.
@@ -25,7 +28,8 @@ unfolding
     oddSettings evenSettings flatSettings settingsFor cellAt minusMod classWith classesOf classOf
     sizeTo position isPower isCheck checks holdsData capacity
     isCell isReceived cellsOk differences tagsOf isTag inReach allInReach corrected
-    payloadBytes rank payloadBit padding dataValue dataField encoded paddingOk heldPayload planClasses planCapacity planBytes planCells
+    payloadBytes rank payloadBit padding dataValue dataField encoded paddingOk heldPayload
+    planClasses planCapacity planBytes planCells
     encodeNumber encodedField
     fieldNumber correctedCount decodeNumber decodeCount decodeLeaves
     digitCount decimal numberLine headerText hexDigit payloadText cellsText rowText fieldText refusalText

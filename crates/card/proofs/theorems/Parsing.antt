@@ -18,9 +18,18 @@ textParses =
           omega (arith, length-append (headerText h) (payloadText p), header-most h, length-payload p, bytes-most h x);
       payload-header = λ h x p. (header-back h (payloadText p) (card-small h x), payload-key (headerText h) p);
       payload-back = λ h p bytes. payload-back (headerText h) p bytes;
-      field-short = λ h x cells y.
-          omega (arith, length-append (headerText h) (fieldText h cells), header-most h, length-field h cells y, rows-most h x, x .cells);
-      field-header = λ h x cells. (header-back h (fieldText h cells) (card-small h x), field-key (headerText h) h cells (rows-some h x));
+      field-short = λ h x cells y. omega (
+        arith,
+        length-append (headerText h) (fieldText h cells),
+        header-most h,
+        length-field h cells y,
+        rows-most h x,
+        x .cells,
+      );
+      field-header = λ h x cells. (
+        header-back h (fieldText h cells) (card-small h x),
+        field-key (headerText h) h cells (rows-some h x),
+      );
       field-back = λ h cells y. field-back (headerText h) h cells y;
     }
 
@@ -29,9 +38,11 @@ parsedIsText =
     record {
       header = λ s h next found. let x = header-found s h next found in (x .small, x .next-line, x .text);
       payload = λ s h next found ok.
-          let r = payload-text s next ok in (r .0, header-found s h next found .text ∙ ap (λ (t : List _). headerText h ++ t) (r .1));
+          let r = payload-text s next ok in
+          (r .0, header-found s h next found .text ∙ ap (λ (t : List _). headerText h ++ t) (r .1));
       rows = λ s h next found fits.
-          let r = field-text s h next fits in (r .0, header-found s h next found .text ∙ ap (λ (t : List _). headerText h ++ t) (r .1));
+          let r = field-text s h next fits in
+          (r .0, header-found s h next found .text ∙ ap (λ (t : List _). headerText h ++ t) (r .1));
     }
 
 pub oneCard : OneCard

@@ -14,7 +14,10 @@ printedIsRead =
     record {
       whole = read-back;
       damaged = λ h card p long bytes S cluster small selected inside.
-          let back = recovery (shapeOf h) (card .accepted) p long bytes S cluster small selected inside (blankPayload h) (blank-payload h) in
-          read h card (damagedField (shapeOf h) p selected) (damaged-field h card p long bytes selected) (back .decoded-number)
+          let back =
+          recovery (shapeOf h) (card .accepted) p long bytes S cluster small selected inside (blankPayload h)
+          (blank-payload h) in
+          read h card (damagedField (shapeOf h) p selected) (damaged-field h card p long bytes selected)
+          (back .decoded-number)
           ∙ read-text h (damagedField (shapeOf h) p selected) p _ (back .decoded-count) (back .decoded-payload);
     }

@@ -13,7 +13,8 @@ use Rattle.codec.specs.Encode.{encodedField}
 use Rattle.codec.specs.Decode.{decodeCount, decodeLeaves}
 use Rattle.codec.proofs.theorems.Writing.{encodeMeaning}
 use Rattle.card.specs.declared.header.Header.{Header}
-use Rattle.card.specs.Text.{digitCount, numberLine, headerLines, headerText, payloadText, fieldText, refusalText, classesKey, mendedKey, refusalKey}
+use Rattle.card.specs.Text.{digitCount, numberLine, headerLines, headerText, payloadText, fieldText, refusalText}
+use Rattle.card.specs.Text.{classesKey, mendedKey, refusalKey}
 use Rattle.card.specs.Card.{maxAnswer, shapeOf, CardHeader}
 use Rattle.card.specs.Program.{blankPayload, writtenText, readText}
 use Rattle.card.proofs.theory.DecimalText.{digit-count-range, digit-count-one, digit-count-two, digit-count-three}
@@ -32,7 +33,8 @@ writtenLength h =
     linesLength (headerLines h) + (length classesKey + digitCount (planClasses (shapeOf h)) + 1)
     + h .numbers .planes * h .numbers .rows * (h .numbers .columns + 5)
 
--- the longest has 4,096 rows of 4 cells: where a row has more there are fewer rows, and a stack's strength and classes have few digits
+-- the longest has 4,096 rows of 4 cells: where a row has more there are fewer rows, and a stack's strength and classes have few
+-- digits
 module _ (h : Header) (card : CardHeader h) where
   strength-width : (h .numbers .planes ≢ 1 → digitCount (h .numbers .strength) ≤ 1) × (digitCount (h .numbers .strength) ≤ 2)
   strength-width = (

@@ -17,7 +17,9 @@ use Rattle.card.proofs.theorems.Outputs.{outputForms}
 use Rattle.card.proofs.theory.PayloadText.{at-payload}
 use Rattle.card.proofs.theory.PayloadStored.{payloadByte}
 
-pub answered-leaves : (s before after : List ℕ) (r : ℕ) → Answered (answer s) before after r → (r ≡ length (answer s)) × (after ≡ outputLeaves (answer s) before)
+pub answered-leaves : (s before after : List ℕ) (r : ℕ)
+    → Answered (answer s) before after r
+    → (r ≡ length (answer s)) × (after ≡ outputLeaves (answer s) before)
 answered-leaves s before after r a = (a .long, a .leaves)
 
 -- the first n of m zeros
@@ -49,7 +51,11 @@ pub bytes-read : (s : List ℕ) (at : ℕ) → payloadOk s at ≡ true → Bytes
 bytes-read s at ok = at-payload s at ok .bytes
 
 -- an output of m bytes that is long enough for every answer
-pub answer-within : (s last : List ℕ) (r m : ℕ) → maxAnswer ≤ m → r ≡ length (answer s) → length last ≡ length {A = ℕ} (replicate m 0) → r ≤ length last
+pub answer-within : (s last : List ℕ) (r m : ℕ)
+    → maxAnswer ≤ m
+    → r ≡ length (answer s)
+    → length last ≡ length {A = ℕ} (replicate m 0)
+    → r ≤ length last
 answer-within s last r m l e k =
     let long : length {A = ℕ} (replicate m 0) ≡ m = length-replicate m 0 in
     omega (arith, outputForms .short s)

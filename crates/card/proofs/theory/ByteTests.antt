@@ -40,7 +40,11 @@ module _ (P : ℕ → Bool) (s : List ℕ) (start : ℕ) where
   unfolding testAt
   test-passes j b e p = rw e at p
 
-  pub test-fails : (n j b : ℕ) → j < n → b ≡ getD s (start + j) 0 → P b ≡ false → false ≡ allBelow (λ i. P (getD s (start + i) 0)) n
+  pub test-fails : (n j b : ℕ)
+      → j < n
+      → b ≡ getD s (start + j) 0
+      → P b ≡ false
+      → false ≡ allBelow (λ i. P (getD s (start + i) 0)) n
   unfolding testAt
   test-fails n j b l e p = failed-at testAt j n l (rw e at p)
 

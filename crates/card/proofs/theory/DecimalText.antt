@@ -22,7 +22,8 @@ pub record Wide (n k : ℕ) : Type 0 where
 pub wide-width : (n k : ℕ) → Wide n k → digitCount n ≡ suc k
 unfolding digitCount
 wide-width n zero x = rw (lt-ltb n 10 (x .below))
-wide-width n (suc k) x = ⊎-elim (λ (e : suc k ≡ 0). absurd (omega arith)) (λ (l : 10 ^ suc k ≤ n). go k (x .most) (x .below) l) (x .least)
+wide-width n (suc k) x =
+    ⊎-elim (λ (e : suc k ≡ 0). absurd (omega arith)) (λ (l : 10 ^ suc k ≤ n). go k (x .most) (x .below) l) (x .least)
   where
     go : (k : ℕ) → suc k ≤ 4 → n < 10 ^ suc (suc k) → 10 ^ suc k ≤ n → digitCount n ≡ suc (suc k)
     go zero m b l = rw (le-ltb n 10 l, lt-ltb n 100 b)

@@ -68,7 +68,12 @@ digits-value s at (suc k) p =
 pub leading-zero : (s : List ℕ) (at k : ℕ) → DigitsAt s at (suc k) → getD s at 0 ≡ 48 → digitsValue s at (suc k) < 10 ^ k
 leading-zero s at zero p e = rw (add-zero at) (omega arith)
 leading-zero s at (suc k) p e =
-    omega (arith, leading-zero s at k (fewer s at (suc k) p) e, pow-suc 10 k, range-high 48 57 (getD s (at + suc k) 0) (p (suc k) (le-refl _)))
+    omega (
+      arith,
+      leading-zero s at k (fewer s at (suc k) p) e,
+      pow-suc 10 k,
+      range-high 48 57 (getD s (at + suc k) 0) (p (suc k) (le-refl _)),
+    )
 
 pub leading-other : (s : List ℕ) (at k : ℕ) → 48 < getD s at 0 → 10 ^ k ≤ digitsValue s at (suc k)
 leading-other s at zero l = rw (add-zero at) (omega arith)
@@ -88,7 +93,11 @@ run-digits s at (suc limit) = go (isDigit (getD s at 0)) refl (run-digits s (at 
     go true e p (suc j) l = let f : at + suc j ≡ at + 1 + j = omega arith in rw f (p j (omega arith))
     go false e p j l = absurd (not-suc-le-zero l)
 
-pub digits-run : (s : List ℕ) (at k limit : ℕ) → DigitsAt s at k → isDigit (getD s (at + k) 0) ≡ false → k ≤ limit → digitRun s at limit ≡ k
+pub digits-run : (s : List ℕ) (at k limit : ℕ)
+    → DigitsAt s at k
+    → isDigit (getD s (at + k) 0) ≡ false
+    → k ≤ limit
+    → digitRun s at limit ≡ k
 digits-run s at zero zero p e l = refl
 digits-run s at (suc k) zero p e l = absurd (not-suc-le-zero l)
 digits-run s at zero (suc limit) p e l = rw (rw (add-zero at) at e)

@@ -1,4 +1,5 @@
--- The rows of a field behind a header: their text is read back, what is read is such a text, and it is the text of one field alone.
+-- The rows of a field behind a header: their text is read back, what is read is such a text, and it is the text of one field
+-- alone.
 use Prim.Native.Nat.{ℕ, zero, suc, _+_, _*_, _<_}
 use mathlib.Core.Bool.{true, false}
 use mathlib.Core.List.{List, [], _++_}
@@ -34,8 +35,10 @@ unfolding fieldText
 length-field h cells x = length-rows (h .numbers .columns) (rowsOf h) cells (omega (arith, x .long))
 
 -- the rows behind anything are read back
-pub field-back : (before : List ℕ) (h : Header) (cells : List ℕ) → FieldCells h cells
-    → (rowsFit (before ++ fieldText h cells) h (length before) ≡ true) × (cellsIn (before ++ fieldText h cells) h (length before) ≡ cells)
+pub field-back : (before : List ℕ) (h : Header) (cells : List ℕ)
+    → FieldCells h cells
+    → (rowsFit (before ++ fieldText h cells) h (length before) ≡ true)
+    × (cellsIn (before ++ fieldText h cells) h (length before) ≡ cells)
 unfolding fieldText
 field-back before h cells x =
     let s = before ++ fieldText h cells in
@@ -58,8 +61,12 @@ unfolding fieldText
 field-text s h at p =
     let x : RowsStand s at (h .numbers .columns) (rowsOf h) (cellsIn s h at) =
     rw (cells-of h) (at-rows s at (h .numbers .columns) (rowsOf h) p) in
-    let cells : FieldCells h (cellsIn s h at) = record { long = x .long ∙ sym (cells-of h); each = λ i l. x .each i (omega (arith, cells-of h)) } in
-    (cells, stands-whole (fieldText h (cellsIn s h at)) s at (x .stands) (x .ends ∙ omega (arith, length-field h (cellsIn s h at) cells)))
+    let cells : FieldCells h (cellsIn s h at) =
+    record { long = x .long ∙ sym (cells-of h); each = λ i l. x .each i (omega (arith, cells-of h)) } in (
+      cells,
+      stands-whole (fieldText h (cellsIn s h at)) s at (x .stands)
+          (x .ends ∙ omega (arith, length-field h (cellsIn s h at) cells)),
+    )
 
 -- rows are those of one field
 pub field-same : (h : Header) (a b : List ℕ) → FieldCells h a → FieldCells h b → fieldText h a ≡ fieldText h b → a ≡ b

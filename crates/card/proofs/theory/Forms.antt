@@ -9,7 +9,8 @@ use Rattle.card.specs.Card.{maxAnswer}
 use Rattle.card.specs.Parse.{payloadOf}
 use Rattle.card.specs.Program.{cellsIn, programNumber, successText, answer}
 use Rattle.card.specs.Form.{OneOfThree}
-use Rattle.card.proofs.theory.ProgramParts.{operation-payload, success-payload, success-rows, answer-success, answer-refused}
+use Rattle.card.proofs.theory.ProgramParts.{operation-payload, success-payload, success-rows, answer-success}
+use Rattle.card.proofs.theory.ProgramParts.{answer-refused}
 use Rattle.card.proofs.theory.CardRead.{CardRead, of-payload, of-field, card-read}
 use Rattle.card.proofs.theory.Passed.{Passed, passed}
 use Rattle.card.proofs.theory.AnswerLength.{written-most, read-most, refusal-most}
@@ -18,15 +19,19 @@ use Rattle.card.proofs.theory.ProgramTests.{encoded-long}
 pub form : (s : List ℕ) → OneOfThree s
 form s = go (programNumber s) refl
   where
-    success : programNumber s ≡ 0 → (x : Passed s) → answer s ≡ successText s (head.Found (x .header) (x .next)) → CardRead s (x .header) (x .next)
+    success : programNumber s ≡ 0
+        → (x : Passed s)
+        → answer s ≡ successText s (head.Found (x .header) (x .next))
+        → CardRead s (x .header) (x .next)
         → OneOfThree s
     success z x e (of-payload is bytes text) =
         OneOfThree.written (x .header) (payloadOf s (x .next)) (x .card)
-        (encoded-long (x .header) (x .card) (payloadOf s (x .next)) (sym (operation-payload s (x .header) (x .next) is) ∙ x .success))
-        bytes z text
-        (e ∙ success-payload s (x .header) (x .next) is)
+        (encoded-long (x .header) (x .card) (payloadOf s (x .next))
+        (sym (operation-payload s (x .header) (x .next) is) ∙ x .success))
+        bytes z text (e ∙ success-payload s (x .header) (x .next) is)
     success z x e (of-field is each text) =
-        OneOfThree.read (x .header) (cellsIn s (x .header) (x .next)) (x .card) each z text (e ∙ success-rows s (x .header) (x .next) is)
+        OneOfThree.read (x .header) (cellsIn s (x .header) (x .next)) (x .card) each z text
+        (e ∙ success-rows s (x .header) (x .next) is)
 
     go : (n : ℕ) → programNumber s ≡ n → OneOfThree s
     go zero e =

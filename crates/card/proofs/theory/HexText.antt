@@ -39,7 +39,9 @@ unfolding isHex
 digit-is-hex d l = go (decLt d 10)
   where
     go : Dec (d < 10) → (inRange 48 57 (hexDigit d) || inRange 97 102 (hexDigit d)) ≡ true
-    go (yes k) = or-true-left (inRange 48 57 (hexDigit d)) _ (in-range 48 57 (hexDigit d) (omega (arith, digit-low d k)) (omega (arith, digit-low d k)))
+    go (yes k) =
+        or-true-left (inRange 48 57 (hexDigit d)) _
+        (in-range 48 57 (hexDigit d) (omega (arith, digit-low d k)) (omega (arith, digit-low d k)))
     go (no k) =
         let e = digit-high d (omega arith) in
         or-true-right (inRange 48 57 (hexDigit d)) _ (in-range 97 102 (hexDigit d) (omega arith) (omega arith))

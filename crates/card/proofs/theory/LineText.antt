@@ -8,7 +8,8 @@ use lib.ListN.{length, length-append}
 use Rattle.card.specs.declared.line.Line.the-variants as line
 use Rattle.card.specs.Text.{digitCount, decimal, numberLine, feed}
 use Rattle.card.specs.Parse.{keyAt, numberAt, lineAt}
-use Rattle.card.proofs.theory.StandsAt.{StandsAt, stands-left, stands-right, stands-both, one-stands, byte-inside, key-at, at-key}
+use Rattle.card.proofs.theory.StandsAt.{StandsAt, stands-left, stands-right, stands-both, one-stands, byte-inside, key-at}
+use Rattle.card.proofs.theory.StandsAt.{at-key}
 use Rattle.card.proofs.theory.DecimalText.{length-decimal}
 use Rattle.card.proofs.theory.NumberText.{number-at, at-number}
 
@@ -42,7 +43,10 @@ pub at-line : (key s : List ℕ) (at n next : ℕ) → lineAt key s at ≡ line.
 unfolding lineAt numberLine
 at-line key s at n next p = go (keyAt key s at) refl p
   where
-    go : (b : Bool) → keyAt key s at ≡ b → cond b (numberAt s (at + length key)) line.Fault ≡ line.Number n next → LineStands key s at n next
+    go : (b : Bool)
+        → keyAt key s at ≡ b
+        → cond b (numberAt s (at + length key)) line.Fault ≡ line.Number n next
+        → LineStands key s at n next
     go true e q =
         let x = at-number s (at + length key) n next q in
         record {

@@ -17,7 +17,8 @@ use Rattle.card.specs.declared.line.Line.the-variants as line
 use Rattle.card.specs.Text.{digits, digitCount, decimal, feed}
 use Rattle.card.specs.Parse.{isDigit, digitRun, digitsValue, numberEnds, numberAt}
 use Rattle.card.proofs.theory.StandsAt.{StandsAt, stands-left, stands-right, stands-both, stands-one, one-stands}
-use Rattle.card.proofs.theory.Digits.{DigitsAt, digits-at, value-digits, value-below, digits-value, leading-zero, leading-other, run-digits, digits-run}
+use Rattle.card.proofs.theory.Digits.{DigitsAt, digits-at, value-digits, value-below, digits-value, leading-zero}
+use Rattle.card.proofs.theory.Digits.{leading-other, run-digits, digits-run}
 use Rattle.card.proofs.theory.DecimalText.{Wide, wide, wide-width, wide-small, length-decimal}
 
 -- k digits from `at` end a number: from the test and back
@@ -144,7 +145,9 @@ at-number s at n next p = read (digitRun s at 6) (run-digits s at 6) (sym (numbe
     read : (k : ℕ) → DigitsAt s at k → runRead s at k ≡ line.Number n next → NumberStands s at n next
     read k d q = go (numberEnds s at k) refl q
       where
-        go : (b : Bool) → numberEnds s at k ≡ b → cond b (line.Number (digitsValue s at k) (at + k + 1)) line.Fault ≡ line.Number n next
+        go : (b : Bool)
+            → numberEnds s at k ≡ b
+            → cond b (line.Number (digitsValue s at k) (at + k + 1)) line.Fault ≡ line.Number n next
             → NumberStands s at n next
         go true e r =
             let same : digitsValue s at k ≡ n = cc in

@@ -66,5 +66,8 @@ module _ (s : List ℕ) (h : Header) (next : ℕ) (found : headerOf s ≡ head.F
     pub field-is : (cells : List ℕ) → FieldCells h cells → s ≡ fieldCard h cells → isPayload s next ≡ false
     field-is cells each e = rw (next-is, e) (textParses .field-header h card cells .1)
 
-    pub field-read : (cells : List ℕ) → FieldCells h cells → s ≡ fieldCard h cells → (rowsFit s h next ≡ true) × (cellsIn s h next ≡ cells)
+    pub field-read : (cells : List ℕ)
+        → FieldCells h cells
+        → s ≡ fieldCard h cells
+        → (rowsFit s h next ≡ true) × (cellsIn s h next ≡ cells)
     field-read cells each e = rw (next-is, e) (textParses .field-back h cells each)

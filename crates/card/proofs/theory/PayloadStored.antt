@@ -99,7 +99,11 @@ module _ (s : List ℕ) (at : ℕ) where
       (e ∙ ap hexValue p)
       (f ∙ ap hexValue (q ∙ ap (λ (i : ℕ). getD s i 0) (sym (add-assoc (at + 8) (2 * j) 1))))
 
-  pub payload-stored : (xs ys : List ℕ) (n : ℕ) → length xs ≡ hexCount s at / 2 → Stored payloadByte xs ys n → n ≤ length ys → length ys ≤ n
+  pub payload-stored : (xs ys : List ℕ) (n : ℕ)
+      → length xs ≡ hexCount s at / 2
+      → Stored payloadByte xs ys n
+      → n ≤ length ys
+      → length ys ≤ n
       → ys ≡ payloadOf s at
   unfolding payloadOf payloadByte
   payload-stored xs ys n long p l q = stored-all payloadByte xs ys n p (hexCount s at / 2) (sym long) l q

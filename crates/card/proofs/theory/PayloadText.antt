@@ -15,7 +15,8 @@ use Rattle.codec.proofs.theory.AllBelow.{all-below, below-all}
 use Rattle.codec.proofs.theory.FieldLists.{getD-listOf, getD-listOf-behind, length-listOf, list-field}
 use Rattle.card.specs.Text.{hexText, payloadText, payloadKey, feed}
 use Rattle.card.specs.Parse.{keyAt, isHex, hexValue, hexCount, payloadOk, payloadOf}
-use Rattle.card.proofs.theory.StandsAt.{StandsAt, stands-left, stands-right, stands-both, stands-one, one-stands, stands-part, stands-last, stands-whole, key-at, at-key}
+use Rattle.card.proofs.theory.StandsAt.{StandsAt, stands-left, stands-right, stands-both, stands-one, one-stands}
+use Rattle.card.proofs.theory.StandsAt.{stands-part, stands-last, stands-whole, key-at, at-key}
 use Rattle.card.proofs.theory.HexText.{Pair, length-hex, hex-stands, stands-hex, hex-digits, pair-read, read-pair}
 
 -- the length of the line, by the number of bytes
@@ -43,7 +44,8 @@ to-parts s at p x =
     record {
       key = stands-left payloadKey (hexText p ++ (feed ∷ [])) s at x;
       hex = stands-left (hexText p) (feed ∷ []) s (at + 8) behind;
-      ended = rw (length-hex p) at (one-stands s (at + 8 + length (hexText p)) feed (stands-right (hexText p) (feed ∷ []) s (at + 8) behind));
+      ended = rw (length-hex p) at
+          (one-stands s (at + 8 + length (hexText p)) feed (stands-right (hexText p) (feed ∷ []) s (at + 8) behind));
     }
 
 from-parts : (s : List ℕ) (at : ℕ) (p : List ℕ) → Parts s at p → StandsAt (payloadText p) s at
@@ -66,8 +68,13 @@ five : (a b c d e : Bool) → (a && b && c && d && e) ≡ true → (a ≡ true) 
 five a b c d e p =
     let four = and-left (a && b && c && d) e p in
     let three = and-left (a && b && c) d four in
-    let two = and-left (a && b) c three in
-    (and-left a b two, and-right a b two, and-right (a && b) c three, and-right (a && b && c) d four, and-right (a && b && c && d) e p)
+    let two = and-left (a && b) c three in (
+      and-left a b two,
+      and-right a b two,
+      and-right (a && b) c three,
+      and-right (a && b && c) d four,
+      and-right (a && b && c && d) e p,
+    )
 
 pub ok-tests : (s : List ℕ) (at : ℕ) → payloadOk s at ≡ true → Tests s at
 unfolding payloadOk
@@ -158,7 +165,8 @@ at-payload s at p =
     pairs : (j : ℕ) → j < n → (byteAt s at j < 256) × Pair s (at + 8 + 2 * j) (byteAt s at j)
     pairs j l =
         let place : at + 8 + 2 * j + 1 ≡ at + 8 + (2 * j + 1) = omega arith in
-        read-pair s (at + 8 + 2 * j) (byteAt s at j) refl (x .each (2 * j) (omega arith)) (rw place (x .each (2 * j + 1) (omega arith)))
+        read-pair s (at + 8 + 2 * j) (byteAt s at j) refl (x .each (2 * j) (omega arith))
+        (rw place (x .each (2 * j + 1) (omega arith)))
 
     every : (j : ℕ) → Dec (j < n) → getD (payloadOf s at) j 0 < 256
     every j (yes l) = rw (getD-listOf (byteAt s at) n j l) (pairs j l .0)
@@ -173,7 +181,9 @@ payload-back before p bytes =
     (payload-ok (before ++ payloadText p) (length before) p x, payload-read (before ++ payloadText p) (length before) p x)
 
 -- what a payload is read from is its line
-pub payload-text : (s : List ℕ) (at : ℕ) → payloadOk s at ≡ true → Bytes (payloadOf s at) × (drop at s ≡ payloadText (payloadOf s at))
+pub payload-text : (s : List ℕ) (at : ℕ)
+    → payloadOk s at ≡ true
+    → Bytes (payloadOf s at) × (drop at s ≡ payloadText (payloadOf s at))
 payload-text s at p =
     let x = at-payload s at p in
     (x .bytes, stands-whole (payloadText (payloadOf s at)) s at (x .stands) (x .ends))

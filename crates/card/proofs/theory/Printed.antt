@@ -20,7 +20,10 @@ front-long xs at text r =
     length-append (take at xs) text ∙ ap (λ (n : ℕ). n + length text) (length-take-le at xs l)
 
 -- the buffer keeps its length
-pub printed-long : {xs ys : List ℕ} {at next : ℕ} {text : List ℕ} → Room xs at text → Printed xs ys at text next → length ys ≡ length xs
+pub printed-long : {xs ys : List ℕ} {at next : ℕ} {text : List ℕ}
+    → Room xs at text
+    → Printed xs ys at text next
+    → length ys ≡ length xs
 printed-long {xs} {at = at} {text = text} r p =
     ap length (parts p)
     ∙ length-append (take at xs ++ text) (drop (at + length text) xs)
@@ -43,7 +46,10 @@ room-next {a = a} {b = b} r p =
     record { fits = omega (arith, r .fits, length-append a b, p .behind, printed-long (room-first b r) p) }
 
 -- a second text behind the first
-pub printed-then : {xs ys zs : List ℕ} {at m n : ℕ} {a b : List ℕ} → Room xs at (a ++ b) → Printed xs ys at a m → Printed ys zs m b n
+pub printed-then : {xs ys zs : List ℕ} {at m n : ℕ} {a b : List ℕ}
+    → Room xs at (a ++ b)
+    → Printed xs ys at a m
+    → Printed ys zs m b n
     → Printed xs zs at (a ++ b) n
 printed-then {xs} {ys} {zs} {at} {m} {n} {a} {b} r p q =
     record {
@@ -76,8 +82,8 @@ printed-then {xs} {ys} {zs} {at} {m} {n} {a} {b} r p q =
 pub printed-one : (xs : List ℕ) (at v : ℕ) → Room xs at (v ∷ []) → Printed xs (set xs at v) at (v ∷ []) (at + 1)
 printed-one xs at v r =
     record {
-      bytes =
-          ap (λ (l : List ℕ). set l at v) (sym (take-append-drop at xs) ∙ ap (λ (t : List ℕ). take at xs ++ t) (drop-cons xs at 0 l))
+      bytes = ap (λ (l : List ℕ). set l at v)
+          (sym (take-append-drop at xs) ∙ ap (λ (t : List ℕ). take at xs ++ t) (drop-cons xs at 0 l))
           ∙ set-at (take at xs) (getD xs at 0) (drop (suc at) xs) v at (length-take-le at xs (omega arith))
           ∙ ap (λ (k : ℕ). take at xs ++ (v ∷ drop k xs)) (sym (add-one at));
       behind = refl;

@@ -24,7 +24,8 @@ use Rattle.card.specs.Text.{headerText, numberLine, payloadText, fieldTe
 use Rattle.card.specs.Card.{shapeOf, FieldCells, CardHeader, payloadCard, fieldCard}
 use Rattle.card.specs.Program.{blankField, blankPayload, writtenText, readText, answer}
 use Rattle.card.specs.theorems.RoundTrip.{ReadBack}
-use Rattle.card.proofs.theory.ProgramParts.{blank-field, blank-payload, body-payload, operation-payload, success-payload, body-rows, operation-rows, success-rows, answer-found}
+use Rattle.card.proofs.theory.ProgramParts.{blank-field, blank-payload, body-payload, operation-payload, success-payload}
+use Rattle.card.proofs.theory.ProgramParts.{body-rows, operation-rows, success-rows, answer-found}
 use Rattle.card.proofs.theorems.Parsing.{textParses}
 
 -- a field's text is read to the count and the payload that decoding gives
@@ -64,8 +65,9 @@ module _ (h : Header) (card : CardHeader h) where
       let next = length (headerText h) in
       let head = textParses .payload-header h card p in
       let back = textParses .payload-back h p bytes in
-      answer-found s h next (le-of-lt (textParses .payload-short h card p long)) (head .0) card (body-payload s h next (head .1) ∙ back .0)
-      (operation-payload s h next (head .1) ∙ rw (back .1) (encode-number (shapeOf h) (card .accepted) p (blankField h) long (blank-field h)))
+      answer-found s h next (le-of-lt (textParses .payload-short h card p long)) (head .0) card
+      (body-payload s h next (head .1) ∙ back .0) (operation-payload s h next (head .1)
+      ∙ rw (back .1) (encode-number (shapeOf h) (card .accepted) p (blankField h) long (blank-field h)))
       ∙ success-payload s h next (head .1)
       ∙ ap (writtenText h) (back .1)
 
@@ -77,8 +79,8 @@ module _ (h : Header) (card : CardHeader h) where
       let next = length (headerText h) in
       let head = textParses .field-header h card cells in
       let back = textParses .field-back h cells each in
-      answer-found s h next (le-of-lt (textParses .field-short h card cells each)) (head .0) card (body-rows s h next (head .1) ∙ back .0)
-      (operation-rows s h next (head .1) ∙ rw (back .1) success)
+      answer-found s h next (le-of-lt (textParses .field-short h card cells each)) (head .0) card
+      (body-rows s h next (head .1) ∙ back .0) (operation-rows s h next (head .1) ∙ rw (back .1) success)
       ∙ success-rows s h next (head .1)
       ∙ ap (readText h) (back .1)
 
@@ -87,12 +89,13 @@ module _ (h : Header) (card : CardHeader h) where
   unfolding writtenText
   read-back p long bytes =
       let F = encodedField (shapeOf h) p in
-      let back = nothingToCorrect .written (shapeOf h) (card .accepted) p long bytes (blankPayload h) (blank-payload h) in
+      let back =
+      nothingToCorrect .written (shapeOf h) (card .accepted) p long bytes (blankPayload h) (blank-payload h) in
       record {
         rest = fieldText h F;
         printed = printed p long bytes;
         rows = refl;
-        read =
-            read F (written-cells h card p long bytes) (back .decoded-number)
-            ∙ read-text h F p 0 (back .decoded-count ∙ nothingToCorrect .count (fieldOf F) (cellsOf (shapeOf h))) (back .decoded-payload);
+        read = read F (written-cells h card p long bytes) (back .decoded-number)
+            ∙ read-text h F p 0 (back .decoded-count ∙ nothingToCorrect .count (fieldOf F) (cellsOf (shapeOf h)))
+            (back .decoded-payload);
       }

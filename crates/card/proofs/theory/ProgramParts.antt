@@ -16,7 +16,8 @@ use Rattle.card.specs.declared.header.HeaderAnswer.the-variants as head
 use Rattle.card.specs.Text.{refusalText}
 use Rattle.card.specs.Card.{maxInput, maxCardCells, shapeOf, CardHeader}
 use Rattle.card.specs.Parse.{headerOf, payloadOk, payloadOf}
-use Rattle.card.specs.Program.{blankField, blankPayload, isPayload, rowsFit, cellsIn, bodyOk, operationNumber, numberAfter, programNumber, writtenText, readText, successText, answer}
+use Rattle.card.specs.Program.{blankField, blankPayload, isPayload, rowsFit, cellsIn, bodyOk, operationNumber, numberAfter}
+use Rattle.card.specs.Program.{programNumber, writtenText, readText, successText, answer}
 
 -- the buffers that are lent have the plan's lengths
 pub blank-field : (h : Header) → length (blankField h) ≡ cellsOf (shapeOf h)

@@ -33,7 +33,8 @@ use Rattle.card.proofs.theory.ProgramParts.{blank-field, blank-payload,
 use Rattle.card.proofs.theory.CardRead.{CardRead, of-payload, of-field, card-read}
 use Rattle.card.proofs.theory.HeaderRest.{first-found}
 use Rattle.card.proofs.theory.ParsedInput.{card-header, first}
-use Rattle.card.proofs.theory.RefusalConditions.{header-due, cells-condition, body-condition, payload-condition, no-field, no-payload, reach-condition, padding-condition}
+use Rattle.card.proofs.theory.RefusalConditions.{header-due, cells-condition, body-condition, payload-condition, no-field}
+use Rattle.card.proofs.theory.RefusalConditions.{no-payload, reach-condition, padding-condition}
 
 -- encoding into the lent field refuses a payload's length alone
 encode-length : (h : Header) → CardHeader h → (p : List ℕ)
@@ -46,9 +47,14 @@ encode-length h card p =
     )
 
 -- and what it does not refuse has the plan's length
-pub encoded-long : (h : Header) → CardHeader h → (p : List ℕ) → encodeNumber (shapeOf h) p (blankField h) ≡ 0 → length p ≡ planBytes (shapeOf h)
+pub encoded-long : (h : Header)
+    → CardHeader h
+    → (p : List ℕ)
+    → encodeNumber (shapeOf h) p (blankField h) ≡ 0
+    → length p ≡ planBytes (shapeOf h)
 encoded-long h card p e =
-    eqb-true (length p) (planBytes (shapeOf h)) (unless-zero (eqb (length p) (planBytes (shapeOf h))) 2 0 (sym (encode-length h card p) ∙ e) .0)
+    eqb-true (length p) (planBytes (shapeOf h))
+    (unless-zero (eqb (length p) (planBytes (shapeOf h))) 2 0 (sym (encode-length h card p) ∙ e) .0)
 
 -- decoding a field of 0s and 1s refuses its classes and its padding alone
 decode-cells : (h : Header) → CardHeader h → (cells : List ℕ) → FieldCells h cells

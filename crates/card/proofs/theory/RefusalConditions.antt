@@ -25,12 +25,14 @@ use Rattle.card.specs.Text.{headerText, payloadText, fieldText}
 use Rattle.card.specs.Card.{maxCardCells, shapeOf, FieldCells, CardHeader, payloadCard, fieldCard}
 use Rattle.card.specs.Parse.{headerOf}
 use Rattle.card.specs.Program.{bodyOk}
-use Rattle.card.specs.Form.{HeaderFirst, Body, headerRefusals, TooManyCells, NoBody, PayloadRefused, FieldRefused, ReachRefused, PaddingRefused}
+use Rattle.card.specs.Form.{HeaderFirst, Body, headerRefusals, TooManyCells, NoBody, PayloadRefused, FieldRefused}
+use Rattle.card.specs.Form.{ReachRefused, PaddingRefused}
 use Rattle.codec.proofs.theory.CellValues.{received-cells}
 use Rattle.card.proofs.theory.HeaderRest.{header-found}
 use Rattle.card.proofs.theory.BodyText.{body-ok, ok-body}
 use Rattle.card.proofs.theory.CardLimits.{rows-some}
-use Rattle.card.proofs.theory.ParsedInput.{first, same-header, text-of, rest-of, rows-of, payload-is, payload-read, field-is, field-read}
+use Rattle.card.proofs.theory.ParsedInput.{first, same-header, text-of, rest-of, rows-of, payload-is, payload-read}
+use Rattle.card.proofs.theory.ParsedInput.{field-is, field-read}
 
 module _ (s : List ℕ) (h : Header) (next : ℕ) (found : headerOf s ≡ head.Found h next) where
   -- a condition on what the input starts with is one on the header found and the rest

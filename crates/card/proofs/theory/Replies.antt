@@ -20,7 +20,10 @@ use Rattle.card.proofs.theory.LinesText.{linesMost}
 use Rattle.card.proofs.theory.Printed.{printed-then, printed-front, room-first, room-next}
 
 -- an answer by another name of its text
-pub answered-same : {text other before after : List ℕ} {r : ℕ} → text ≡ other → Answered text before after r → Answered other before after r
+pub answered-same : {text other before after : List ℕ} {r : ℕ}
+    → text ≡ other
+    → Answered text before after r
+    → Answered other before after r
 answered-same {before = before} {after = after} {r = r} e a = subst (λ (t : List ℕ). Answered t before after r) e a
 
 -- an output that is too short is left as it was
@@ -29,7 +32,10 @@ unfolding outputLeaves
 answered-short text before r e l = record { long = e; leaves = rw (lt-leb (length text) (length before) (omega arith)) }
 
 -- one that is long enough has the answer at its front
-pub answered-printed : {text before after : List ℕ} {r : ℕ} → Room before 0 text → Printed before after 0 text r → Answered text before after r
+pub answered-printed : {text before after : List ℕ} {r : ℕ}
+    → Room before 0 text
+    → Printed before after 0 text r
+    → Answered text before after r
 unfolding outputLeaves
 answered-printed {text} {before} room p =
     record {
@@ -53,11 +59,14 @@ module _ {xs : List ℕ} {at : ℕ} (h : Header) (key : List ℕ) (n : ℕ) (roo
     pub line-room : Room ys m (numberLine key n)
     line-room = room-next both p
 
-    pub head-printed : {zs : List ℕ} {next : ℕ} → Printed ys zs m (numberLine key n) next → Printed xs zs at (headText h key n) next
+    pub head-printed : {zs : List ℕ} {next : ℕ}
+        → Printed ys zs m (numberLine key n) next
+        → Printed xs zs at (headText h key n) next
     unfolding headText
     head-printed q = printed-then both p q
 
-pub length-head : (h : Header) (key : List ℕ) (n : ℕ) → length (headText h key n) ≡ length (headerText h) + length (numberLine key n)
+pub length-head : (h : Header) (key : List ℕ) (n : ℕ)
+    → length (headText h key n) ≡ length (headerText h) + length (numberLine key n)
 unfolding headText
 length-head h key n = length-append (headerText h) (numberLine key n)
 
@@ -71,7 +80,8 @@ module _ (h : Header) (key : List ℕ) (n : ℕ) (rest : List ℕ) where
   pub length-success : (r k : ℕ) → r ≡ length (headText h key n) → k ≡ length rest → r + k ≡ length (headText h key n ++ rest)
   length-success r k e f = omega (arith, length-append (headText h key n) rest)
 
-  module _ {xs : List ℕ} (room : Room xs 0 (headText h key n ++ rest)) {ys : List ℕ} {m : ℕ} (p : Printed xs ys 0 (headText h key n) m) where
+  module _ {xs : List ℕ} (room : Room xs 0 (headText h key n ++ rest))
+      {ys : List ℕ} {m : ℕ} (p : Printed xs ys 0 (headText h key n) m) where
     pub rest-room : Room ys m rest
     rest-room = room-next room p
 

@@ -60,7 +60,8 @@ module _ (s : List ℕ) (at w : ℕ) (cells rest : List ℕ) (fits : w ≤ lengt
   next-row : at + 4 + w + 1 ≡ at + (4 + w + 1)
   next-row = omega arith
 
-  first-row : StandsAt (rowKey ++ (cellDigits w cells ++ (feed ∷ rest))) s at → RowStands s at w cells 0 × StandsAt rest s (at + (4 + w + 1))
+  first-row : StandsAt (rowKey ++ (cellDigits w cells ++ (feed ∷ rest))) s at
+      → RowStands s at w cells 0 × StandsAt rest s (at + (4 + w + 1))
   first-row p =
       let behind = stands-right rowKey (cellDigits w cells ++ (feed ∷ rest)) s at p in
       let end : StandsAt (feed ∷ rest) s (at + 4 + w) =
@@ -75,7 +76,9 @@ module _ (s : List ℕ) (at w : ℕ) (cells rest : List ℕ) (fits : w ≤ lengt
         rw next-row at (stands-right (feed ∷ []) rest s (at + 4 + w) end),
       )
 
-  row-first : RowStands s at w cells 0 → StandsAt rest s (at + (4 + w + 1)) → StandsAt (rowKey ++ (cellDigits w cells ++ (feed ∷ rest))) s at
+  row-first : RowStands s at w cells 0
+      → StandsAt rest s (at + (4 + w + 1))
+      → StandsAt (rowKey ++ (cellDigits w cells ++ (feed ∷ rest))) s at
   row-first row behind =
       stands-both rowKey (cellDigits w cells ++ (feed ∷ rest)) s at (row .key)
       (stands-both (cellDigits w cells) (feed ∷ rest) s (at + 4)
@@ -111,15 +114,15 @@ pub rows-stand : (s : List ℕ) (at w k : ℕ) (cells : List ℕ) → k * w ≤ 
 rows-stand s at w zero cells l p r m = absurd (not-suc-le-zero m)
 rows-stand s at w (suc k) cells l p zero m =
     row-same s at (rowStart at w 0) w cells cells 0 (0 * w) (start-first at w) (λ c. rw (zero-mul w))
-    (first-row s at w cells (rowsText w k (drop w cells)) (omega arith) (subst (λ (t : List ℕ). StandsAt t s at) (rows-first w k cells) p) .0)
+    (first-row s at w cells (rowsText w k (drop w cells)) (omega arith)
+    (subst (λ (t : List ℕ). StandsAt t s at) (rows-first w k cells) p) .0)
 rows-stand s at w (suc k) cells l p (suc r) m =
     row-same s (rowStart (at + (4 + w + 1)) w r) (rowStart at w (suc r)) w (drop w cells) cells (r * w) (suc r * w)
-    (start-behind at w r)
-    (cells-behind w cells r)
-    (rows-stand s (at + (4 + w + 1)) w k (drop w cells) (omega (arith, length-drop w cells))
-    (first-row s at w cells (rowsText w k (drop w cells)) (omega arith) (subst (λ (t : List ℕ). StandsAt t s at) (rows-first w k cells) p) .1)
-    r
-    (omega arith))
+    (start-behind at w r) (cells-behind w cells r) (rows-stand s (at + (4 + w + 1)) w k (drop w cells)
+    (omega (arith, length-drop w cells))
+    (first-row s at w cells (rowsText w k (drop w cells)) (omega arith)
+    (subst (λ (t : List ℕ). StandsAt t s at) (rows-first w k cells) p) .1)
+    r (omega arith))
 
 pub stand-rows : (s : List ℕ) (at w k : ℕ) (cells : List ℕ) → k * w ≤ length cells
     → ((r : ℕ) → r < k → RowStands s (rowStart at w r) w cells (r * w)) → StandsAt (rowsText w k cells) s at

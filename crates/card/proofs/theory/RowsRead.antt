@@ -115,16 +115,18 @@ at-rows s at w k p =
       each = λ i l.
           let y = row-of w k i l in
           ap isReceived (getD-listOf f (k * w) i l)
-          ∙ digit-cell (getD s (rowStart at w (i / w) + 4 + i % w) 0) (row (i / w) (y .row) .digit (i % w) (y .column));
-      stands =
-          stand-rows s at w k cells (le-of-eq (sym long))
+          ∙ digit-cell (getD s (rowStart at w (i / w) + 4 + i % w) 0)
+          (row (i / w) (y .row) .digit (i % w) (y .column));
+      stands = stand-rows s at w k cells (le-of-eq (sym long))
           (λ r l.
           let y = row r l in
           record {
             key = y .key;
             cell = λ c m.
                 let low = digit-low (getD s (rowStart at w r + 4 + c) 0) (y .digit c m) in
-                let e = getD-listOf f (k * w) (r * w + c) (in-row w k r c l m) ∙ ap (λ (i : ℕ). getD s i 0 - 48) (cell-place at w r c m) in
+                let e =
+                getD-listOf f (k * w) (r * w + c) (in-row w k r c l m)
+                ∙ ap (λ (i : ℕ). getD s i 0 - 48) (cell-place at w r c m) in
                 omega arith;
             ended = y .ended;
           });
@@ -142,4 +144,5 @@ at-rows s at w k p =
 
     row : (r : ℕ) → r < k → Row s (rowStart at w r) w
     row r l =
-        test-row s at w r (below-all (rowOk s at w) k (and-right (eqb (length s) (rowStart at w k)) (allBelow (rowOk s at w) k) p) r l)
+        test-row s at w r (below-all (rowOk s at w) k
+        (and-right (eqb (length s) (rowStart at w k)) (allBelow (rowOk s at w) k) p) r l)

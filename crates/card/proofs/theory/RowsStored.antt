@@ -94,6 +94,10 @@ module _ (s : List ℕ) (at w : ℕ) where
       let wide : w + 5 ≤ 261 = omega arith in
       mul-le-mul far wide
 
-  pub cells-stored : (xs ys : List ℕ) (n : ℕ) → Stored cellByte xs ys n → n ≤ length ys → length ys ≤ n → ys ≡ cellsAt s at w (length xs)
+  pub cells-stored : (xs ys : List ℕ) (n : ℕ)
+      → Stored cellByte xs ys n
+      → n ≤ length ys
+      → length ys ≤ n
+      → ys ≡ cellsAt s at w (length xs)
   unfolding cellsAt cellByte
   cells-stored xs ys n p l q = stored-all cellByte xs ys n p (length xs) refl l q

@@ -9,7 +9,8 @@ use native.Mathlib.Nat.{add-assoc, add-zero, not-suc-le-zero, le-of-suc-le-suc, 
 use native.Mathlib.Omega.{arith}
 use borrow.Author.Tests.{eq-eqb, eqb-true}
 use lib.Dec.{eqb}
-use lib.ListN.{length, getD, take, drop, length-append, length-drop, take-append-drop, drop-of-length-le, List·getD-append, List·getD-eq-default}
+use lib.ListN.{length, getD, take, drop, length-append, length-drop, take-append-drop, drop-of-length-le, List·getD-append}
+use lib.ListN.{List·getD-eq-default}
 use lib.Seq.{getD-append-add, getD-take, getD-drop, drop-drop, ext-getD, length-take-le}
 use Rattle.codec.proofs.theory.AllBelow.{all-below, below-all}
 use Rattle.card.specs.Parse.{keyAt}

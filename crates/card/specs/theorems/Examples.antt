@@ -1,4 +1,5 @@
--- Card texts and their answers, character by character: the worked card of document 01, whole and damaged, and a witness of each refusal but that of too long an input.
+-- Card texts and their answers, character by character: the worked card of document 01, whole and damaged, and a witness of each
+-- refusal but that of too long an input.
 use Prim.Native.String.{String, _++_}
 use mathlib.Core.Path.{_≡_}
 use Rattle.card.specs.Text.{ascii}

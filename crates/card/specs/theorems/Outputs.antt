@@ -9,7 +9,8 @@ use Rattle.card.specs.Card.{maxAnswer, shapeOf, CardHeader}
 use Rattle.card.specs.Program.{blankPayload, answer}
 use Rattle.card.specs.Form.{OneOfThree}
 
--- Theorem. The output is one of the three forms and never longer than 36,915 bytes, and the numbers in it have at most five digits.
+-- Theorem. The output is one of the three forms and never longer than 36,915 bytes, and the numbers in it have at most five
+-- digits.
 pub record OutputForms : Type 0 where
   pub form : (s : List ℕ) → OneOfThree s
   pub short : (s : List ℕ) → length (answer s) ≤ maxAnswer

@@ -15,9 +15,14 @@ use Rattle.card.specs.Parse.{headerOf, payloadOk, payloadOf}
 use Rattle.card.specs.Program.{isPayload, rowsFit, cellsIn}
 use Rattle.card.specs.Form.{HeaderFirst}
 
--- Theorem. For every card's header, every payload of the plan's length and every field of 0s and 1s: its text has fewer than 65,536 bytes and parses back to it.
+-- Theorem. For every card's header, every payload of the plan's length and every field of 0s and 1s: its text has fewer than
+-- 65,536 bytes and parses back to it.
 pub record TextParses : Type 0 where
-  pub payload-short : (h : Header) → CardHeader h → (p : List ℕ) → length p ≡ planBytes (shapeOf h) → length (payloadCard h p) < maxInput
+  pub payload-short : (h : Header)
+      → CardHeader h
+      → (p : List ℕ)
+      → length p ≡ planBytes (shapeOf h)
+      → length (payloadCard h p) < maxInput
   pub payload-header : (h : Header) → CardHeader h → (p : List ℕ)
       → (headerOf (payloadCard h p) ≡ head.Found h (length (headerText h)))
       × (isPayload (payloadCard h p) (length (headerText h)) ≡ true)
@@ -32,7 +37,8 @@ pub record TextParses : Type 0 where
       → (rowsFit (fieldCard h cells) h (length (headerText h)) ≡ true)
       × (cellsIn (fieldCard h cells) h (length (headerText h)) ≡ cells)
 
--- Theorem. Where a header is found, and a payload or rows of the right form behind it, the input is exactly the text of what is read from it.
+-- Theorem. Where a header is found, and a payload or rows of the right form behind it, the input is exactly the text of what is
+-- read from it.
 pub record ParsedIsText : Type 0 where
   pub header : (s : List ℕ) (h : Header) (next : ℕ) → headerOf s ≡ head.Found h next
       → Small h × (next ≡ length (headerText h)) × (s ≡ headerText h ++ drop next s)
@@ -41,7 +47,8 @@ pub record ParsedIsText : Type 0 where
   pub rows : (s : List ℕ) (h : Header) (next : ℕ) → headerOf s ≡ head.Found h next → rowsFit s h next ≡ true
       → FieldCells h (cellsIn s h next) × (s ≡ fieldCard h (cellsIn s h next))
 
--- Theorem. An input is the text of one card at most: one header and one rest, and there one payload or the rows of one field, not both.
+-- Theorem. An input is the text of one card at most: one header and one rest, and there one payload or the rows of one field, not
+-- both.
 pub record OneCard : Type 0 where
   pub header : (s : List ℕ) (x y : HeaderFirst s) → (x .header ≡ y .header) × (x .rest ≡ y .rest)
   pub payload : (p q : List ℕ) → Bytes p → Bytes q → payloadText p ≡ payloadText q → p ≡ q

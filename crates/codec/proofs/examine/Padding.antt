@@ -60,8 +60,14 @@ pub record PassedFrom (L : Layout) (f : Field) (u i : ℕ) : Type 0 where
   pub rest : paddingOk L f ≡ allBelow (right L f) i
 
 -- before the first cell is looked at
-pub padding-start : (s : Shape) (f : Field) (sizes : List ℕ) (k i : ℕ) → Accepted s → HoldsSizes (layoutOf s) sizes (cellsOf s)
-    → (m : ℕ) → m ≡ figure (shapeNumber s) (classesOf s) → k ≡ dataIn sizes m → i ≡ cellsOf s → PassedFrom (layoutOf s) f (k % 8) i
+pub padding-start : (s : Shape) (f : Field) (sizes : List ℕ) (k i : ℕ)
+    → Accepted s
+    → HoldsSizes (layoutOf s) sizes (cellsOf s)
+    → (m : ℕ)
+    → m ≡ figure (shapeNumber s) (classesOf s)
+    → k ≡ dataIn sizes m
+    → i ≡ cellsOf s
+    → PassedFrom (layoutOf s) f (k % 8) i
 unfolding paddingOk right payloadBytes
 padding-start s f sizes k i a p m given e c =
     let all : k ≡ capacity (layoutOf s) = e ∙ capacity-accepted s sizes m a (p .at) given in

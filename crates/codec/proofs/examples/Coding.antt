@@ -1,4 +1,5 @@
--- Examples that meet the hypotheses of the theorems on coding: the field of 5 by 5 of strength 3, its payload byte 165, and damage to one of its cells.
+-- Examples that meet the hypotheses of the theorems on coding: the field of 5 by 5 of strength 3, its payload byte 165, and
+-- damage to one of its cells.
 use Prim.Native.Nat.{ℕ, zero, suc, _<_}
 use mathlib.Core.Bool.{Bool, true, _&&_}
 use mathlib.Core.List.{List, [], _∷_, List·Memᴰ·head}
@@ -98,8 +99,13 @@ pub corner-selected : (x : Cell) → isCorner x ≡ true → OfThree x
 corner-selected x e = List·Memᴰ·head (corner-is x e)
 
 -- it is at most one cell of each class
-pub corner-one : (i j : ℕ) → i < cellsOf field → j < cellsOf field → isCorner (cellAt field i) ≡ true → isCorner (cellAt field j) ≡ true
-    → classAt field i ≡ classAt field j → i ≡ j
+pub corner-one : (i j : ℕ)
+    → i < cellsOf field
+    → j < cellsOf field
+    → isCorner (cellAt field i) ≡ true
+    → isCorner (cellAt field j) ≡ true
+    → classAt field i ≡ classAt field j
+    → i ≡ j
 corner-one i j hi hj si sj same =
     sym (numbering .at field i hi .1)
     ∙ ap (cellNumber field) (corner-is (cellAt field i) si ∙ sym (corner-is (cellAt field j) sj))
@@ -107,7 +113,8 @@ corner-one i j hi hj si sj same =
 
 -- the field written is mended, and is lawful and carries the payload
 pub written-mended : correctNumber field written ≡ 0
-written-mended = nothingToCorrect .written field accepted payload payload-long payload-bytes payload payload-long .corrected-number
+written-mended =
+    nothingToCorrect .written field accepted payload payload-long payload-bytes payload payload-long .corrected-number
 
 pub written-lawful : LawfulField field (fieldOf written)
 written-lawful = encodeMeaning .lawful field accepted payload payload-long payload-bytes

@@ -8,7 +8,8 @@ use Rattle.lattice.specs.Class.{minusMod, classWith, classesOf, classOf}
 use Rattle.lattice.specs.Position.{sizeTo, position}
 use Rattle.lattice.specs.Check.{isPower, isCheck, checks, holdsData, capacity}
 use Rattle.lattice.specs.Order.{order}
-use Rattle.lattice.specs.DistanceTest.{failsAt, outcome, testStrengthOk, testSettingsOk, testNumber, verdict, foundTriple, triplesTried}
+use Rattle.lattice.specs.DistanceTest.{failsAt, outcome, testStrengthOk, testSettingsOk, testNumber, verdict, foundTriple}
+use Rattle.lattice.specs.DistanceTest.{triplesTried}
 use Rattle.codec.specs.Field.{isCell, isReceived, cellsOk, differences}
 use Rattle.codec.specs.Hamming.{tagsOf, isTag, inReach, allInReach, corrected}
 use Rattle.codec.specs.Payload.{payloadBytes, rank, padding, paddingOk, heldPayload}
@@ -27,5 +28,43 @@ unfolding
     isCell isReceived cellsOk differences tagsOf isTag inReach allInReach corrected
     payloadBytes rank padding paddingOk heldPayload planCapacity planBytes planCells
     fieldNumber correctedCount decodeNumber decodeCount decodeLeaves
-paperExamplesHold =
-    (refl, (refl, (refl, (refl, (refl, (refl, (refl, (refl, (refl, (refl, (refl, (refl, (refl, (refl, (refl, (refl, (refl, (refl, (refl, (refl, (refl, (refl, (refl, tt)))))))))))))))))))))))
+paperExamplesHold = (
+  refl,
+  (
+    refl,
+    (
+      refl,
+      (
+        refl,
+        (
+          refl,
+          (
+            refl,
+            (
+              refl,
+              (
+                refl,
+                (
+                  refl,
+                  (
+                    refl,
+                    (
+                      refl,
+                      (
+                        refl,
+                        (
+                          refl,
+                          (refl, (refl, (refl, (refl, (refl, (refl, (refl, (refl, (refl, (refl, tt)))))))))),
+                        ),
+                      ),
+                    ),
+                  ),
+                ),
+              ),
+            ),
+          ),
+        ),
+      ),
+    ),
+  ),
+)

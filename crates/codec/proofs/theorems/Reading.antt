@@ -15,9 +15,11 @@ use Rattle.codec.proofs.theory.Accepted.{plan-bytes}
 use Rattle.codec.proofs.theory.CellValues.{received-cells}
 use Rattle.codec.proofs.theory.FieldLists.{length-listOf, getD-listOf}
 use Rattle.codec.proofs.theory.HeldPayload.{held-length, held-bytes}
-use Rattle.codec.proofs.theory.ReadFields.{means, carry, decode-same, decode-leaves, decode-count, decoded, correct-same, correct-leaves, correct-count, corrected}
+use Rattle.codec.proofs.theory.ReadFields.{means, carry, decode-same, decode-leaves, decode-count, decoded, correct-same}
+use Rattle.codec.proofs.theory.ReadFields.{correct-leaves, correct-count, corrected}
 
--- Theorem. At most one codeword of a class differs in at most one cell, and none does where the syndrome is above the class's size.
+-- Theorem. At most one codeword of a class differs in at most one cell, and none does where the syndrome is above the class's
+-- size.
 pub oneCodeword : OneCodeword
 oneCodeword =
     record {

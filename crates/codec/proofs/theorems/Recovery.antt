@@ -37,8 +37,9 @@ use Rattle.codec.proofs.theory.ReadFields.{means, decode-leaves, correc
 use Rattle.codec.proofs.theory.WrittenCells.{written-cells}
 use Rattle.codec.proofs.theorems.Reading.{decodeMeaning, correctMeaning}
 
-module _ (s : Shape) (accepted : Accepted s) (p : List ℕ) (p-long : length p ≡ planBytes s) (p-bytes : Bytes p) (selected : Cell → Bool)
-    (one : OneEach (layoutOf s) (λ i. selected (cellAt s i))) (buffer : List ℕ) (fits : length buffer ≡ planBytes s) where
+module _ (s : Shape) (accepted : Accepted s) (p : List ℕ) (p-long : length p ≡ planBytes s) (p-bytes : Bytes p)
+    (selected : Cell → Bool) (one : OneEach (layoutOf s) (λ i. selected (cellAt s i)))
+    (buffer : List ℕ) (fits : length buffer ≡ planBytes s) where
   -- F, cell by cell, and G as a buffer
   F : Field
   F = encoded (layoutOf s) p
@@ -120,7 +121,8 @@ module _ (s : Shape) (accepted : Accepted s) (p : List ℕ) (p-long : length p �
 pub recoveryByClass : RecoveryByClass
 recoveryByClass s accepted p long bytes selected one buffer fits = recovered s accepted p long bytes selected one buffer fits
 
--- Theorem (demand 3). The selected cells of one cluster of at most t cells lie in different classes, so what was written is recovered.
+-- Theorem (demand 3). The selected cells of one cluster of at most t cells lie in different classes, so what was written is
+-- recovered.
 pub recovery : Recovery
 recovery s accepted p long bytes S cluster small selected inside buffer fits =
     recoveryByClass s accepted p long bytes selected one buffer fits
@@ -128,11 +130,17 @@ recovery s accepted p long bytes S cluster small selected inside buffer fits =
     number : (i : ℕ) → i < cellsOf s → cellNumber s (cellAt s i) ≡ i
     number i h = numbering .at s i h .1
 
-    one : (i j : ℕ) → i < cellsOf s → j < cellsOf s → selected (cellAt s i) ≡ true → selected (cellAt s j) ≡ true → classAt s i ≡ classAt s j → i ≡ j
+    one : (i j : ℕ)
+        → i < cellsOf s
+        → j < cellsOf s
+        → selected (cellAt s i) ≡ true
+        → selected (cellAt s j) ≡ true
+        → classAt s i ≡ classAt s j
+        → i ≡ j
     one i j hi hj si sj same =
         sym (number i hi)
-        ∙ ap (cellNumber s)
-        (clusterClasses s accepted S cluster small (cellAt s i) (cellAt s j) (inside (cellAt s i) si) (inside (cellAt s j) sj) same)
+        ∙ ap (cellNumber s) (clusterClasses s accepted S cluster small (cellAt s i) (cellAt s j)
+        (inside (cellAt s i) si) (inside (cellAt s j) sj) same)
         ∙ number j hj
 
 -- a figure is at most itself
@@ -140,7 +148,8 @@ figure-most : (n x : ℕ) → figure n x ≤ x
 figure-most zero x = le-refl x
 figure-most (suc n) x = omega arith
 
--- Theorem (demand 3). Every labelling in which no cluster of at most t cells has one label twice has at least as many labels as the plan
+-- Theorem (demand 3). Every labelling in which no cluster of at most t cells has one label twice has at least as many labels as
+-- the plan
 -- gives classes.
 pub classesNeeded : ClassesNeeded
 unfolding planClasses

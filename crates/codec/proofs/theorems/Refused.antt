@@ -54,6 +54,12 @@ refusalsChangeNothing =
         beside-other {A = ℕ} (planNumber s) _ 0 other,
       );
       encode = λ s payload field other. beside-other (encodeNumber s payload field) _ _ other;
-      decode = λ s payload field other. (beside-other (decodeNumber s payload field) _ _ other, beside-other (decodeNumber s payload field) _ _ other);
-      correct = λ s field other. (beside-other (correctNumber s field) _ _ other, beside-other (correctNumber s field) _ _ other);
+      decode = λ s payload field other. (
+        beside-other (decodeNumber s payload field) _ _ other,
+        beside-other (decodeNumber s payload field) _ _ other,
+      );
+      correct = λ s field other. (
+        beside-other (correctNumber s field) _ _ other,
+        beside-other (correctNumber s field) _ _ other,
+      );
     }

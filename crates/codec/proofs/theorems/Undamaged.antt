@@ -38,10 +38,17 @@ none x = false
 unharmed : (s : Shape) (p : List ℕ) → damagedField s p none ≡ encodedField s p
 unfolding damaged none
 unharmed s p =
-    sym (list-field (encodedField s p) (damaged (fieldOf (encodedField s p)) (λ i. false)) (cellsOf s) (encodeMeaning .long s p) (λ i h. refl))
+    sym (list-field (encodedField s p) (damaged (fieldOf (encodedField s p)) (λ i. false)) (cellsOf s)
+    (encodeMeaning .long s p) (λ i h. refl))
 
 -- a field that was written
-written : (s : Shape) → Accepted s → (p : List ℕ) → length p ≡ planBytes s → Bytes p → (buffer : List ℕ) → length buffer ≡ planBytes s
+written : (s : Shape)
+    → Accepted s
+    → (p : List ℕ)
+    → length p ≡ planBytes s
+    → Bytes p
+    → (buffer : List ℕ)
+    → length buffer ≡ planBytes s
     → Recovered s p (encodedField s p) (encodedField s p) buffer
 unfolding none
 written s accepted p long bytes buffer fits =

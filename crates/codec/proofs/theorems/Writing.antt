@@ -14,7 +14,8 @@ use Rattle.codec.proofs.theory.EncodedField.{encoded-lawful, encoded-ca
 use Rattle.codec.proofs.theory.HeldPayload.{carries-same, encoded-different}
 use Rattle.codec.proofs.theory.WrittenCells.{written-cells}
 
--- Theorem. The field written has the plan's cells, is lawful, carries the payload, and is the only such field; two different payloads give two
+-- Theorem. The field written has the plan's cells, is lawful, carries the payload, and is the only such field; two different
+-- payloads give two
 -- different fields.
 pub encodeMeaning : EncodeMeaning
 unfolding encodedField

@@ -36,7 +36,10 @@ module _ (s : Shape) (accepted : Accepted s) where
   class-at-below i h = class-below s accepted (cellAt s i)
 
   -- on buffers of the plan's lengths only the field is left to refuse
-  pub encode-number : (payload field : List ℕ) → length payload ≡ planBytes s → length field ≡ cellsOf s → encodeNumber s payload field ≡ 0
+  pub encode-number : (payload field : List ℕ)
+      → length payload ≡ planBytes s
+      → length field ≡ cellsOf s
+      → encodeNumber s payload field ≡ 0
   unfolding encodeNumber
   encode-number payload field hp hf =
       rw (accepted, eq-eqb (length payload) (planBytes s) hp, eq-eqb (length field) (planCells s) (hf ∙ sym plan-cells))

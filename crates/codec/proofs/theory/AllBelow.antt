@@ -50,7 +50,8 @@ all-same f g (suc n) p = ap₂ _&&_ (p n (le-refl _)) (all-same f g n (λ i l. p
 before : (k : ℕ) → k ≡ suc k - 1
 before k = omega arith
 
--- a test that goes down from m: where the last that is left fails it fails, where it passes the rest decides, and with none left it passes
+-- a test that goes down from m: where the last that is left fails it fails, where it passes the rest decides, and with none left
+-- it passes
 module _ (f : ℕ → Bool) (m : ℕ) where
   pub last-fails : (left : ℕ) → allBelow f m ≡ allBelow f left → 0 < left → f (left - 1) ≡ false → false ≡ allBelow f m
   last-fails zero e some h = absurd (not-suc-le-zero some)
@@ -58,7 +59,11 @@ module _ (f : ℕ → Bool) (m : ℕ) where
       let here : f k ≡ false = ap f (before k) ∙ h in
       sym (e ∙ ap (λ (b : Bool). b && allBelow f k) here)
 
-  pub last-passes : (left : ℕ) → allBelow f m ≡ allBelow f left → 0 < left → f (left - 1) ≡ true → allBelow f m ≡ allBelow f (left - 1)
+  pub last-passes : (left : ℕ)
+      → allBelow f m ≡ allBelow f left
+      → 0 < left
+      → f (left - 1) ≡ true
+      → allBelow f m ≡ allBelow f (left - 1)
   last-passes zero e some h = absurd (not-suc-le-zero some)
   last-passes (suc k) e some h =
       let here : f k ≡ true = ap f (before k) ∙ h in

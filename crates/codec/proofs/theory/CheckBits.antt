@@ -1,4 +1,5 @@
--- The check cells of a class as the bits of a number: a class is a codeword exactly when its checks are the bits of the syndrome of its data.
+-- The check cells of a class as the bits of a number: a class is a codeword exactly when its checks are the bits of the syndrome
+-- of its data.
 use Prim.Native.Nat.{ℕ, zero, suc, _/_, _%_, _^_, _<_, _≤_}
 use mathlib.Core.Bool.{Bool, true, false, cond, true≢false, false≢true}
 use mathlib.Core.Logic.{_≢_, ⊎-elim}

@@ -127,7 +127,9 @@ count-sum f (suc n) = omega (arith, count-sum f n)
 
 module _ (s : Shape) (accepted : Accepted s) (f : Field) (cells : Cells f (cellsOf s)) (reach : fieldInReach s f ≡ true) where
   small : (a : ℕ) → syndrome (layoutOf s) (tagsOf (layoutOf s)) f a ≤ size (layoutOf s) a
-  small a = reach-size (layoutOf s) f a (all-reach (layoutOf s) (tagsOf (layoutOf s)) (classesOf s) (class-at-below s accepted) f reach a)
+  small a =
+      reach-size (layoutOf s) f a
+      (all-reach (layoutOf s) (tagsOf (layoutOf s)) (classesOf s) (class-at-below s accepted) f reach a)
 
   -- as many cells are turned over as syndromes are not 0
   pub damaged-count : (syndromes : List ℕ) → HoldsSyndromes (layoutOf s) f syndromes (cellsOf s)

@@ -20,7 +20,8 @@ differences-none f g = refl
 pub differences-same : (f g h k : Field) (n : ℕ) → Same f g n → Same h k n → differences f h n ≡ differences g k n
 unfolding differences
 differences-same f g h k n p q =
-    count-same (λ i. not (eqb (f i) (h i))) (λ i. not (eqb (g i) (k i))) n (λ i l. ap₂ (λ (x y : ℕ). not (eqb x y)) (p i l) (q i l))
+    count-same (λ i. not (eqb (f i) (h i))) (λ i. not (eqb (g i) (k i))) n
+    (λ i l. ap₂ (λ (x y : ℕ). not (eqb x y)) (p i l) (q i l))
 
 pub differences-comm : (f g : Field) (n : ℕ) → differences f g n ≡ differences g f n
 unfolding differences

@@ -1,4 +1,5 @@
--- What the tests of a field of cells mean: the number 0, 6 or 7 by the lawful fields in reach, the mended field, its payload and its count.
+-- What the tests of a field of cells mean: the number 0, 6 or 7 by the lawful fields in reach, the mended field, its payload and
+-- its count.
 use Prim.Native.Nat.{ℕ}
 use mathlib.Core.Bool.{Bool, true, false, true≢false}
 use mathlib.Core.Logic.{_↔_}
@@ -54,7 +55,8 @@ module _ (s : Shape) (accepted : Accepted s) (f : Field) (received : Received f 
   -- the mended field is the nearest one where a codeword is in reach of each class
   mended-nearest : reach ≡ true → NearestTo s f (correctedField s f)
   unfolding reach
-  mended-nearest = reach-nearest (layoutOf s) (tagsAt s) (classesOf s) (class-at-below s accepted) f (tags-tell (layoutOf s)) cells
+  mended-nearest =
+      reach-nearest (layoutOf s) (tagsAt s) (classesOf s) (class-at-below s accepted) f (tags-tell (layoutOf s)) cells
 
   nearest-reach : (g : Field) → NearestTo s f g → reach ≡ true
   unfolding reach

@@ -52,7 +52,10 @@ filled-next f xs n ys p =
     ∙ getD-drop n xs 0 0
     ∙ ap (λ (k : ℕ). getD xs k 0) (add-zero n)
 
-pub length-filled : (f : Field) (xs : List ℕ) (n : ℕ) (ys : List ℕ) → n ≤ length xs → ys ≡ listOf f n ++ drop n xs → length ys ≡ length xs
+pub length-filled : (f : Field) (xs : List ℕ) (n : ℕ) (ys : List ℕ)
+    → n ≤ length xs
+    → ys ≡ listOf f n ++ drop n xs
+    → length ys ≡ length xs
 length-filled f xs n ys l p =
     ap length p
     ∙ length-append (listOf f n) (drop n xs)
@@ -71,7 +74,8 @@ pub filled-part : (f g : Field) (k n : ℕ) (xs ys zs : List ℕ) → ((j : ℕ)
     → ys ≡ listOf f k ++ drop k xs → zs ≡ listOf g n ++ drop n (take (length ys - k) (drop k ys))
     → putMid k (length ys - k) ys zs ≡ listOf f (k + n) ++ drop (k + n) xs
 filled-part f g k n xs ys zs agree l p q =
-    ap₂ (λ (a b : List ℕ). a ++ b) front (ap₂ (λ (a b : List ℕ). a ++ b) (q ∙ ap (λ (t : List ℕ). listOf g n ++ drop n t) (part-to-end ys k ∙ rest)) behind)
+    ap₂ (λ (a b : List ℕ). a ++ b) front (ap₂ (λ (a b : List ℕ). a ++ b)
+    (q ∙ ap (λ (t : List ℕ). listOf g n ++ drop n t) (part-to-end ys k ∙ rest)) behind)
     ∙ ap (λ (t : List ℕ). listOf f k ++ t) (append-nil _)
     ∙ sym (append-assoc (listOf f k) (listOf g n) (drop n (drop k xs)))
     ∙ ap₂ (λ (a b : List ℕ). a ++ b) (listOf-join f g k n agree) (drop-drop n k xs)

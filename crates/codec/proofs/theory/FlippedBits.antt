@@ -120,8 +120,15 @@ module _ (L : Layout) where
     pub bits-listed : k < amount → (c : ℕ) → getD checks k 0 ≡ c → HoldsBits L f l → HoldsBits L (turnedAt f c) l
     bits-listed p c e h = bits-check f l c (ap (holdsData L) (sym e) ∙ lists .at k p .check) h
 
-    pub bits-unlisted : (c : ℕ) → c < L .cells → k ≡ checksTo L c → (k < amount → getD checks k 0 ≡ c → ⊥)
-        → (after : List ℕ) → length after ≡ length l → BitFlipped l after (c - k) → HoldsBits L f l → HoldsBits L (turnedAt f c) after
+    pub bits-unlisted : (c : ℕ)
+        → c < L .cells
+        → k ≡ checksTo L c
+        → (k < amount → getD checks k 0 ≡ c → ⊥)
+        → (after : List ℕ)
+        → length after ≡ length l
+        → BitFlipped l after (c - k)
+        → HoldsBits L f l
+        → HoldsBits L (turnedAt f c) after
     bits-unlisted c p e other after long flipped h = go (holdsData L c) refl
       where
         ranked : c - k ≡ rank L c

@@ -106,7 +106,10 @@ module _ (L : Layout) (f : Field) (l : List ℕ) (i : ℕ) (holds : HoldsBytes L
     pub gathered-cell : (after : List ℕ) → i < e → length after ≡ length l → BitStored l after (i - k) (f i)
         → HoldsBytes L f after (i + 1)
     gathered-cell after p long st =
-        record { at = λ j h. let q : j < length l = omega arith in st .at j q ∙ go j (holds .at j q) (ℕ-discrete ((i - k) / 8) j) }
+        record {
+          at = λ j h.
+              let q : j < length l = omega arith in st .at j q ∙ go j (holds .at j q) (ℕ-discrete ((i - k) / 8) j);
+        }
       where
         own : rank L i ≡ i - k
         own = omega (arith, run-rank L k i e r i (omega arith) (omega arith))
@@ -116,7 +119,9 @@ module _ (L : Layout) (f : Field) (l : List ℕ) (i : ℕ) (holds : HoldsBytes L
 
         go : (j : ℕ) → getD l j 0 ≡ heldByte L f j i % 256 → Dec ((i - k) / 8 ≡ j)
             → cond (eqb ((i - k) / 8) j) ((getD l j 0 * 2 + f i) % 256) (getD l j 0) ≡ heldByte L f j (i + 1) % 256
-        go j h (yes q) = rw (eq-eqb ((i - k) / 8) j q) (omega (arith, one L f j i (i + 1) refl held (ap (λ (n : ℕ). n / 8) own ∙ q)))
+        go j h (yes q) =
+            rw (eq-eqb ((i - k) / 8) j q)
+            (omega (arith, one L f j i (i + 1) refl held (ap (λ (n : ℕ). n / 8) own ∙ q)))
         go j h (no q) =
             rw (ne-eqb ((i - k) / 8) j q)
             (h ∙ ap (λ (b : ℕ). b % 256) (sym (others L f j i 1 (λ x s z. q (back x s z)))))

@@ -10,7 +10,8 @@ use lib.Pow.{pow-mono}
 use Rattle.lattice.specs.Position.{Layout}
 use Rattle.lattice.specs.Check.{holdsData}
 use Rattle.codec.specs.Field.{Field, Cells, Same}
-use Rattle.codec.specs.Payload.{Bytes, payloadBytes, rank, payloadBit, dataValue, encoded, Carries, PaddingRight, heldByte, heldPayload}
+use Rattle.codec.specs.Payload.{Bytes, payloadBytes, rank, payloadBit, dataValue, encoded, Carries, PaddingRight, heldByte}
+use Rattle.codec.specs.Payload.{heldPayload}
 use Rattle.codec.proofs.theory.CellValues.{cell-most}
 use Rattle.codec.proofs.theory.EncodedField.{encoded-carries}
 use Rattle.codec.proofs.theory.FieldLists.{length-listOf, getD-listOf, getD-listOf-behind, listOf-same}

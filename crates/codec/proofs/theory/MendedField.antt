@@ -68,11 +68,14 @@ module _ (s : Shape) (field syndromes : List ℕ) (mendable : Mendable s field)
   mended-count r e =
       e
       ∙ ap (count (λ a. not (eqb (getD syndromes a 0) 0))) own
-      ∙ damaged-count s (mendable .fits .accepted) (fieldOf field) (received-cells _ _ (mendable .cells)) (mendable .reach) syndromes
-      held
+      ∙ damaged-count s (mendable .fits .accepted) (fieldOf field) (received-cells _ _ (mendable .cells))
+      (mendable .reach) syndromes held
 
 -- the payload of the right length that was gathered from a field has the bits of its data cells
-pub gathered-bits : (L : Layout) (f : Field) (l : List ℕ) → Cells f (L .cells) → length l ≡ payloadBytes L → HoldsBytes L f l (L .cells)
+pub gathered-bits : (L : Layout) (f : Field) (l : List ℕ)
+    → Cells f (L .cells)
+    → length l ≡ payloadBytes L
+    → HoldsBytes L f l (L .cells)
     → HoldsBits L f l
 unfolding heldPayload
 gathered-bits L f l cells long holds = subst (HoldsBits L f) (sym whole) bits

@@ -9,7 +9,8 @@ use Rattle.lattice.specs.Position.{Layout}
 use Rattle.codec.specs.Field.{Field, Cells}
 use Rattle.codec.specs.Hamming.{Tags, Tells, Codeword, Near, Nearest, inReach, allInReach, corrected}
 use Rattle.codec.proofs.theory.AllBelow.{all-below, below-all, some-fails}
-use Rattle.codec.proofs.theory.Correction.{means-reach, near-reach, corrected-cells, corrected-near, corrected-codeword, corrected-nearest, nearest-reach}
+use Rattle.codec.proofs.theory.Correction.{means-reach, near-reach, corrected-cells, corrected-near, corrected-codeword}
+use Rattle.codec.proofs.theory.Correction.{corrected-nearest, nearest-reach}
 use Rattle.codec.proofs.theory.Syndrome.{syndrome-empty}
 
 module _ {L : Layout} {tag : Tags} (tells : Tells L tag) (f : Field) (p : Cells f (L .cells)) where

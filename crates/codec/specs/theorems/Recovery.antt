@@ -1,4 +1,5 @@
--- Demand 3: what was written is read and mended again after any damage to one cluster of at most t cells, and the classes are no more than needed.
+-- Demand 3: what was written is read and mended again after any damage to one cluster of at most t cells, and the classes are no
+-- more than needed.
 use Prim.Native.Nat.{ℕ, _<_, _≤_}
 use mathlib.Core.Bool.{Bool, true}
 use mathlib.Core.List.{List}
@@ -18,14 +19,25 @@ use Rattle.codec.specs.Damage.{damagedField, Recovered}
 -- Theorem. Recovery for any selection with at most one cell in each class.
 abbrev pub RecoveryByClass : Type 0
 RecoveryByClass =
-    (s : Shape) → Accepted s
-    → (p : List ℕ) → length p ≡ planBytes s → Bytes p
+    (s : Shape)
+    → Accepted s
+    → (p : List ℕ)
+    → length p ≡ planBytes s
+    → Bytes p
     → (selected : Cell → Bool)
-    → ((i j : ℕ) → i < cellsOf s → j < cellsOf s → selected (cellAt s i) ≡ true → selected (cellAt s j) ≡ true → classAt s i ≡ classAt s j → i ≡ j)
-    → (buffer : List ℕ) → length buffer ≡ planBytes s
+    → ((i j : ℕ)
+    → i < cellsOf s
+    → j < cellsOf s
+    → selected (cellAt s i) ≡ true
+    → selected (cellAt s j) ≡ true
+    → classAt s i ≡ classAt s j
+    → i ≡ j)
+    → (buffer : List ℕ)
+    → length buffer ≡ planBytes s
     → Recovered s p (encodedField s p) (damagedField s p selected) buffer
 
--- Theorem (demand 3). For every shape that the plan accepts, every payload of the plan's length, every cluster of the field of at most t cells
+-- Theorem (demand 3). For every shape that the plan accepts, every payload of the plan's length, every cluster of the field of at
+-- most t cells
 -- and every selection of its cells, none and all included.
 abbrev pub Recovery : Type 1
 Recovery =
@@ -36,7 +48,8 @@ Recovery =
     → (buffer : List ℕ) → length buffer ≡ planBytes s
     → Recovered s p (encodedField s p) (damagedField s p selected) buffer
 
--- Theorem (demand 3). On every flat field with t at least 1 and both sides at least t, every labelling in which no cluster of at most t cells has
+-- Theorem (demand 3). On every flat field with t at least 1 and both sides at least t, every labelling in which no cluster of at
+-- most t cells has
 -- one label twice has at least as many labels as the plan gives classes.
 abbrev pub ClassesNeeded : Type 1
 ClassesNeeded =

@@ -19,7 +19,10 @@ pub record NothingToCorrect : Type 0 where
   pub written : (s : Shape) → Accepted s → (p : List ℕ) → length p ≡ planBytes s → Bytes p
       → (buffer : List ℕ) → length buffer ≡ planBytes s
       → Recovered s p (encodedField s p) (encodedField s p) buffer
-  pub mended : (s : Shape) (field : List ℕ) → correctNumber s field ≡ 0
-      → (buffer : List ℕ) → length buffer ≡ planBytes s
-      → (decodeNumber s buffer field ≡ 0) × Recovered s (decodeLeaves s buffer field) (correctLeaves s field) (correctLeaves s field) buffer
+  pub mended : (s : Shape) (field : List ℕ)
+      → correctNumber s field ≡ 0
+      → (buffer : List ℕ)
+      → length buffer ≡ planBytes s
+      → (decodeNumber s buffer field ≡ 0)
+      × Recovered s (decodeLeaves s buffer field) (correctLeaves s field) (correctLeaves s field) buffer
   pub count : (f : Field) (n : ℕ) → differences f f n ≡ 0

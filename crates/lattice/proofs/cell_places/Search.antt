@@ -20,7 +20,8 @@ use Rattle.lattice.proofs.cell_places.LineCells.{among-row, line-adds, 
 use Rattle.lattice.proofs.theory.NextLine.{pass-first}
 use Rattle.lattice.proofs.theory.Positions.{size-none, size-most}
 use Rattle.lattice.proofs.theory.Remainder.{minus-below, minus-adds}
-use Rattle.lattice.proofs.theory.SizesByLines.{columns-are, lines-are, some, settings-some, settings-are, all-cells, starts-below}
+use Rattle.lattice.proofs.theory.SizesByLines.{columns-are, lines-are, some, settings-some, settings-are, all-cells}
+use Rattle.lattice.proofs.theory.SizesByLines.{starts-below}
 use Rattle.lattice.proofs.theory.Starts.{line-class}
 
 -- line l is next in a search for a cell of class a: it begins at cell n, and `before` of the class stand before it

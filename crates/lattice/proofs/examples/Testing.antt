@@ -9,7 +9,8 @@ use lib.ListN.{length}
 use lib.IntN.{pos, negsuc}
 use Rattle.lattice.specs.Range.{inRange}
 use Rattle.lattice.specs.Order.{order, triple, Leading, magnitude}
-use Rattle.lattice.specs.DistanceTest.{failsAt, outcome, testStrengthOk, testSettingsOk, testNumber, verdict, foundTriple, triplesTried}
+use Rattle.lattice.specs.DistanceTest.{failsAt, outcome, testStrengthOk, testSettingsOk, testNumber, verdict, foundTriple}
+use Rattle.lattice.specs.DistanceTest.{triplesTried}
 
 -- m = 7, b = 2, c = 3 hold for strength 3, after 12 triples
 pub holds-accepted : testNumber 7 2 3 3 ≡ 0

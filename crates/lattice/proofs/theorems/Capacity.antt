@@ -11,7 +11,11 @@ use Rattle.lattice.proofs.theory.CapacityByClass.{data-cells, capacity-
 
 pub checksAreBitLength : ChecksAreBitLength
 unfolding checks
-checksAreBitLength = record { none = refl; some = λ n p. bits n (checks n) (top-of n p .top) (top-of n p .number) (top-of n p .low) (top-of n p .high) }
+checksAreBitLength =
+    record {
+      none = refl;
+      some = λ n p. bits n (checks n) (top-of n p .top) (top-of n p .number) (top-of n p .low) (top-of n p .high);
+    }
   where
     bits : (n k j : ℕ) → k ≡ suc j → 2 ^ j ≤ n → n < 2 ^ suc j → (1 ≤ k) × (2 ^ (k - 1) ≤ n) × (n < 2 ^ k)
     bits n k j e l u = let q : k - 1 ≡ j = omega arith in (omega arith, rw q l, rw e u)

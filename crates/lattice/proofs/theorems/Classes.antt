@@ -12,7 +12,8 @@ use Rattle.lattice.proofs.theory.Pigeonhole.{different-values-few}
 pub classIsRemainder : ClassIsRemainder
 classIsRemainder = record { is = is; only = only }
 
--- Theorem. In a field that the constructor accepts the class of a cell is below m, so at most m classes hold a cell, and m is at most 512.
+-- Theorem. In a field that the constructor accepts the class of a cell is below m, so at most m classes hold a cell, and m is at
+-- most 512.
 pub classesBelow : ClassesBelow
 classesBelow =
     record {

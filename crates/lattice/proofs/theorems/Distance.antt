@@ -32,7 +32,8 @@ flatDistance t some x y r px py hx hy other = go (decLe t (pointDistance x y))
     go (yes far) = far
     go (no near) = absurd (other (near-is-one t some x y r hx hy (px ∙ sym py) (lt-of-not-le near)))
 
--- Theorem. The stack settings keep different cells of one class at least t apart in the endless stack, for every strength of the table.
+-- Theorem. The stack settings keep different cells of one class at least t apart in the endless stack, for every strength of the
+-- table.
 pub stackDistance : StackDistance
 stackDistance t some most =
     testMeaning (stackSettings t .m) (stackSettings t .b) (stackSettings t .c) t (row-accepted t (stackSettings t) holds) .0 holds
@@ -57,9 +58,8 @@ module _ (s : Shape) (accepted : Accepted s) (x y : Cell) (hx : InField s x) (hy
 
   flat : s .planes ≡ 1 → s .strength ≤ distance x y
   flat d =
-      rw cell-distance at
-      (apart (pointOf x) (pointOf y) (classOf s x) (ap pos (omega (arith, hx .plane))) (ap pos (omega (arith, hy .plane))) class-x class-y
-      (point-inj x y other))
+      rw cell-distance at (apart (pointOf x) (pointOf y) (classOf s x) (ap pos (omega (arith, hx .plane)))
+      (ap pos (omega (arith, hy .plane))) class-x class-y (point-inj x y other))
     where
       apart : ApartOnPlane (settingsOf s) (s .strength)
       apart =

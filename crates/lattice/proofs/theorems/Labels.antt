@@ -14,7 +14,8 @@ use Rattle.lattice.proofs.theory.Limits.{legal}
 use Rattle.lattice.proofs.theorems.Classes.{classesBelow}
 use Rattle.lattice.proofs.theorems.Clusters.{clusterClasses}
 
--- Theorem. On every flat field with t at least 1 and both sides at least t, every labelling in which no cluster of at most t cells has
+-- Theorem. On every flat field with t at least 1 and both sides at least t, every labelling in which no cluster of at most t
+-- cells has
 -- one label twice has at least m labels.
 pub labelsNeeded : LabelsNeeded
 labelsNeeded s flat positive wide high L sep =

@@ -26,7 +26,9 @@ testAtOne m b c ok = (rw ok, rw ok)
 pub testFinds : TestFinds
 unfolding outcome
 testFinds m b c t ok no-verdict =
-    let f = found (settings m b c) (order t) (not-false (outcome m b c t .found) (sym (accepted-verdict m b c t ok) ∙ no-verdict)) in (
+    let f =
+    found (settings m b c) (order t)
+    (not-false (outcome m b c t .found) (sym (accepted-verdict m b c t ok) ∙ no-verdict)) in (
       f .at,
       f .below,
       accepted-tried m b c t ok ∙ f .tried,
@@ -39,7 +41,9 @@ testFinds m b c t ok no-verdict =
 pub testHolds : TestHolds
 unfolding outcome
 testHolds m b c t ok yes-verdict =
-    let f = missed (settings m b c) (order t) (not-true (outcome m b c t .found) (sym (accepted-verdict m b c t ok) ∙ yes-verdict)) in
+    let f =
+    missed (settings m b c) (order t)
+    (not-true (outcome m b c t .found) (sym (accepted-verdict m b c t ok) ∙ yes-verdict)) in
     (accepted-tried m b c t ok ∙ f .tried ∙ orderLength t, accepted-triple m b c t ok ∙ f .triple, f .each)
 
 -- accepted settings have a class
@@ -51,7 +55,8 @@ some-classes m b c t e = go (decLe 1 m)
     go (yes l) = l
     go (no l) = absurd (testRefused m b c t .0 .0 e .1 .0 (inl (inl (lt-of-not-le l))))
 
--- Theorem. Where the numbers are accepted, the verdict is yes exactly when all different cells of one class in an endless stack are at
+-- Theorem. Where the numbers are accepted, the verdict is yes exactly when all different cells of one class in an endless stack
+-- are at
 -- least t apart.
 pub testMeaning : TestMeaning
 testMeaning m b c t ok = (far, sound)

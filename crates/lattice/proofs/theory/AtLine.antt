@@ -1,4 +1,5 @@
--- A pass over the lines of an accepted shape: the first line, the class and the position of a cell, and the step to the next line.
+-- A pass over the lines of an accepted shape: the first line, the class and the position of a cell, and the step to the next
+-- line.
 use Prim.Native.Nat.{ℕ, zero, suc, _+_, _-_, _*_, _/_, _%_, _<_, _≤_}
 use mathlib.Core.List.{List}
 use mathlib.Core.Path.{_≡_, sym, ap, subst, _∙_}

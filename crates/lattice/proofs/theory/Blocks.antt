@@ -1,6 +1,7 @@
 -- A run of integers each of which stands for a block of triples: its members and its order.
 use Prim.Native.Nat.{ℕ, zero, suc, _<_}
-use mathlib.Core.List.{List, [], _∷_, _++_, List·Memᴰ, List·Memᴰ·not-nil, List·Memᴰ·append-cases, Memᴰ·append-left, Memᴰ·append-right}
+use mathlib.Core.List.{List, [], _∷_, _++_, List·Memᴰ, List·Memᴰ·not-nil, List·Memᴰ·append-cases, Memᴰ·append-left}
+use mathlib.Core.List.{Memᴰ·append-right}
 use mathlib.Core.Logic.{⊎-elim}
 use mathlib.Core.Path.{_≡_, sym, _∙_, ap}
 use native.Mathlib.Omega.{arith}
@@ -19,7 +20,9 @@ later z i = (i, ap (λ w. w -ℤ z) (next-step z i ∙ +ℤ-comm z (pos (suc i))
 module _ (at : List ℤ → List Triple) (none : at [] ≡ []) (block : ℤ → List Triple)
     (more : (z : ℤ) (zs : List ℤ) → at (z ∷ zs) ≡ block z ++ at zs) where
   -- the members are those of the blocks
-  pub from-blocks : (x : Triple) (low : ℤ) (n : ℕ) → List·Memᴰ x (at (run low n)) → (i : ℕ) × (i < n) × List·Memᴰ x (block (low +ℤ pos i))
+  pub from-blocks : (x : Triple) (low : ℤ) (n : ℕ)
+      → List·Memᴰ x (at (run low n))
+      → (i : ℕ) × (i < n) × List·Memᴰ x (block (low +ℤ pos i))
   from-blocks x low zero m = absurd (List·Memᴰ·not-nil (rw none at m))
   from-blocks x low (suc n) m =
       ⊎-elim

@@ -12,7 +12,8 @@ use Rattle.lattice.specs.Settings.{settingsOf}
 use Rattle.lattice.specs.Cell.{Cell}
 use Rattle.lattice.specs.Class.{minusMod, classWith, classesOf, classOf}
 use Rattle.lattice.proofs.theory.Limits.{legal, strength-stack, strength-most}
-use Rattle.lattice.proofs.theory.SettingsLaws.{settings-flat, settings-stack, classes-stack, flat-most, stack-bounds, classes-some}
+use Rattle.lattice.proofs.theory.SettingsLaws.{settings-flat, settings-stack, classes-stack, flat-most, stack-bounds}
+use Rattle.lattice.proofs.theory.SettingsLaws.{classes-some}
 
 -- with m of 0 the class is the column
 pub class-none : (k : Settings) (x : Cell) → k .m ≡ 0 → classWith k x ≡ x .column

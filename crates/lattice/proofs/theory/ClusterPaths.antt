@@ -9,7 +9,8 @@ use lib.ListN.{length}
 use Rattle.lattice.specs.declared.shape.Shape.{Shape}
 use Rattle.lattice.specs.Cell.{Cell, InField}
 use Rattle.lattice.specs.Cluster.{distance, Joined, Linked, stay, step, Together}
-use Rattle.lattice.proofs.theory.Distances.{distance-self, distance-eq, distance-triangle, distance-joined, joined-sym, Towards, towards}
+use Rattle.lattice.proofs.theory.Distances.{distance-self, distance-eq, distance-triangle, distance-joined, joined-sym}
+use Rattle.lattice.proofs.theory.Distances.{Towards, towards}
 use Rattle.lattice.proofs.theory.Pigeonhole.{all-covered}
 
 -- a path's first and last cell lie in the set, paths can be joined and turned round, and a larger set has them too
@@ -40,7 +41,9 @@ module _ {S : Cell → Type 0} where
   at-each-distance x k (stay {x = a} h) p q = (a, h, omega arith)
   at-each-distance x k (step {x = a} {y = b} h j l) p q = go (ℕ-discrete k (distance x a)) (λ p′. at-each-distance x k l p′ q)
     where
-      go : Dec (k ≡ distance x a) → (distance x b ≤ k → (c : Cell) × S c × (k ≡ distance x c)) → (c : Cell) × S c × (k ≡ distance x c)
+      go : Dec (k ≡ distance x a)
+          → (distance x b ≤ k → (c : Cell) × S c × (k ≡ distance x c))
+          → (c : Cell) × S c × (k ≡ distance x c)
       go (yes e) rest = (a, h, e)
       go (no e) rest = rest (omega (arith, distance-triangle x a b, distance-joined j))
 
@@ -51,7 +54,9 @@ together-near s t x y r =
   where
     there : (k : ℕ) → k < suc (distance x y) → (c : Cell) × List·Memᴰ c (r .small .cells) × (k ≡ distance x c)
     there k h =
-        let c = at-each-distance x k (r .cluster .linked x y (r .first) (r .second)) (omega (arith, distance-self x)) (omega arith) in
+        let c =
+        at-each-distance x k (r .cluster .linked x y (r .first) (r .second)) (omega (arith, distance-self x))
+        (omega arith) in
         (c .0, r .small .all (c .0) (c .1), c .2)
 
 -- a walk from x to y of d steps, inside the field: its cells, each linked to y among them

@@ -1,4 +1,5 @@
--- The absolute difference and the distance of cells as measures: symmetric, 0 for equal things only, the triangle inequality, and a
+-- The absolute difference and the distance of cells as measures: symmetric, 0 for equal things only, the triangle inequality, and
+-- a
 -- step that goes nearer.
 use Prim.Native.Nat.{ℕ, suc, _+_, _-_, _≤_, _<_}
 use mathlib.Core.Logic.{_⊎_, inl, inr, _≢_}
@@ -108,19 +109,23 @@ towards x y = go (ℕ-discrete (x .row) (y .row)) (ℕ-discrete (x .plane) (y .p
           nearer = omega (arith, k .nearer);
           inside = λ s hx hy. record { row = k .between (s .rows) (hx .row) (hy .row); plane = hx .plane; column = hx .column };
         })
-    go (yes r) (no p) c = let k = nearer (x .plane) (y .plane) p in
+    go (yes r) (no p) c =
+        let k = nearer (x .plane) (y .plane) p in
         inr (record {
           next = cell (x .row) (k .next) (x .column);
           joined = by-plane refl (k .step) refl;
           nearer = omega (arith, k .nearer);
-          inside = λ s hx hy. record { row = hx .row; plane = k .between (s .planes) (hx .plane) (hy .plane); column = hx .column };
+          inside = λ s hx hy.
+              record { row = hx .row; plane = k .between (s .planes) (hx .plane) (hy .plane); column = hx .column };
         })
-    go (yes r) (yes p) (no c) = let k = nearer (x .column) (y .column) c in
+    go (yes r) (yes p) (no c) =
+        let k = nearer (x .column) (y .column) c in
         inr (record {
           next = cell (x .row) (x .plane) (k .next);
           joined = by-column refl refl (k .step);
           nearer = omega (arith, k .nearer);
-          inside = λ s hx hy. record { row = hx .row; plane = hx .plane; column = k .between (s .columns) (hx .column) (hy .column) };
+          inside = λ s hx hy.
+              record { row = hx .row; plane = hx .plane; column = k .between (s .columns) (hx .column) (hy .column) };
         })
     go (yes r) (yes p) (yes c) = inl (cell-path x y r p c)
 

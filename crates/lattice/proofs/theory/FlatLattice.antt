@@ -87,7 +87,8 @@ module _ (t m b : ℕ) (forbids : Forbids t m b) where
   -- the same for four coordinates, the rows r and r + Y
   rising-columns : (c X r Y : ℕ) → (c + b * r) % m ≡ (c + X + b * (r + Y)) % m → X + Y < t → (X ≡ 0) × (Y ≡ 0)
   rising-columns c X r Y same near =
-      let between : (j : ℕ) × (c + X + b * (r + Y) ≡ c + b * r + j * m) = multiple-between (c + b * r) (c + X + b * (r + Y)) m (omega arith) same in
+      let between : (j : ℕ) × (c + X + b * (r + Y) ≡ c + b * r + j * m) =
+      multiple-between (c + b * r) (c + X + b * (r + Y)) m (omega arith) same in
       across-zero X Y (between .0) (omega (arith, between .1)) near
 
   falling-columns : (c X r Y : ℕ) → (c + X + b * r) % m ≡ (c + b * (r + Y)) % m → X + Y < t → (X ≡ 0) × (Y ≡ 0)
@@ -95,11 +96,13 @@ module _ (t m b : ℕ) (forbids : Forbids t m b) where
     where
       go : Dec (X ≤ b * Y) → (X ≡ 0) × (Y ≡ 0)
       go (yes l) =
-          let between : (j : ℕ) × (c + b * (r + Y) ≡ c + X + b * r + j * m) = multiple-between (c + X + b * r) (c + b * (r + Y)) m (omega arith) same in
+          let between : (j : ℕ) × (c + b * (r + Y) ≡ c + X + b * r + j * m) =
+          multiple-between (c + X + b * r) (c + b * (r + Y)) m (omega arith) same in
           back-zero X Y (between .0) (omega (arith, between .1)) near
       go (no l) =
           let below : b * Y ≤ X = omega (arith, lt-of-not-le l) in
-          let between : (j : ℕ) × (c + X + b * r ≡ c + b * (r + Y) + j * m) = multiple-between (c + b * (r + Y)) (c + X + b * r) m (omega arith) (sym same) in
+          let between : (j : ℕ) × (c + X + b * r ≡ c + b * (r + Y) + j * m) =
+          multiple-between (c + b * (r + Y)) (c + X + b * r) m (omega arith) (sym same) in
           along X Y (between .0) (omega (arith, between .1)) near
 
   rising-rows : (c₁ c₂ r Y : ℕ) → (c₁ + b * r) % m ≡ (c₂ + b * (r + Y)) % m → apart c₁ c₂ + Y < t → (c₁ ≡ c₂) × (Y ≡ 0)

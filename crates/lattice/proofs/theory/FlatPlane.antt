@@ -55,7 +55,8 @@ flat-forbids t some = go (ℕ-discrete (t % 2) 1)
     go (yes odd) = rw (flat-odd t odd) (odd-settings t odd)
     go (no even) = rw (flat-even t even) (even-settings t some even)
 
-module _ (t : ℕ) (some : 1 ≤ t) (x y : Point) (r : ℕ) (hx : HasClass (flatSettings t) x r) (hy : HasClass (flatSettings t) y r) where
+module _ (t : ℕ) (some : 1 ≤ t) (x y : Point) (r : ℕ) (hx : HasClass (flatSettings t) x r)
+    (hy : HasClass (flatSettings t) y r) where
   -- in one class, with the parts of the coordinates crossed
   crossed : (up (x .column) + down (y .column) + flatSettings t .b * (up (y .row) + down (x .row))) % flatSettings t .m
       ≡ (up (y .column) + down (x .column) + flatSettings t .b * (up (x .row) + down (y .row))) % flatSettings t .m
@@ -66,10 +67,13 @@ module _ (t : ℕ) (some : 1 ≤ t) (x y : Point) (r : ℕ) (hx : HasClass (flat
 
   pub near-is-one : x .plane ≡ y .plane → pointDistance x y < t → x ≡ y
   unfolding pointDistance
-  near-is-one planes near = point-eq x y (coordinate-eq (x .row) (y .row) (found .0)) planes (coordinate-eq (x .column) (y .column) (found .1))
+  near-is-one planes near =
+      point-eq x y (coordinate-eq (x .row) (y .row) (found .0)) planes
+      (coordinate-eq (x .column) (y .column) (found .1))
     where
-      found : (up (x .row) + down (y .row) ≡ up (y .row) + down (x .row)) × (up (x .column) + down (y .column) ≡ up (y .column) + down (x .column))
+      found : (up (x .row) + down (y .row) ≡ up (y .row) + down (x .row))
+          × (up (x .column) + down (y .column) ≡ up (y .column) + down (x .column))
       found =
-          one-cell t (flatSettings t .m) (flatSettings t .b) (flat-forbids t some) (up (x .column) + down (y .column)) (up (y .column) + down (x .column))
-          (up (x .row) + down (y .row)) (up (y .row) + down (x .row)) crossed
+          one-cell t (flatSettings t .m) (flatSettings t .b) (flat-forbids t some) (up (x .column) + down (y .column))
+          (up (y .column) + down (x .column)) (up (x .row) + down (y .row)) (up (y .row) + down (x .row)) crossed
           (omega (arith, coordinate-apart (x .row) (y .row), coordinate-apart (x .column) (y .column)))

@@ -14,8 +14,14 @@ use Rattle.lattice.proofs.theory.Pigeonhole.{ValueBelow, different-valu
 use Rattle.lattice.proofs.theory.ClusterPaths.{near-together}
 
 -- different cells of the field less than t apart have different labels
-pub separates-near : (s : Shape) (t : ℕ) (L : Cell → ℕ) → Separates s t L → (x y : Cell) → InField s x → InField s y → distance x y < t
-    → L x ≡ L y → x ≡ y
+pub separates-near : (s : Shape) (t : ℕ) (L : Cell → ℕ)
+    → Separates s t L
+    → (x y : Cell)
+    → InField s x
+    → InField s y
+    → distance x y < t
+    → L x ≡ L y
+    → x ≡ y
 separates-near s t L sep x y hx hy h =
     let r = near-together s t x y hx hy h in
     sep (r .set) (r .cluster) (r .small) x y (r .first) (r .second)

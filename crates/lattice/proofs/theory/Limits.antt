@@ -8,7 +8,8 @@ use lib.Dec.{leb, eqb, lit≤}
 use native.Mathlib.Nat.{le-trans}
 use Rattle.lattice.specs.declared.shape.Shape.{Shape}
 use Rattle.lattice.specs.Refusal.{unless}
-use Rattle.lattice.specs.Shape.{maxSide, maxPlanes, maxCells, maxFlatStrength, maxStackStrength, maxStrength, sizeOk, strengthOk, shapeNumber, Accepted}
+use Rattle.lattice.specs.Shape.{maxSide, maxPlanes, maxCells, maxFlatStrength, maxStackStrength, maxStrength, sizeOk}
+use Rattle.lattice.specs.Shape.{strengthOk, shapeNumber, Accepted}
 use Rattle.lattice.specs.Range.{inRange}
 use Rattle.lattice.proofs.theory.Answers.{unless-zero}
 use Rattle.lattice.proofs.theory.Bools.{and-true, and-false-left, and-left, and-right}
@@ -73,7 +74,9 @@ module _ (s : Shape) where
   unfolding shapeNumber
   number-strength p q = rw (p, q)
 
-  pub number-accepted : sizeOk (s .columns) (s .rows) (s .planes) ≡ true → strengthOk (s .planes) (s .strength) ≡ true → Accepted s
+  pub number-accepted : sizeOk (s .columns) (s .rows) (s .planes) ≡ true
+      → strengthOk (s .planes) (s .strength) ≡ true
+      → Accepted s
   unfolding shapeNumber
   number-accepted p q = rw (p, q)
 
@@ -126,7 +129,8 @@ legal s p =
       height-high = range-high 1 maxSide h (and-right (inRange 1 maxSide w) _ wh);
       planes-low = range-low 1 maxPlanes d (and-right (inRange 1 maxSide w && inRange 1 maxSide h) _ whd);
       planes-high = range-high 1 maxPlanes d (and-right (inRange 1 maxSide w && inRange 1 maxSide h) _ whd);
-      product = leb-true (w * h * d) maxCells (and-right (inRange 1 maxSide w && inRange 1 maxSide h && inRange 1 maxPlanes d) _ size);
+      product = leb-true (w * h * d) maxCells
+          (and-right (inRange 1 maxSide w && inRange 1 maxSide h && inRange 1 maxPlanes d) _ size);
       strength-low = range-low 1 (maxStrength d) t (strength-held s p);
       strength-high = range-high 1 (maxStrength d) t (strength-held s p);
     }

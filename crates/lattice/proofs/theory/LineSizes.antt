@@ -13,7 +13,8 @@ use Rattle.lattice.proofs.theory.Among.{same-test, count-from}
 -- a line of w cells that begins at cell n, at `start` in the table and with the offset `off`
 module _ (L : Layout) (m : ℕ) (table : ℕ → ℕ) (period : HasPeriod m table) (start off n w : ℕ)
     (line : (x : ℕ) → x < w → L .class (n + x) ≡ table (start + x) + off) where
-  -- its first x cells add to the class of the table's place y those of the places start to start + x − 1 that have the remainder of y
+  -- its first x cells add to the class of the table's place y those of the places start to start + x − 1 that have the remainder
+  -- of y
   pub line-size : (y x : ℕ) → x ≤ w
       → sizeTo L (table y + off) (n + x) + among m y start ≡ sizeTo L (table y + off) n + among m y (start + x)
   unfolding sizeTo among

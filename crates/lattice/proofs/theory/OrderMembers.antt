@@ -27,8 +27,11 @@ span-within : (w i : ℕ) → i < w + w + 1 → natAbs (negℤ (pos w) +ℤ pos 
 span-within w i h = omega (arith, ap natAbs (from-end w i), natAbs-sub i w)
 
 span-reaches : (w : ℕ) (z : ℤ) → natAbs z ≤ w → (i : ℕ) × (i < w + w + 1) × (negℤ (pos w) +ℤ pos i ≡ z)
-span-reaches w z h =
-    (w + up z - down z, omega (arith, sizes z), from-end w (w + up z - down z) ∙ sub-is (w + up z - down z) w z (omega (arith, sizes z)))
+span-reaches w z h = (
+  w + up z - down z,
+  omega (arith, sizes z),
+  from-end w (w + up z - down z) ∙ sub-is (w + up z - down z) w z (omega (arith, sizes z)),
+)
   where
     sizes : (z : ℤ) → natAbs z ≡ up z + down z
     sizes (pos n) = omega arith
@@ -49,7 +52,11 @@ from-plane x r p w m =
       omega (arith, ap (λ (x : Triple). natAbs (x .column)) e, span-within w (b .0) (b .1)),
     )
 
-pub to-plane : (x : Triple) (r p : ℤ) (w : ℕ) → x .row ≡ r → x .plane ≡ p → natAbs (x .column) ≤ w → List·Memᴰ x (columnsAt r p (span w))
+pub to-plane : (x : Triple) (r p : ℤ) (w : ℕ)
+    → x .row ≡ r
+    → x .plane ≡ p
+    → natAbs (x .column) ≤ w
+    → List·Memᴰ x (columnsAt r p (span w))
 to-plane x r p w e f h =
     let b = span-reaches w (x .column) h in
     in-blocks (columnsAt r p) refl (columnBlock r p) (λ z zs. refl) x (negℤ (pos w)) (w + w + 1) (b .0) (b .1)
@@ -70,12 +77,17 @@ to-planes x r low n m i h e f g =
     (to-plane x r (low +ℤ pos i) (n - natAbs (low +ℤ pos i)) e f (omega (arith, g, ap natAbs f)))
 
 -- the triples of one row: plane and column have an absolute sum of at most w
-pub from-row : (x : Triple) (r : ℤ) (w : ℕ) → List·Memᴰ x (planesAt r w (span w)) → (x .row ≡ r) × (natAbs (x .plane) + natAbs (x .column) ≤ w)
+pub from-row : (x : Triple) (r : ℤ) (w : ℕ)
+    → List·Memᴰ x (planesAt r w (span w))
+    → (x .row ≡ r) × (natAbs (x .plane) + natAbs (x .column) ≤ w)
 from-row x r w k =
     let b = from-planes x r (negℤ (pos w)) w (w + w + 1) k in
     (b .2, omega (arith, b .4, ap natAbs (b .3), span-within w (b .0) (b .1)))
 
-pub to-row : (x : Triple) (r : ℤ) (w : ℕ) → x .row ≡ r → natAbs (x .plane) + natAbs (x .column) ≤ w → List·Memᴰ x (planesAt r w (span w))
+pub to-row : (x : Triple) (r : ℤ) (w : ℕ)
+    → x .row ≡ r
+    → natAbs (x .plane) + natAbs (x .column) ≤ w
+    → List·Memᴰ x (planesAt r w (span w))
 to-row x r w e h =
     let b = span-reaches w (x .plane) (omega arith) in
     to-planes x r (negℤ (pos w)) w (w + w + 1) (b .0) (b .1) e (sym (b .2)) (omega arith)

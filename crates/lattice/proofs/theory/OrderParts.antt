@@ -1,6 +1,8 @@
--- The order lists exactly the triples of absolute sum below t whose first number that is not 0 is positive, each once, and rising.
+-- The order lists exactly the triples of absolute sum below t whose first number that is not 0 is positive, each once, and
+-- rising.
 use Prim.Native.Nat.{ℕ, _-_, _<_, _≤_}
-use mathlib.Core.List.{_++_, List·Memᴰ, List·Memᴰ·head, List·Memᴰ·eq-of-singleton, List·Memᴰ·append-cases, Memᴰ·append-left, Memᴰ·append-right}
+use mathlib.Core.List.{_++_, List·Memᴰ, List·Memᴰ·head, List·Memᴰ·eq-of-singleton, List·Memᴰ·append-cases, Memᴰ·append-left}
+use mathlib.Core.List.{Memᴰ·append-right}
 use mathlib.Core.Logic.{inl, inr, ⊎-elim}
 use mathlib.Core.Path.{_≡_, refl, sym, _∙_, ap}
 use native.Mathlib.Omega.{arith}
@@ -10,7 +12,8 @@ use Rattle.lattice.specs.Order.{columnsAt, order, magnitude, Less, Leadi
 use Rattle.lattice.proofs.theory.Sorted.{Sorted, sorted-append}
 use Rattle.lattice.proofs.theory.Blocks.{from-blocks, in-blocks}
 use Rattle.lattice.proofs.theory.ScanOrder.{firstColumns, firstPlanes, allRows}
-use Rattle.lattice.proofs.theory.OrderMembers.{triple-eq, columnBlock, from-planes, to-planes, from-rows, to-rows, sorted-columns, sorted-planes, sorted-rows}
+use Rattle.lattice.proofs.theory.OrderMembers.{triple-eq, columnBlock, from-planes, to-planes, from-rows, to-rows}
+use Rattle.lattice.proofs.theory.OrderMembers.{sorted-columns, sorted-planes, sorted-rows}
 
 -- the positive integers are those that a run from 1 reaches
 above-zero : (z : ℤ) (i : ℕ) → z ≡ pos 1 +ℤ pos i → Less (pos 0) z
@@ -40,7 +43,8 @@ Listed t x = Leading x × (1 ≤ magnitude x) × (magnitude x < t)
 pub from-order : (t : ℕ) (x : Triple) → List·Memᴰ x (order t) → Listed t x
 unfolding order Leading magnitude
 from-order t x m =
-    ⊎-elim columns (λ k. ⊎-elim planes rows (List·Memᴰ·append-cases (firstPlanes n) k)) (List·Memᴰ·append-cases (firstColumns n) m)
+    ⊎-elim columns (λ k. ⊎-elim planes rows (List·Memᴰ·append-cases (firstPlanes n) k))
+    (List·Memᴰ·append-cases (firstColumns n) m)
   where
     n : ℕ
     n = t - 1

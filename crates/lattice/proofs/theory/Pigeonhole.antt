@@ -1,4 +1,5 @@
--- Counting: pairwise different numbers that are all values of a function are at most as many as its arguments, or its different values.
+-- Counting: pairwise different numbers that are all values of a function are at most as many as its arguments, or its different
+-- values.
 use Prim.Native.Nat.{ℕ, zero, suc, _+_, _≤_, _<_}
 use mathlib.Core.Bool.{Bool, true, false, cond, _||_, false≢true}
 use mathlib.Core.List.{List, [], _∷_, List·Memᴰ, List·Memᴰ·head, List·Memᴰ·tail, List·Memᴰ·not-nil, List·Memᴰ·cases-cons}
@@ -88,7 +89,9 @@ upTo-distinct zero = tt
 upTo-distinct (suc m) = (λ y k e. omega (arith, upTo-sound m y k), upTo-distinct m)
 
 -- Where each number below n is a value of g at some entry of a list, the list has at least n entries.
-pub all-covered : {A : Type 0} (g : A → ℕ) (n : ℕ) (l : List A) → ((k : ℕ) → k < n → (c : A) × List·Memᴰ c l × (k ≡ g c)) → n ≤ length l
+pub all-covered : {A : Type 0} (g : A → ℕ) (n : ℕ) (l : List A)
+    → ((k : ℕ) → k < n → (c : A) × List·Memᴰ c l × (k ≡ g c))
+    → n ≤ length l
 all-covered g n l h =
     omega (arith, upTo-length n, covered-length g (upTo n) l (upTo-distinct n) (λ k m. h k (upTo-sound n k m)))
 
@@ -104,7 +107,11 @@ takes-sound : (f : ℕ → ℕ) (v n : ℕ) → takes f v n ≡ true → ValueBe
 takes-sound f v zero h = absurd (false≢true h)
 takes-sound f v (suc n) h = go (eqb (f n) v) refl h (takes-sound f v n)
   where
-    go : (b : Bool) → eqb (f n) v ≡ b → (b || takes f v n) ≡ true → (takes f v n ≡ true → ValueBelow f n v) → ValueBelow f (suc n) v
+    go : (b : Bool)
+        → eqb (f n) v ≡ b
+        → (b || takes f v n) ≡ true
+        → (takes f v n ≡ true → ValueBelow f n v)
+        → ValueBelow f (suc n) v
     go true e h′ rest = (n, omega arith, sym (eqb-true (f n) v e))
     go false e h′ rest = value-later (rest h′)
 
@@ -179,7 +186,12 @@ different-values-many f n xs d h =
 -- A function whose values at the numbers below n are below m has at most m different values there.
 pub different-values-few : (f : ℕ → ℕ) (m n : ℕ) → ((i : ℕ) → i < n → f i < m) → differentValues f n ≤ m
 different-values-few f m n h =
-    omega (arith, values-length f n, upTo-length m, covered-length (λ (v : ℕ). v) (values f n) (upTo m) (values-distinct f n) in-range)
+    omega (
+      arith,
+      values-length f n,
+      upTo-length m,
+      covered-length (λ (v : ℕ). v) (values f n) (upTo m) (values-distinct f n) in-range,
+    )
   where
     in-range : Covered (λ (v : ℕ). v) (upTo m) (values f n)
     in-range x k = let r = values-sound f n x k in

@@ -1,4 +1,5 @@
--- The triples between points: which settings fail at the triple between two points of one class, and the points that a failing triple sets apart.
+-- The triples between points: which settings fail at the triple between two points of one class, and the points that a failing
+-- triple sets apart.
 use Prim.Native.Nat.{ℕ, suc, _+_, _-_, _*_, _%_, _<_, _≤_}
 use mathlib.Core.Bool.{true, false, true≢false}
 use mathlib.Core.Logic.{_⊎_, inl, inr, ⊎-elim}
@@ -29,10 +30,15 @@ compared z w = go (decLt (up z + down w) (up w + down z)) (decLt (up w + down z)
     positive : (u v : ℤ) → up u + down v < up v + down u → Less (pos 0) (v -ℤ u)
     positive u v l = (
       up v + down u - suc (up u + down v),
-      +ℤ-idr (v -ℤ u) ∙ difference u v ∙ sub-is (up v + down u) (down v + up u) (pos (suc (up v + down u - suc (up u + down v)))) (omega arith),
+      +ℤ-idr (v -ℤ u)
+          ∙ difference u v
+          ∙ sub-is (up v + down u) (down v + up u) (pos (suc (up v + down u - suc (up u + down v))))
+          (omega arith),
     )
 
-    go : Dec (up z + down w < up w + down z) → Dec (up w + down z < up z + down w) → (z ≡ w) ⊎ (Less (pos 0) (w -ℤ z) ⊎ Less (pos 0) (z -ℤ w))
+    go : Dec (up z + down w < up w + down z)
+        → Dec (up w + down z < up z + down w)
+        → (z ≡ w) ⊎ (Less (pos 0) (w -ℤ z) ⊎ Less (pos 0) (z -ℤ w))
     go (yes l) d = inr (inl (positive z w l))
     go (no h) (yes l) = inr (inr (positive w z l))
     go (no h) (no l) = inl (coordinate-eq z w (omega arith))
@@ -86,9 +92,11 @@ fails-between k x y r hx hy = eq-eqb _ 0 (ap (λ (z : ℤ). natAbs z % k .m) who
     whole : (y .column -ℤ x .column) -ℤ pos (k .b) *ℤ (y .row -ℤ x .row) -ℤ pos (k .c) *ℤ (y .plane -ℤ x .plane) ≡ subℕ high low
     whole =
         ap₂ (λ (u v : ℤ). u -ℤ pos (k .c) *ℤ v)
-        (ap₂ (λ (u v : ℤ). u -ℤ pos (k .b) *ℤ v) (difference (x .column) (y .column)) (difference (x .row) (y .row)))
+        (ap₂ (λ (u v : ℤ). u -ℤ pos (k .b) *ℤ v) (difference (x .column) (y .column))
+        (difference (x .row) (y .row)))
         (difference (x .plane) (y .plane))
-        ∙ residue-sub k (up (y .row) + down (x .row)) (down (y .row) + up (x .row)) (up (y .plane) + down (x .plane)) (down (y .plane) + up (x .plane))
+        ∙ residue-sub k (up (y .row) + down (x .row)) (down (y .row) + up (x .row))
+        (up (y .plane) + down (x .plane)) (down (y .plane) + up (x .plane))
         (up (y .column) + down (x .column)) (down (y .column) + up (x .column))
 
     same : high % k .m ≡ low % k .m
@@ -155,6 +163,13 @@ end-class k some x f =
     (ap (λ (z : ℤ). natAbs z % k .m) (sym (residue k (x .row) (x .plane) (x .column))) ∙ eqb-true _ 0 f)
     ∙ ap (λ (n : ℕ). n % k .m) (omega arith))
 
-pub close-of-fails : (k : Settings) (t : ℕ) → 0 < k .m → (x : Triple) → Leading x → magnitude x < t → failsAt k x ≡ true → Apart k t → ⊥
+pub close-of-fails : (k : Settings) (t : ℕ)
+    → 0 < k .m
+    → (x : Triple)
+    → Leading x
+    → magnitude x < t
+    → failsAt k x ≡ true
+    → Apart k t
+    → ⊥
 close-of-fails k t some x lead short f far =
     omega (arith, far corner (end x) 0 (corner-class k some) (end-class k some x f) (not-corner x lead), from-corner x)

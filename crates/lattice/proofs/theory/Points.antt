@@ -1,4 +1,5 @@
--- Points of the endless stack by the parts of their coordinates: when two are one, how far they are apart, and the cells of a field among them.
+-- Points of the endless stack by the parts of their coordinates: when two are one, how far they are apart, and the cells of a
+-- field among them.
 use Prim.Native.Nat.{ℕ, _+_, _-_}
 use mathlib.Core.Path.{_≡_, sym, _∙_, ap, ap₂}
 use native.Mathlib.Omega.{arith}

@@ -15,7 +15,8 @@ use Rattle.lattice.proofs.theory.Counting.{count-mono, count-most}
 use Rattle.lattice.proofs.theory.Positions.{size-none}
 use Rattle.lattice.proofs.theory.Remainder.{minus-below}
 use Rattle.lattice.specs.Lines.{HasPeriod, among, Positions, Repeats, Gains, Advanced, CanAdvance, round}
-use Rattle.lattice.proofs.theory.Among.{among-none, among-next, among-before, among-after, among-shift, among-whole, among-more, among-many, among-mono}
+use Rattle.lattice.proofs.theory.Among.{among-none, among-next, among-before, among-after, among-shift, among-whole}
+use Rattle.lattice.proofs.theory.Among.{among-more, among-many, among-mono}
 use Rattle.lattice.proofs.theory.LineSizes.{line-size, line-next}
 use Rattle.lattice.proofs.theory.Starts.{back-above, back-below}
 

@@ -9,7 +9,8 @@ use lib.Dec.{eqb}
 use borrow.Author.Tests.{eq-eqb, ne-eqb, eqb-true}
 use Rattle.lattice.specs.Position.{Layout, sizeTo, position}
 use Rattle.lattice.specs.Counting.{count, sumBelow}
-use Rattle.lattice.proofs.theory.Counting.{count-step, count-yes, count-no, count-most, count-mono, count-reach, sum-same, sum-none, sum-add, sum-one}
+use Rattle.lattice.proofs.theory.Counting.{count-step, count-yes, count-no, count-most, count-mono, count-reach, sum-same}
+use Rattle.lattice.proofs.theory.Counting.{sum-none, sum-add, sum-one}
 
 module _ (L : Layout) where
   -- a class has one cell more after each of its cells, and no more after the others
@@ -69,7 +70,8 @@ module _ (L : Layout) where
       let e : L .class (r .0) ≡ a = eqb-true (L .class (r .0)) a (r .2) in
       (r .0, r .1, e, omega (arith, ap (λ (b : ℕ). sizeTo L b (r .0)) e, r .3))
 
--- how often a test of class and position holds over the cells: the sum over the classes of how often it holds over their positions
+-- how often a test of class and position holds over the cells: the sum over the classes of how often it holds over their
+-- positions
 module _ (L : Layout) (P : ℕ → ℕ → Bool) (m : ℕ) where
   one-more : (b : Bool) (f : ℕ → Bool) (k : ℕ) → count f (cond b 1 0 + k) ≡ cond b (cond (f k) 1 0) 0 + count f k
   one-more true f k = ap (λ (j : ℕ). count f j) (add-comm 1 k) ∙ count-step f k

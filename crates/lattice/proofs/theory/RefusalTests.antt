@@ -1,4 +1,5 @@
--- Demand 1 for the constructor, the class of a cell and the distance test: each test decides its refusal's condition, and the number is
+-- Demand 1 for the constructor, the class of a cell and the distance test: each test decides its refusal's condition, and the
+-- number is
 -- settled by the conditions in the listed order.
 use Prim.Native.Nat.{ℕ, _*_, _<_, _≤_}
 use mathlib.Core.Bool.{Bool, true, false, _&&_, false≢true}
@@ -8,11 +9,13 @@ use native.Mathlib.Nat.{not-le-of-lt}
 use borrow.Author.Tests.{leb-true, leb-false, ltb-true, ltb-false}
 use lib.Dec.{leb, ltb}
 use Rattle.lattice.specs.declared.shape.Shape.{Shape}
-use Rattle.lattice.specs.Shape.{maxSide, maxPlanes, maxCells, maxStrength, sizeOk, strengthOk, shapeNumber, BadSize, BadStrength, shapeRefusals}
+use Rattle.lattice.specs.Shape.{maxSide, maxPlanes, maxCells, maxStrength, sizeOk, strengthOk, shapeNumber, BadSize}
+use Rattle.lattice.specs.Shape.{BadStrength, shapeRefusals}
 use Rattle.lattice.specs.Range.{inRange, Outside}
 use Rattle.lattice.specs.Cell.{Cell}
 use Rattle.lattice.specs.Class.{inside, classNumber, OutsideShape, classRefusals}
-use Rattle.lattice.specs.DistanceTest.{maxTestStrength, maxTestClasses, testStrengthOk, testSettingsOk, testNumber, BadTestStrength, BadTestSettings, testRefusals}
+use Rattle.lattice.specs.DistanceTest.{maxTestStrength, maxTestClasses, testStrengthOk, testSettingsOk, testNumber}
+use Rattle.lattice.specs.DistanceTest.{BadTestStrength, BadTestSettings, testRefusals}
 use Rattle.lattice.proofs.theory.Due.{Decides, Due, due-none, due-test, due-append}
 
 -- two tests one after the other decide that one of the two conditions holds
@@ -42,7 +45,8 @@ assoc d =
 pub size-decides : (w h d : ℕ) → Decides (sizeOk w h d) (BadSize w h d)
 unfolding sizeOk BadSize
 size-decides w h d =
-    assoc (assoc (both (both (both (in-range 1 maxSide w) (in-range 1 maxSide h)) (in-range 1 maxPlanes d)) (at-most (w * h * d) maxCells)))
+    assoc (assoc (both (both (both (in-range 1 maxSide w) (in-range 1 maxSide h)) (in-range 1 maxPlanes d))
+    (at-most (w * h * d) maxCells)))
 
 pub strength-decides : (d t : ℕ) → Decides (strengthOk d t) (BadStrength d t)
 unfolding strengthOk BadStrength

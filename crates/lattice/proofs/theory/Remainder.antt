@@ -1,7 +1,8 @@
 -- Remainders: numbers with one remainder differ by a multiple, and the remainder of a difference.
 use Prim.Native.Nat.{ℕ, _+_, _-_, _*_, _/_, _%_, _<_, _≤_}
 use mathlib.Core.Path.{_≡_, sym, _∙_, ap, ap₂}
-use native.Mathlib.Nat.{mul-comm, mul-sub, add-mod, mod-add-div, mod-lt, add-mul-mod-self-left, mod-add-mod, mod-eq-of-lt, lt-of-not-le}
+use native.Mathlib.Nat.{mul-comm, mul-sub, add-mod, mod-add-div, mod-lt, add-mul-mod-self-left, mod-add-mod, mod-eq-of-lt}
+use native.Mathlib.Nat.{lt-of-not-le}
 use native.Mathlib.Decide.{decLe}
 use native.Mathlib.Omega.{arith}
 use Rattle.lattice.specs.Class.{minusMod}

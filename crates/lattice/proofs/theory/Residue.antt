@@ -1,4 +1,5 @@
--- The residue of a point, column − b × row − c × plane, as a difference of two natural numbers, and what one class tells of two points.
+-- The residue of a point, column − b × row − c × plane, as a difference of two natural numbers, and what one class tells of two
+-- points.
 use Prim.Native.Nat.{ℕ, _+_, _*_, _%_, _<_}
 use mathlib.Core.Path.{_≡_, sym, _∙_, ap, ap₂}
 use native.Mathlib.Nat.{add-zero}

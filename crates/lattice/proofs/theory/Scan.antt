@@ -80,7 +80,8 @@ pub run-step : (first : ℤ) (i count : ℕ) → i < count
     → run (first +ℤ pos i) (count - i) ≡ (first +ℤ pos i) ∷ run (first +ℤ pos (i + 1)) (count - (i + 1))
 run-step first i count h =
     ap (run (first +ℤ pos i)) counts
-    ∙ ap (λ z. (first +ℤ pos i) ∷ run z (count - (i + 1))) (sym (+ℤ-sucℤ first (pos i)) ∙ ap (λ n. first +ℤ pos n) (sym (add-one i)))
+    ∙ ap (λ z. (first +ℤ pos i) ∷ run z (count - (i + 1)))
+    (sym (+ℤ-sucℤ first (pos i)) ∙ ap (λ n. first +ℤ pos n) (sym (add-one i)))
   where
     counts : count - i ≡ suc (count - (i + 1))
     counts = omega arith

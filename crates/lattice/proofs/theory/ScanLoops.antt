@@ -11,7 +11,8 @@ use Rattle.lattice.specs.Order.{origin, triple, run, span, columnsAt, pl
 use Rattle.lattice.specs.DistanceTest.{failsAt, nothing, after, scan, Scan}
 use Rattle.lattice.proofs.theory.Integers.{natAbs-neg}
 use Rattle.lattice.proofs.theory.Words.{limit, read, read-back, upright-size}
-use Rattle.lattice.proofs.theory.Scan.{hit, after-zero, scan-hit, scan-pass, part-found, part-past, run-step, run-end, run-start, tried-eq}
+use Rattle.lattice.proofs.theory.Scan.{hit, after-zero, scan-hit, scan-pass, part-found, part-past, run-step, run-end}
+use Rattle.lattice.proofs.theory.Scan.{run-start, tried-eq}
 
 -- the scan from the integer number i of a run, where `at` gives the triples of a list of integers
 abbrev pub left : Settings → (List ℤ → List Triple) → ℤ → ℕ → ℕ → Scan
@@ -115,9 +116,9 @@ module _ (k : Settings) (r p first : ℤ) (count i : ℕ) (h : i < count) where
   pub columns-pass : failsAt k (triple r p (first +ℤ pos i)) ≡ false
       → after i (left k (columnsAt r p) first count i) ≡ after (i + 1) (left k (columnsAt r p) first count (i + 1))
   columns-pass f =
-      left-past k (columnsAt r p) refl first count (λ z. triple r p z ∷ []) (λ z zs. refl) i i h (record { found = false; triple = origin; tried = i + 1 })
-      (tried-eq false origin (i + 1) (0 + 1 + i) (omega arith) ∙ ap (after i) (sym (scan-pass k x [] f)))
-      refl
+      left-past k (columnsAt r p) refl first count (λ z. triple r p z ∷ []) (λ z zs. refl) i i h
+      (record { found = false; triple = origin; tried = i + 1 })
+      (tried-eq false origin (i + 1) (0 + 1 + i) (omega arith) ∙ ap (after i) (sym (scan-pass k x [] f))) refl
     where
       x : Triple
       x = triple r p (first +ℤ pos i)

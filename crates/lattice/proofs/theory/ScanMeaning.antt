@@ -28,13 +28,20 @@ pub record Found (k : Settings) (xs : List Triple) (s : Scan) : Type 0 where
 
 module _ (k : Settings) where
   -- what holds of the first triple and of those after it holds of each
-  passed-cons : (x : Triple) (xs : List Triple) (n : ℕ) → failsAt k x ≡ false → ((j : ℕ) → j < n → failsAt k (getD xs j origin) ≡ false)
-      → (j : ℕ) → j < suc n → failsAt k (getD (x ∷ xs) j origin) ≡ false
+  passed-cons : (x : Triple) (xs : List Triple) (n : ℕ)
+      → failsAt k x ≡ false
+      → ((j : ℕ) → j < n → failsAt k (getD xs j origin) ≡ false)
+      → (j : ℕ)
+      → j < suc n
+      → failsAt k (getD (x ∷ xs) j origin) ≡ false
   passed-cons x xs n e f zero h = e
   passed-cons x xs n e f (suc j) h = f j (omega arith)
 
-  missed-step : (x : Triple) (xs : List Triple) (b : Bool) → failsAt k x ≡ b → (scan k xs .found ≡ false → Missed k xs (scan k xs))
-      → cond b (hit x 1) (after 1 (scan k xs)) .found ≡ false → Missed k (x ∷ xs) (cond b (hit x 1) (after 1 (scan k xs)))
+  missed-step : (x : Triple) (xs : List Triple) (b : Bool)
+      → failsAt k x ≡ b
+      → (scan k xs .found ≡ false → Missed k xs (scan k xs))
+      → cond b (hit x 1) (after 1 (scan k xs)) .found ≡ false
+      → Missed k (x ∷ xs) (cond b (hit x 1) (after 1 (scan k xs)))
   missed-step x xs true e f h = absurd (false≢true (sym h))
   missed-step x xs false e f h =
       let m = f h in

@@ -47,7 +47,11 @@ module _ (k : Settings) (n : ℕ) (s : Scan) (hs : s ≡ scan k (firstColumns n)
     pub order-planes : u .found ≡ true → u ≡ scan k (order (n + 1))
     order-planes f = sym (past-columns ∙ part-found k (s .tried) (firstPlanes n) (allRows n) u planes-after f)
 
-    pub order-rows : (r v : Scan) → u .found ≡ false → r ≡ scan k (allRows n) → v ≡ after (u .tried) r → v ≡ scan k (order (n + 1))
+    pub order-rows : (r v : Scan)
+        → u .found ≡ false
+        → r ≡ scan k (allRows n)
+        → v ≡ after (u .tried) r
+        → v ≡ scan k (order (n + 1))
     order-rows r v f hr hv =
         hv
         ∙ ap (after (u .tried)) hr

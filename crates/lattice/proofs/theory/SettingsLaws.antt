@@ -10,7 +10,8 @@ use Rattle.lattice.specs.declared.settings.Settings.{Settings}
 use Rattle.lattice.specs.declared.shape.Shape.{Shape}
 use Rattle.lattice.specs.Refusal.{beside, figure}
 use Rattle.lattice.specs.Shape.{maxFlatStrength, maxClasses, shapeNumber, Accepted}
-use Rattle.lattice.specs.Settings.{settings, isOdd, oddSettings, evenSettings, flatSettings, stackTable, stackSettings, settingsFor, settingsOf, settingsGiven}
+use Rattle.lattice.specs.Settings.{settings, isOdd, oddSettings, evenSettings, flatSettings, stackTable, stackSettings}
+use Rattle.lattice.specs.Settings.{settingsFor, settingsOf, settingsGiven}
 use Rattle.lattice.specs.Class.{classesOf}
 use Rattle.lattice.proofs.theory.Answers.{beside-zero}
 use Rattle.lattice.proofs.theory.Limits.{legal, strength-stack}

@@ -1,4 +1,5 @@
--- The sphere of source document 002, theorem 2.1, cut to t rows and t columns: around row h, where t is 2h + 1 or 2h + 2, the row j above
+-- The sphere of source document 002, theorem 2.1, cut to t rows and t columns: around row h, where t is 2h + 1 or 2h + 2, the row
+-- j above
 -- or below has the columns from j up to t − j. It has m cells, and any two are less than t apart.
 use Prim.Native.Nat.{ℕ, zero, suc, _+_, _-_, _*_, _/_, _%_, _≤_, _<_}
 use mathlib.Core.List.{List, [], _∷_, _++_, List·Memᴰ, List·Memᴰ·not-nil, List·Memᴰ·cases-cons, List·Memᴰ·append-cases}
@@ -11,7 +12,8 @@ use Rattle.lattice.specs.Settings.{oddSettings, evenSettings, flatSettin
 use Rattle.lattice.specs.declared.shape.Shape.{Shape}
 use Rattle.lattice.specs.Cell.{Cell, cell, InField}
 use Rattle.lattice.specs.Cluster.{apart, distance}
-use Rattle.lattice.proofs.theory.Distances.{apart-self, apart-sym, apart-eq, apart-triangle, apart-below, apart-above, apart-within}
+use Rattle.lattice.proofs.theory.Distances.{apart-self, apart-sym, apart-eq, apart-triangle, apart-below, apart-above}
+use Rattle.lattice.proofs.theory.Distances.{apart-within}
 use Rattle.lattice.proofs.theory.SettingsLaws.{flat-odd, flat-even}
 use Rattle.lattice.proofs.theory.Distinct.{Distinct, distinct-append}
 
@@ -144,7 +146,12 @@ module _ (t h : ℕ) where
 
       across : (x y : Cell) → List·Memᴰ x upper → List·Memᴰ y lower → ¬ (x ≡ y)
       across x y mx my e =
-          omega (arith, run-cells (h - suc j) (suc j) n x mx .row, run-cells (h + suc j) (suc j) n y my .row, ap (λ (z : Cell). z .row) e)
+          omega (
+            arith,
+            run-cells (h - suc j) (suc j) n x mx .row,
+            run-cells (h + suc j) (suc j) n y my .row,
+            ap (λ (z : Cell). z .row) e,
+          )
 
       above : (x y : Cell) → List·Memᴰ x upper → List·Memᴰ y (lower ++ ball j) → ¬ (x ≡ y)
       above x y mx my =
@@ -210,7 +217,13 @@ module _ (t : ℕ) (p : 1 ≤ t) where
   sphere-near = ball-near t (middle t) (middle t) (omega arith)
 
   -- it lies in every field with both sides at least t
-  pub sphere-inside : (s : Shape) → 1 ≤ s .planes → t ≤ s .columns → t ≤ s .rows → (x : Cell) → List·Memᴰ x (sphere t) → InField s x
+  pub sphere-inside : (s : Shape)
+      → 1 ≤ s .planes
+      → t ≤ s .columns
+      → t ≤ s .rows
+      → (x : Cell)
+      → List·Memᴰ x (sphere t)
+      → InField s x
   unfolding sphere
   sphere-inside s d c r x m =
       let i = ball-cells t (middle t) (middle t) (omega arith) x m in

@@ -26,8 +26,8 @@ table-holds = refl
 passes : (f : ℕ → Bool) (n : ℕ) → allBelow f n ≡ true → (i : ℕ) → i < n → f i ≡ true
 passes f zero e i l = absurd (not-suc-le-zero l)
 passes f (suc n) e i l =
-    ⊎-elim (λ h. subst (λ (k : ℕ). f k ≡ true) (sym h) (and-left (f n) (allBelow f n) e)) (λ h. passes f n (and-right (f n) (allBelow f n) e) i h)
-    (eq-or-lt-of-le (le-of-suc-le-suc l))
+    ⊎-elim (λ h. subst (λ (k : ℕ). f k ≡ true) (sym h) (and-left (f n) (allBelow f n) e))
+    (λ h. passes f n (and-right (f n) (allBelow f n) e) i h) (eq-or-lt-of-le (le-of-suc-le-suc l))
 
 pub row-holds : (t : ℕ) → 1 ≤ t → t ≤ 8 → holdsFor t (stackSettings t) ≡ true
 row-holds zero some most = absurd (not-suc-le-zero some)

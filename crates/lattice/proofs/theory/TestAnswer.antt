@@ -11,7 +11,8 @@ use Rattle.lattice.specs.Refusal.{refusalNumber}
 use Rattle.lattice.specs.Range.{inRange}
 use Rattle.lattice.specs.Settings.{settings}
 use Rattle.lattice.specs.Order.{order, origin}
-use Rattle.lattice.specs.DistanceTest.{maxTestStrength, maxTestClasses, scan, outcome, testStrengthOk, testSettingsOk, testNumber, verdict, foundTriple, triplesTried, Scan}
+use Rattle.lattice.specs.DistanceTest.{maxTestStrength, maxTestClasses, scan, outcome, testStrengthOk, testSettingsOk}
+use Rattle.lattice.specs.DistanceTest.{testNumber, verdict, foundTriple, triplesTried, Scan}
 use Rattle.lattice.specs.Answer.{IsDistanceTest}
 use Rattle.lattice.proofs.theory.Bools.{and-left, and-right, failed, passed}
 use Rattle.lattice.proofs.theory.Limits.{range-low, range-high}

@@ -102,7 +102,12 @@ module _ (n : ℕ) (z : ℤ) (hn : n < 65536) (hz : natAbs z < 512) where
   scaled-is = rw (read-back z (omega arith), read-natural n (omega arith))
 
   scaled-few : natAbs (pos n *ℤ z) < 33554432
-  scaled-few = omega (arith, natAbs-mul (pos n) z, mul-le-mul {n₁ = n} {m₁ = natAbs z} {n₂ = 65535} {m₂ = 511} (omega arith) (omega arith))
+  scaled-few =
+      omega (
+        arith,
+        natAbs-mul (pos n) z,
+        mul-le-mul {n₁ = n} {m₁ = natAbs z} {n₂ = 65535} {m₂ = 511} (omega arith) (omega arith),
+      )
 
   pub scaled-fits : SFits w32 (toZ w32 n *ℤ read z)
   scaled-fits = rw scaled-is (small-fits (pos n *ℤ z) (omega (arith, scaled-few)))
@@ -173,5 +178,6 @@ module _ (x y z : ℤ) (m : ℕ) (h : natAbs x + natAbs y + natAbs z < limit) (h
       rw (residue-back, read-natural m hm)
       (small-fits (quotZ (x -ℤ y -ℤ z) (pos m)) (omega (arith, natAbs-quot (x -ℤ y -ℤ z) m, residue-few)))
 
-  pub residue-rem : eqb (ofZ w32 (remZ (read (read (read x -ℤ read y) -ℤ read z)) (toZ w32 m))) 0 ≡ eqb (natAbs (x -ℤ y -ℤ z) % m) 0
+  pub residue-rem : eqb (ofZ w32 (remZ (read (read (read x -ℤ read y) -ℤ read z)) (toZ w32 m))) 0
+      ≡ eqb (natAbs (x -ℤ y -ℤ z) % m) 0
   residue-rem = rw (residue-back, read-natural m hm) (rem-zero (x -ℤ y -ℤ z) m residue-few)

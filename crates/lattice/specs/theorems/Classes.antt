@@ -15,7 +15,8 @@ pub record ClassIsRemainder : Type 0 where
   pub is : (k : Settings) (x : Cell) → 0 < k .m → HasClass k (pointOf x) (classWith k x)
   pub only : (k : Settings) (x : Cell) (r : ℕ) → HasClass k (pointOf x) r → r ≡ classWith k x
 
--- Theorem. In a field that the constructor accepts the class of a cell is below m, so at most m classes hold a cell, and m is at most 512.
+-- Theorem. In a field that the constructor accepts the class of a cell is below m, so at most m classes hold a cell, and m is at
+-- most 512.
 pub record ClassesBelow : Type 0 where
   pub below : (s : Shape) → Accepted s → (x : Cell) → classOf s x < classesOf s
   pub limit : (s : Shape) → Accepted s → classesOf s ≤ maxClasses

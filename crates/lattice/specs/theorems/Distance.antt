@@ -20,6 +20,7 @@ ClassDistance =
 abbrev pub FlatDistance : Type 0
 FlatDistance = (t : ℕ) → 1 ≤ t → ApartOnPlane (flatSettings t) t
 
--- Theorem. The stack settings keep different cells of one class at least t apart in the endless stack, for every strength of the table.
+-- Theorem. The stack settings keep different cells of one class at least t apart in the endless stack, for every strength of the
+-- table.
 abbrev pub StackDistance : Type 0
 StackDistance = (t : ℕ) → 1 ≤ t → t ≤ maxStackStrength → Apart (stackSettings t) t

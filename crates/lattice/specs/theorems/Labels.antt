@@ -7,7 +7,8 @@ use Rattle.lattice.specs.Cell.{Cell}
 use Rattle.lattice.specs.Labelling.{labels, Separates}
 use Rattle.lattice.specs.Class.{classesOf, classOf}
 
--- Theorem (demand 3, the lower bound). On every flat field with t at least 1 and both sides at least t, every labelling in which no
+-- Theorem (demand 3, the lower bound). On every flat field with t at least 1 and both sides at least t, every labelling in which
+-- no
 -- cluster of at most t cells has one label twice has at least m labels.
 abbrev pub LabelsNeeded : Type 1
 LabelsNeeded =

@@ -5,7 +5,8 @@ use lib.ListN.{length, getD}
 use Rattle.lattice.specs.declared.distance.Triple.{Triple}
 use Rattle.lattice.specs.Order.{origin, order, magnitude, Leading, Before}
 
--- Theorem. For every t the order lists exactly the triples of absolute sum 1 to t − 1 whose first number that is not 0 is positive,
+-- Theorem. For every t the order lists exactly the triples of absolute sum 1 to t − 1 whose first number that is not 0 is
+-- positive,
 -- each exactly once, and rising.
 pub record OrderLists : Type 0 where
   pub listed : (t k : ℕ) → k < length (order t)

@@ -14,13 +14,15 @@ abbrev pub TestAtOne : Type 0
 TestAtOne =
     (m b c : ℕ) → testNumber m b c 1 ≡ 0 → (verdict m b c 1 ≡ true) × (triplesTried m b c 1 ≡ 0)
 
--- Theorem. Where the numbers are accepted, the verdict is yes exactly when all different cells of one class in an endless stack are at
+-- Theorem. Where the numbers are accepted, the verdict is yes exactly when all different cells of one class in an endless stack
+-- are at
 -- least t apart.
 abbrev pub TestMeaning : Type 0
 TestMeaning =
     (m b c t : ℕ) → testNumber m b c t ≡ 0 → (verdict m b c t ≡ true) ↔ Apart (settings m b c) t
 
--- Theorem. Where the verdict is no, the triple given is the first of the order that fails, and the counter is its place, counted from 1.
+-- Theorem. Where the verdict is no, the triple given is the first of the order that fails, and the counter is its place, counted
+-- from 1.
 abbrev pub TestFinds : Type 0
 TestFinds =
     (m b c t : ℕ) → testNumber m b c t ≡ 0 → verdict m b c t ≡ false

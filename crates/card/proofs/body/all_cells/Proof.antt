@@ -35,7 +35,12 @@ loop-less : tie.Need-loop-less Inv-loop μ-loop
 loop-less c = omega arith
 
 loop-again : tie.Need-loop-again Inv-loop μ-loop
-loop-again c = (omega arith, passed-more _ _ (c .before .before .before .before .loop .inv .1) (test-passes isCellDigit _ _ _ _ (c .before .before .byte-at .ensures) (passed _ _ (c .if1 .left) (c .before .is-cell-digit .ensures))))
+loop-again c = (
+  omega arith,
+  passed-more _ _ (c .before .before .before .before .loop .inv .1)
+      (test-passes isCellDigit _ _ _ _ (c .before .before .byte-at .ensures)
+      (passed _ _ (c .if1 .left) (c .before .is-cell-digit .ensures))),
+)
 
 returns-2 : tie.Need-returns-2 Inv-loop μ-loop
 returns-2 c =

@@ -5,7 +5,8 @@ use native.Mathlib.Nat.{le-refl}
 use native.Mathlib.Omega.{arith}
 use lib.ListN.{length, length-set}
 use Rattle.card.specs.Parse.{isHex}
-use Rattle.card.proofs.theory.PayloadStored.{payloadByte, payload-room, payload-digit, payload-byte, payload-stored, value-below}
+use Rattle.card.proofs.theory.PayloadStored.{payloadByte, payload-room, payload-digit, payload-byte, payload-stored}
+use Rattle.card.proofs.theory.PayloadStored.{value-below}
 use Rattle.card.proofs.theory.StoredFront.{Stored, stored-none, stored-more}
 use Rattle.card.proofs.body.fill_payload.Statement.{statement}
 use Rattle.card.proofs.body.fill_payload.Tie as tie
@@ -62,7 +63,12 @@ mul-payload : tie.Need-mul-payload Inv-loop μ-loop
 mul-payload c = omega (arith, value-below _ (high (c .before .before .before)) _ (c .before .before .hex-value .ensures))
 
 add-payload : tie.Need-add-payload Inv-loop μ-loop
-add-payload c = omega (arith, value-below _ (high (c .before .before .before)) _ (c .before .before .hex-value .ensures), value-below _ (low (c .before)) _ (c .hex-value2 .ensures))
+add-payload c =
+    omega (
+      arith,
+      value-below _ (high (c .before .before .before)) _ (c .before .before .hex-value .ensures),
+      value-below _ (low (c .before)) _ (c .hex-value2 .ensures),
+    )
 
 slice-write-payload : tie.Need-slice-write-payload Inv-loop μ-loop
 slice-write-payload c = omega arith
@@ -87,7 +93,9 @@ same-length : tie.Need-same-length Inv-loop μ-loop
 same-length c = c .before .loop .inv .1 .long
 
 returns : tie.Need-returns Inv-loop μ-loop
-returns c = payload-stored _ _ _ _ _ (c .before .before .before .before .pre .1) (c .before .loop .inv .1) (c .before .loop .inv .0) (c .loop-test .left)
+returns c =
+    payload-stored _ _ _ _ _ (c .before .before .before .before .pre .1) (c .before .loop .inv .1)
+    (c .before .loop .inv .0) (c .loop-test .left)
 
 pub fill-payload-spec : {M : Type 1} → statement M
 fill-payload-spec =

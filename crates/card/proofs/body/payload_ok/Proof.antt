@@ -7,7 +7,8 @@ use lib.ListN.{length}
 use Rattle.lattice.proofs.theory.Bools.{failed, passed}
 use Rattle.card.specs.Parse.{keyAt}
 use Rattle.card.specs.Text.{payloadKey}
-use Rattle.card.proofs.theory.PayloadStored.{payload-no-key, payload-inside, payload-short, payload-unended, payload-odd, payload-digits}
+use Rattle.card.proofs.theory.PayloadStored.{payload-no-key, payload-inside, payload-short, payload-unended, payload-odd}
+use Rattle.card.proofs.theory.PayloadStored.{payload-digits}
 use Rattle.card.proofs.body.payload_ok.Statement.{statement}
 use Rattle.card.proofs.body.payload_ok.Tie as tie
 
@@ -46,13 +47,18 @@ sub-digits : tie.Need-sub-digits
 sub-digits c = omega arith
 
 returns-4 : tie.Need-returns-4
-returns-4 c = payload-odd _ _ (key (c .before .before .before .before)) (c .before .before .before .if2 .left) (c .before .if3 .left) (c .if4 .taken)
+returns-4 c =
+    payload-odd _ _ (key (c .before .before .before .before)) (c .before .before .before .if2 .left)
+    (c .before .if3 .left) (c .if4 .taken)
 
 all-hex-requires : tie.Need-all-hex-requires
 all-hex-requires c κs = search needs
 
 returns-5 : tie.Need-returns-5
-returns-5 c = payload-digits _ _ (key (c .before .before .before .before .before)) (c .before .before .before .before .if2 .left) (c .before .before .if3 .left) (c .before .if4 .left) _ (c .all-hex .ensures)
+returns-5 c =
+    payload-digits _ _ (key (c .before .before .before .before .before))
+    (c .before .before .before .before .if2 .left) (c .before .before .if3 .left) (c .before .if4 .left) _
+    (c .all-hex .ensures)
 
 pub payload-ok-spec : {M : Type 1} → statement M
 payload-ok-spec =

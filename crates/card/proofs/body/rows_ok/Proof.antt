@@ -3,7 +3,8 @@ use native.Mathlib.Omega.{arith}
 use Rattle.lattice.proofs.theory.Bools.{failed, passed}
 use Rattle.codec.proofs.theory.OneByOne.{Passed, passed-none, passed-more}
 use Rattle.card.specs.Parse.{rowOk}
-use Rattle.card.proofs.theory.RowsStored.{rows-behind, rows-long, rows-product, row-product, row-inside, row-moved, rows-fail, rows-pass}
+use Rattle.card.proofs.theory.RowsStored.{rows-behind, rows-long, rows-product, row-product, row-inside, row-moved}
+use Rattle.card.proofs.theory.RowsStored.{rows-fail, rows-pass}
 use Rattle.card.proofs.body.rows_ok.Statement.{statement}
 use Rattle.card.proofs.body.rows_ok.Tie as tie
 

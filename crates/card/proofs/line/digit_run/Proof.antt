@@ -21,7 +21,9 @@ is-digit-requires : tie.Need-is-digit-requires Inv-loop μ-loop
 is-digit-requires c κs = tt
 
 returns : tie.Need-returns Inv-loop μ-loop
-returns c = run-ends _ _ _ _ (c .before .before .before .before .loop .inv .1) (c .before .before .before .loop-test .taken) (c .before .before .byte-at .ensures) (failed _ _ (c .if1 .taken) (c .before .is-digit .ensures))
+returns c =
+    run-ends _ _ _ _ (c .before .before .before .before .loop .inv .1) (c .before .before .before .loop-test .taken)
+    (c .before .before .byte-at .ensures) (failed _ _ (c .if1 .taken) (c .before .is-digit .ensures))
 
 add-k : tie.Need-add-k Inv-loop μ-loop
 add-k c = omega arith
@@ -30,7 +32,11 @@ loop-less : tie.Need-loop-less Inv-loop μ-loop
 loop-less c = omega arith
 
 loop-again : tie.Need-loop-again Inv-loop μ-loop
-loop-again c = (omega arith, run-more _ _ _ _ (c .before .before .before .before .loop .inv .1) (c .before .before .byte-at .ensures) (passed _ _ (c .if1 .left) (c .before .is-digit .ensures)))
+loop-again c = (
+  omega arith,
+  run-more _ _ _ _ (c .before .before .before .before .loop .inv .1) (c .before .before .byte-at .ensures)
+      (passed _ _ (c .if1 .left) (c .before .is-digit .ensures)),
+)
 
 returns-2 : tie.Need-returns-2 Inv-loop μ-loop
 returns-2 c = run-full _ _ _ (c .before .loop .inv .1) (c .before .loop .inv .0) (c .loop-test .left)

@@ -23,7 +23,8 @@ add-out : tie.Need-add-out Inv-loop μ-loop
 add-out c = omega arith
 
 slice-write-out : tie.Need-slice-write-out Inv-loop μ-loop
-slice-write-out c = prefix-index (c .before .before .before .pre) _ (c .before .loop-test .taken) (c .before .before .loop .inv .1)
+slice-write-out c =
+    prefix-index (c .before .before .before .pre) _ (c .before .loop-test .taken) (c .before .before .loop .inv .1)
 
 add-i : tie.Need-add-i Inv-loop μ-loop
 add-i c = omega arith
@@ -32,7 +33,11 @@ loop-less : tie.Need-loop-less Inv-loop μ-loop
 loop-less c = omega arith
 
 loop-again : tie.Need-loop-again Inv-loop μ-loop
-loop-again c = (omega arith, prefix-more (c .before .before .before .pre) _ _ (c .before .loop-test .taken) refl (c .before .before .loop .inv .1))
+loop-again c = (
+  omega arith,
+  prefix-more (c .before .before .before .pre) _ _ (c .before .loop-test .taken) refl
+      (c .before .before .loop .inv .1),
+)
 
 add-result : tie.Need-add-result Inv-loop μ-loop
 add-result c = omega arith

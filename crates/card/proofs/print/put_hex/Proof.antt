@@ -22,7 +22,12 @@ hex-digit-requires : tie.Need-hex-digit-requires Inv-loop μ-loop
 hex-digit-requires c κs = omega (arith, c .shared-slice-known2 .given (c .before .before .loop .j))
 
 slice-write-out : tie.Need-slice-write-out Inv-loop μ-loop
-slice-write-out c = omega (arith, hex-room (c .before .before .before .before .before .before .pre) (c .before .before .before .loop .inv .1) (c .before .before .loop-test .taken))
+slice-write-out c =
+    omega (
+      arith,
+      hex-room (c .before .before .before .before .before .before .pre) (c .before .before .before .loop .inv .1)
+          (c .before .before .loop-test .taken),
+    )
 
 hex-digit-requires-2 : tie.Need-hex-digit-requires-2 Inv-loop μ-loop
 hex-digit-requires-2 c κs = omega arith
@@ -38,7 +43,9 @@ add-out c =
     )
 
 slice-write-out-2 : tie.Need-slice-write-out-2 Inv-loop μ-loop
-slice-write-out-2 c = simp length-set (hex-room (c .before .before .before .before .before .before .before .pre) (c .before .before .before .before .loop .inv .1) (c .before .before .before .loop-test .taken))
+slice-write-out-2 c =
+    simp length-set (hex-room (c .before .before .before .before .before .before .before .pre)
+    (c .before .before .before .before .loop .inv .1) (c .before .before .before .loop-test .taken))
 
 add-next : tie.Need-add-next Inv-loop μ-loop
 add-next c =
@@ -57,13 +64,20 @@ loop-less : tie.Need-loop-less Inv-loop μ-loop
 loop-less c = omega arith
 
 loop-again : tie.Need-loop-again Inv-loop μ-loop
-loop-again c = (omega arith, hex-more (c .before .before .before .before .before .before .before .pre) (c .before .before .before .before .loop .inv .1) (c .before .before .before .loop-test .taken) _ _ _ refl (c .before .hex-digit .ensures) (c .hex-digit2 .ensures))
+loop-again c = (
+  omega arith,
+  hex-more (c .before .before .before .before .before .before .before .pre)
+      (c .before .before .before .before .loop .inv .1) (c .before .before .before .loop-test .taken) _ _ _ refl
+      (c .before .hex-digit .ensures) (c .hex-digit2 .ensures),
+)
 
 same-length : tie.Need-same-length Inv-loop μ-loop
 same-length c = hex-long (c .before .before .before .before .pre) (c .before .loop .inv .1) (c .before .loop .inv .0)
 
 returns : tie.Need-returns Inv-loop μ-loop
-returns c = hex-all (c .before .before .before .before .pre) (c .before .loop .inv .1) (c .before .loop .inv .0) (c .loop-test .left)
+returns c =
+    hex-all (c .before .before .before .before .pre) (c .before .loop .inv .1) (c .before .loop .inv .0)
+    (c .loop-test .left)
 
 pub put-hex-spec : {M : Type 1} → statement M
 put-hex-spec =

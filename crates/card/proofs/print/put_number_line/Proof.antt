@@ -23,16 +23,29 @@ digit-count-requires : tie.Need-digit-count-requires
 digit-count-requires c κs = search needs
 
 put-digits-requires : tie.Need-put-digits-requires
-put-digits-requires c κs = value-room _ _ (line c) (c .before .before .before .before .before .before .before .before .pre) (c .before .before .before .before .put-bytes .ensures)
+put-digits-requires c κs =
+    value-room _ _ (line c) (c .before .before .before .before .before .before .before .before .pre)
+    (c .before .before .before .before .put-bytes .ensures)
 
 put-byte-requires : tie.Need-put-byte-requires
-put-byte-requires c κs = feed-room _ _ (line (c .before .before .before .before)) (c .before .before .before .before .before .before .before .before .before .before .before .before .pre) (c .before .before .before .before .before .before .before .before .put-bytes .ensures) (c .before .before .before .put-digits .ensures)
+put-byte-requires c κs =
+    feed-room _ _ (line (c .before .before .before .before))
+    (c .before .before .before .before .before .before .before .before .before .before .before .before .pre)
+    (c .before .before .before .before .before .before .before .before .put-bytes .ensures)
+    (c .before .before .before .put-digits .ensures)
 
 same-length : tie.Need-same-length
 same-length c = search needs
 
 returns : tie.Need-returns
-returns c = line-printed _ _ (line (c .before .before .before .before .before .before .before)) (c .before .before .before .before .before .before .before .before .before .before .before .before .before .before .before .pre) (c .before .before .before .before .before .before .before .before .before .before .before .put-bytes .ensures) (c .before .before .before .before .before .before .put-digits .ensures) (c .before .before .put-byte .ensures)
+returns c =
+    line-printed _ _ (line (c .before .before .before .before .before .before .before))
+    (c .before .before .before .before .before .before .before .before .before .before .before .before .before
+    .before .before .pre)
+    (c .before .before .before .before .before .before .before .before .before .before .before .put-bytes
+    .ensures)
+    (c .before .before .before .before .before .before .put-digits .ensures)
+    (c .before .before .put-byte .ensures)
 
 pub put-number-line-spec : {M : Type 1} → statement M
 put-number-line-spec =

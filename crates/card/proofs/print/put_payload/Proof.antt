@@ -29,7 +29,9 @@ same-length c = search needs
 
 returns : tie.Need-returns
 returns c =
-    let e = c .before .before .before .before .before .before .before .before .before .before .before .before .before .before .before in
+    let e =
+    c .before .before .before .before .before .before .before .before .before .before .before .before .before
+    .before .before in
     line-printed _ _ (payload-parts (e .args .payload .now)) (e .pre)
     (c .before .before .before .before .before .before .before .before .before .before .put-bytes .ensures)
     (c .before .before .before .before .before .before .put-hex .ensures) (c .before .before .put-byte .ensures)

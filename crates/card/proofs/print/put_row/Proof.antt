@@ -31,7 +31,9 @@ same-length c = search needs
 
 returns : tie.Need-returns
 returns c =
-    let e = c .before .before .before .before .before .before .before .before .before .before .before .before .before .before .before in
+    let e =
+    c .before .before .before .before .before .before .before .before .before .before .before .before .before
+    .before .before in
     line-printed _ _ (row-parts (e .args .cells .now)) (e .pre .0)
     (c .before .before .before .before .before .before .before .before .before .before .put-bytes .ensures)
     (c .before .before .before .before .before .before .put-cells .ensures) (c .before .before .put-byte .ensures)

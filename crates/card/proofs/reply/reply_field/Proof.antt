@@ -8,7 +8,8 @@ use Rattle.card.specs.Working.{Room, headText}
 use Rattle.card.specs.Text.{classesKey, fieldText}
 use Rattle.card.proofs.theory.CardLimits.{limits, rows-most}
 use Rattle.card.proofs.theory.FieldText.{length-field}
-use Rattle.card.proofs.theory.Replies.{answered-short, room-front, head-most, length-success, rest-room, success-answered, field-long, field-each, rows-far}
+use Rattle.card.proofs.theory.Replies.{answered-short, room-front, head-most, length-success, rest-room, success-answered}
+use Rattle.card.proofs.theory.Replies.{field-long, field-each, rows-far}
 use Rattle.card.proofs.reply.reply_field.Statement.{statement}
 use Rattle.card.proofs.reply.reply_field.Tie as tie
 

@@ -16,7 +16,10 @@ total : (c : tie.After-head-length)
     → let a = c .before .before .before .before .args in
     c .head-length .result + 9 + 2 * length (a .payload .now)
     ≡ length (headText (a .header) mendedKey (a .mended) ++ payloadText (a .payload .now))
-total c = add-assoc _ 9 _ ∙ length-success _ _ _ _ _ _ (c .head-length .ensures) (sym (length-payload (c .before .before .before .before .args .payload .now)))
+total c =
+    add-assoc _ 9 _
+    ∙ length-success _ _ _ _ _ _ (c .head-length .ensures)
+    (sym (length-payload (c .before .before .before .before .args .payload .now)))
 
 room : (c : tie.Else1)
     → let a = c .before .before .before .before .before .args in
@@ -52,13 +55,18 @@ put-head-requires : tie.Need-put-head-requires
 put-head-requires c κs = search needs
 
 put-payload-requires : tie.Need-put-payload-requires
-put-payload-requires c κs = rest-room _ _ _ _ (room (c .before .before .before .before .before .before)) (c .before .before .before .put-head .ensures)
+put-payload-requires c κs =
+    rest-room _ _ _ _ (room (c .before .before .before .before .before .before))
+    (c .before .before .before .put-head .ensures)
 
 same-length : tie.Need-same-length
 same-length c = search needs
 
 returns-2 : tie.Need-returns-2
-returns-2 c = success-answered _ _ _ _ (room (c .before .before .before .before .before .before .before .before .before)) (c .before .before .before .before .before .before .put-head .ensures) (c .before .before .put-payload .ensures)
+returns-2 c =
+    success-answered _ _ _ _ (room (c .before .before .before .before .before .before .before .before .before))
+    (c .before .before .before .before .before .before .put-head .ensures)
+    (c .before .before .put-payload .ensures)
 
 pub reply-payload-spec : {M : Type 1} → statement M
 reply-payload-spec =

@@ -14,7 +14,9 @@ same-length c = search needs
 
 returns : tie.Need-returns
 returns c =
-    let a = answered-leaves _ _ _ _ (answered-same (too-long _ (c .before .before .before .before .if1 .taken)) (c .before .before .refuse .ensures)) in
+    let a =
+    answered-leaves _ _ _ _ (answered-same (too-long _ (c .before .before .before .before .if1 .taken))
+    (c .before .before .refuse .ensures)) in
     (a .0, (a .1, (refl, refl)))
 
 parse-header-requires : tie.Need-parse-header-requires
@@ -35,13 +37,19 @@ same-length-2 c = search needs
 returns-2 : tie.Need-returns-2
 returns-2 c =
     let a =
-    answered-leaves
-    _ _ _ _
-    (answered-same (no-header _ (c .before .before .before .before .before .before .before .if1 .left) (sym (c .before .before .before .before .before .before .parse-header .ensures) ∙ c .before .before .before .before .enum-told .given .1)) (c .before .before .refuse2 .ensures)) in
+    answered-leaves _ _ _ _ (answered-same
+    (no-header _ (c .before .before .before .before .before .before .before .if1 .left)
+    (sym (c .before .before .before .before .before .before .parse-header .ensures)
+    ∙ c .before .before .before .before .enum-told .given .1))
+    (c .before .before .refuse2 .ensures)) in
     (a .0, (a .1, (refl, refl)))
 
 answer-header-requires : tie.Need-answer-header-requires
-answer-header-requires c κs = record { short = c .before .before .before .before .before .if1 .left; found = sym (c .before .before .before .before .parse-header .ensures) ∙ c .before .before .header .given .1 }
+answer-header-requires c κs =
+    record {
+      short = c .before .before .before .before .before .if1 .left;
+      found = sym (c .before .before .before .before .parse-header .ensures) ∙ c .before .before .header .given .1;
+    }
 
 same-length-3 : tie.Need-same-length-3
 same-length-3 c = search needs

@@ -57,7 +57,8 @@ is-payload-requires : tie.Need-is-payload-requires
 is-payload-requires c κs = search needs
 
 answer-payload-requires : tie.Need-answer-payload-requires
-answer-payload-requires c κs = (read (c .before .before .before), sym (c .before .before .is-payload .ensures) ∙ c .before .if2 .taken)
+answer-payload-requires c κs =
+    (read (c .before .before .before), sym (c .before .before .is-payload .ensures) ∙ c .before .if2 .taken)
 
 same-length-2 : tie.Need-same-length-2
 same-length-2 c = search needs
@@ -66,7 +67,8 @@ returns-2 : tie.Need-returns-2
 returns-2 c = search needs
 
 answer-rows-requires : tie.Need-answer-rows-requires
-answer-rows-requires c κs = (read (c .before .before .before), sym (c .before .before .is-payload .ensures) ∙ c .before .if2 .left)
+answer-rows-requires c κs =
+    (read (c .before .before .before), sym (c .before .before .is-payload .ensures) ∙ c .before .if2 .left)
 
 same-length-3 : tie.Need-same-length-3
 same-length-3 c = search needs
@@ -75,7 +77,9 @@ returns-3 : tie.Need-returns-3
 returns-3 c =
     let why = c .before .before .before .before .before .why .given in
     answered-same
-    (bad-shape _ _ _ (c .before .before .before .before .before .before .before .before .before .before .pre) (why .0 .0) (new-refused _ _ (c .before .before .before .before .before .before .before .new .ensures .0) (why .0 .0) (why .1)))
+    (bad-shape _ _ _ (c .before .before .before .before .before .before .before .before .before .before .pre)
+    (why .0 .0) (new-refused _ _ (c .before .before .before .before .before .before .before .new .ensures .0)
+    (why .0 .0) (why .1)))
     (c .before .before .refuse .ensures)
 
 same-length-4 : tie.Need-same-length-4

@@ -1,4 +1,5 @@
--- `answer_payload` meets its contract: a payload that no card holds is refused for its length, and any other is encoding's to refuse.
+-- `answer_payload` meets its contract: a payload that no card holds is refused for its length, and any other is encoding's to
+-- refuse.
 use Prim.Native.Nat.{_≤_}
 use mathlib.Core.Bool.{true}
 use mathlib.Core.List.{_++_}
@@ -34,7 +35,8 @@ cells-room : (c : tie.After-cells) → c .cells .result ≤ maxCardCells
 cells-room c = cells-fit _ _ (c .before .before .before .before .before .before .before .pre .0 .shaped) _ (c .cells .ensures)
 
 -- the part that was filled
-long : (c : tie.After-fill-payload) → length (c .fill-payload .last .1 .1 .0) ≡ c .before .before .before .before .payload-bytes .result
+long : (c : tie.After-fill-payload)
+    → length (c .fill-payload .last .1 .1 .0) ≡ c .before .before .before .before .payload-bytes .result
 long c = ap length (c .fill-payload .ensures) ∙ bytes-read-are (c .before .before .before .before)
 
 again : (c : tie.After-fill-payload)
@@ -58,7 +60,9 @@ returns : tie.Need-returns
 returns c =
     let p = c .before .before .before .before .before .before .before .before .pre in
     answered-same
-    (bad-payload _ _ _ (p .0 .header) (p .0 .shaped .card) (p .1) (failed _ _ (c .before .before .before .before .if1 .taken) (c .before .before .before .before .before .payload-ok .ensures)))
+    (bad-payload _ _ _ (p .0 .header) (p .0 .shaped .card) (p .1)
+    (failed _ _ (c .before .before .before .before .if1 .taken)
+    (c .before .before .before .before .before .payload-ok .ensures)))
     (c .before .before .refuse .ensures)
 
 payload-bytes-requires : tie.Need-payload-bytes-requires
@@ -74,8 +78,15 @@ returns-2 : tie.Need-returns-2
 returns-2 c =
     let p = c .before .before .before .before .before .before .before .before .before .before .pre in
     answered-same
-    (wrong-length _ _ _ (p .0 .header) (p .0 .shaped .card) (p .1) (ok (c .before .before .before .before .before .before))
-    (λ e. omega (arith, c .before .before .before .before .if2 .taken, bytes-read-are (c .before .before .before .before .before), bytes-fit _ _ (p .0 .shaped), ap planBytes (p .0 .shaped .shape))))
+    (wrong-length _ _ _ (p .0 .header) (p .0 .shaped .card) (p .1)
+    (ok (c .before .before .before .before .before .before))
+    (λ e. omega (
+      arith,
+      c .before .before .before .before .if2 .taken,
+      bytes-read-are (c .before .before .before .before .before),
+      bytes-fit _ _ (p .0 .shaped),
+      ap planBytes (p .0 .shaped .shape),
+    )))
     (c .before .before .refuse2 .ensures)
 
 cells-requires : tie.Need-cells-requires
@@ -88,12 +99,17 @@ slice-aggregate-fill-payload : tie.Need-slice-aggregate-fill-payload
 slice-aggregate-fill-payload c = zeros-count _ maxCardBytes (c .before .before .if2 .left)
 
 fill-payload-requires : tie.Need-fill-payload-requires
-fill-payload-requires c κs =
-    (ok (c .before .before .before .before), sym (zeros-count _ maxCardBytes (c .before .before .if2 .left)) ∙ c .before .before .before .payload-bytes .ensures)
+fill-payload-requires c κs = (
+  ok (c .before .before .before .before),
+  sym (zeros-count _ maxCardBytes (c .before .before .if2 .left))
+      ∙ c .before .before .before .payload-bytes .ensures,
+)
 
 array-share-prefix-payload : tie.Need-array-share-prefix-payload
 array-share-prefix-payload c =
-    part-within _ (c .before .fill-payload .last .1 .1 .0) (drop (c .before .before .before .before .before .payload-bytes .result) (replicate maxCardBytes 0)) (long (c .before))
+    part-within _ (c .before .fill-payload .last .1 .1 .0)
+    (drop (c .before .before .before .before .before .payload-bytes .result) (replicate maxCardBytes 0))
+    (long (c .before))
 
 slice-aggregate-write-card : tie.Need-slice-aggregate-write-card
 slice-aggregate-write-card c =
@@ -126,10 +142,15 @@ same-length-3 c = search needs
 
 returns-3 : tie.Need-returns-3
 returns-3 c =
-    let e = c .before .before .before .before .before .before .before .before .before .before .before .before .before .before .before .before .before in
+    let e =
+    c .before .before .before .before .before .before .before .before .before .before .before .before .before
+    .before .before .before .before in
     answered-same
-    (ap (encodedText (e .args .header)) (again (c .before .before .before .before .before .before .before .before))
-    ∙ sym (payload-read _ _ _ (e .pre .0 .header) (e .pre .0 .shaped .card) (e .pre .1) (ok (c .before .before .before .before .before .before .before .before .before .before .before .before .before))))
+    (ap (encodedText (e .args .header))
+    (again (c .before .before .before .before .before .before .before .before))
+    ∙ sym (payload-read _ _ _ (e .pre .0 .header) (e .pre .0 .shaped .card) (e .pre .1)
+    (ok (c .before .before .before .before .before .before .before .before .before .before .before .before
+    .before))))
     (c .before .before .before .write-card .ensures)
 
 pub answer-payload-spec : {M : Type 1} → statement M

@@ -9,7 +9,8 @@ use Rattle.codec.specs.Plan.{planBytes}
 use Rattle.card.specs.Program.{cellsIn}
 use Rattle.card.specs.Working.{decodedText}
 use Rattle.card.specs.Card.{maxCardCells, maxCardBytes}
-use Rattle.card.proofs.run.Card.{cells-are, cells-fit, bytes-are, bytes-fit, columns-some, columns-narrow, lines-most, rows-fit, cells-read, cells-long}
+use Rattle.card.proofs.run.Card.{cells-are, cells-fit, bytes-are, bytes-fit, columns-some, columns-narrow, lines-most}
+use Rattle.card.proofs.run.Card.{rows-fit, cells-read, cells-long}
 use Rattle.card.proofs.run.Program.{bad-rows, rows-read}
 use Rattle.card.proofs.theory.HeaderRest.{header-found}
 use Rattle.card.proofs.theory.Replies.{answered-same}
@@ -20,16 +21,27 @@ use Rattle.card.proofs.run.answer_rows.Tie as tie
 cells-room : (c : tie.After-cells) → c .cells .result ≤ maxCardCells
 cells-room c = cells-fit _ _ (c .before .before .before .before .before .before .before .pre .0 .shaped) _ (c .cells .ensures)
 
-bytes-planned : (c : tie.After-capacity) → c .capacity .result / 8 ≡ planBytes (c .before .before .before .before .before .before .before .before .args .shape)
-bytes-planned c = bytes-are _ _ (c .before .before .before .before .before .before .before .before .pre .0 .shaped) _ (c .capacity .ensures)
+bytes-planned : (c : tie.After-capacity)
+    → c .capacity .result / 8
+    ≡ planBytes (c .before .before .before .before .before .before .before .before .args .shape)
+bytes-planned c =
+    bytes-are _ _ (c .before .before .before .before .before .before .before .before .pre .0 .shaped) _
+    (c .capacity .ensures)
 
 bytes-room : (c : tie.After-capacity) → c .capacity .result / 8 ≤ maxCardBytes
-bytes-room c = omega (arith, bytes-planned c, bytes-fit _ _ (c .before .before .before .before .before .before .before .before .pre .0 .shaped))
+bytes-room c =
+    omega (
+      arith,
+      bytes-planned c,
+      bytes-fit _ _ (c .before .before .before .before .before .before .before .before .pre .0 .shaped),
+    )
 
 -- the part that was filled
 long : (c : tie.After-fill-cells) → length (c .fill-cells .last .1 .1 .1 .0) ≡ c .before .before .before .before .cells .result
 long c =
-    cells-long _ _ (c .before .before .before .before .before .before .before .before .before .before .before .pre .0 .shaped) _ _ _ _ (c .fill-cells .ensures)
+    cells-long _ _
+    (c .before .before .before .before .before .before .before .before .before .before .before .pre .0 .shaped) _
+    _ _ _ (c .fill-cells .ensures)
     ∙ sym (zeros-count _ maxCardCells (cells-room (c .before .before .before .before)))
 
 again : (c : tie.After-fill-cells)
@@ -100,7 +112,10 @@ fill-cells-requires c κs =
     }
 
 array-share-prefix-field : tie.Need-array-share-prefix-field
-array-share-prefix-field c = part-within _ (c .before .fill-cells .last .1 .1 .1 .0) (drop (c .before .before .before .before .before .cells .result) (replicate maxCardCells 0)) (long (c .before))
+array-share-prefix-field c =
+    part-within _ (c .before .fill-cells .last .1 .1 .1 .0)
+    (drop (c .before .before .before .before .before .cells .result) (replicate maxCardCells 0))
+    (long (c .before))
 
 slice-aggregate-read-card : tie.Need-slice-aggregate-read-card
 slice-aggregate-read-card c =
@@ -117,7 +132,9 @@ slice-aggregate-read-card-2 c = zeros-count _ maxCardBytes (bytes-room (c .befor
 
 read-card-requires : tie.Need-read-card-requires
 read-card-requires c κs =
-    let pre = c .before .before .before .before .before .before .before .before .before .before .before .before .before .before .before .pre in
+    let pre =
+    c .before .before .before .before .before .before .before .before .before .before .before .before .before
+    .before .before .pre in
     let here = c .before .before .before .before .before .before .before in (
       pre .0 .shaped,
       zeros-take _ maxCardBytes (bytes-room here)
@@ -129,7 +146,9 @@ same-length-2 c = search needs
 
 returns-2 : tie.Need-returns-2
 returns-2 c =
-    let e = c .before .before .before .before .before .before .before .before .before .before .before .before .before .before .before .before .before .before .before in
+    let e =
+    c .before .before .before .before .before .before .before .before .before .before .before .before .before
+    .before .before .before .before .before .before in
     let pre = e .pre in
     answered-same
     (ap (decodedText (e .args .header))

@@ -32,10 +32,13 @@ same-length-2 c = search needs
 
 returns : tie.Need-returns
 returns c =
-    let p = c .before .before .before .before .before .before .before .before .before .before .before .before .before .before .pre in
+    let p =
+    c .before .before .before .before .before .before .before .before .before .before .before .before .before
+    .before .pre in
     let why = c .before .before .before .before .before .why .given in
     answered-same
-    (decoded-refused _ _ (p .0) _ _ (p .1) (why .0 .0) (sym (ap decodeAnswerNumber (why .1)) ∙ c .before .before .before .before .before .before .before .before .before .decode .ensures .number))
+    (decoded-refused _ _ (p .0) _ _ (p .1) (why .0 .0) (sym (ap decodeAnswerNumber (why .1))
+    ∙ c .before .before .before .before .before .before .before .before .before .decode .ensures .number))
     (c .before .before .refuse .ensures)
 
 same-length-3 : tie.Need-same-length-3
@@ -46,11 +49,14 @@ same-length-4 c = search needs
 
 returns-2 : tie.Need-returns-2
 returns-2 c =
-    let p = c .before .before .before .before .before .before .before .before .before .before .before .before .before .before .before .pre in
+    let p =
+    c .before .before .before .before .before .before .before .before .before .before .before .before .before
+    .before .before .pre in
     let count = c .before .before .before .before .before .before .count .given .1 in
     let d = c .before .before .before .before .before .before .before .before .before .before .decode .ensures in
     answered-same
-    (card-decoded _ _ (p .0) _ _ (p .1) _ (d .leaves) _ (sym (ap decodeAnswerNumber count) ∙ d .number) (sym (ap decodeAnswerCount count) ∙ d .count))
+    (card-decoded _ _ (p .0) _ _ (p .1) _ (d .leaves) _ (sym (ap decodeAnswerNumber count) ∙ d .number)
+    (sym (ap decodeAnswerCount count) ∙ d .count))
     (c .before .before .reply-payload .ensures)
 
 pub read-card-spec : {M : Type 1} → statement M

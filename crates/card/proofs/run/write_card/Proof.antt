@@ -26,7 +26,9 @@ reply-field-requires : tie.Need-reply-field-requires
 reply-field-requires c κs =
     let p = c .before .before .before .before .before .before .before .before .before .before .before .before .pre in
     let made = c .before .before .before .before .before .before .before .encode .ensures in
-    let long = encoded-length _ _ (p .0) _ _ (p .1 .1) (sym (ap encodeAnswerNumber (c .before .before .before .enum-told .given .1)) ∙ made .number) in
+    let long =
+    encoded-length _ _ (p .0) _ _ (p .1 .1)
+    (sym (ap encodeAnswerNumber (c .before .before .before .enum-told .given .1)) ∙ made .number) in
     (p .0 .card, encoded-cells _ _ (p .0) _ _ _ long (p .1 .1) (made .leaves) (p .1 .0))
 
 same-length : tie.Need-same-length
@@ -37,10 +39,14 @@ same-length-2 c = search needs
 
 returns : tie.Need-returns
 returns c =
-    let p = c .before .before .before .before .before .before .before .before .before .before .before .before .before .before .pre in
+    let p =
+    c .before .before .before .before .before .before .before .before .before .before .before .before .before
+    .before .pre in
     let why = c .before .before .before .before .before .why .given in
     answered-same
-    (encoded-refused _ _ (p .0) _ _ (p .1 .1) (why .0 .0) (sym (ap encodeAnswerNumber (why .1)) ∙ c .before .before .before .before .before .before .before .before .before .encode .ensures .number))
+    (encoded-refused _ _ (p .0) _ _ (p .1 .1) (why .0 .0)
+    (sym (ap encodeAnswerNumber (why .1))
+    ∙ c .before .before .before .before .before .before .before .before .before .encode .ensures .number))
     (c .before .before .refuse .ensures)
 
 same-length-3 : tie.Need-same-length-3
@@ -51,12 +57,18 @@ same-length-4 c = search needs
 
 returns-2 : tie.Need-returns-2
 returns-2 c =
-    let p = c .before .before .before .before .before .before .before .before .before .before .before .before .before .before .before .pre in
+    let p =
+    c .before .before .before .before .before .before .before .before .before .before .before .before .before
+    .before .before .pre in
     let made = c .before .before .before .before .before .before .before .before .before .before .encode .ensures in
-    let none = sym (ap encodeAnswerNumber (c .before .before .before .before .before .before .enum-told .given .1)) ∙ made .number in
+    let none =
+    sym (ap encodeAnswerNumber (c .before .before .before .before .before .before .enum-told .given .1))
+    ∙ made .number in
     let long = encoded-length _ _ (p .0) _ _ (p .1 .1) none in
     answered-same
-    (card-written _ _ (p .0) _ _ _ long (p .1 .1) (made .leaves) _ (c .before .before .before .before .before .classes .ensures) ∙ encoded-done _ _ (p .0) _ _ (p .1 .1) none)
+    (card-written _ _ (p .0) _ _ _ long (p .1 .1) (made .leaves) _
+    (c .before .before .before .before .before .classes .ensures)
+    ∙ encoded-done _ _ (p .0) _ _ (p .1 .1) none)
     (c .before .before .reply-field .ensures)
 
 pub write-card-spec : {M : Type 1} → statement M

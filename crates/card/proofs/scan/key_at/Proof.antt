@@ -22,7 +22,9 @@ shared-slice-read-if1 : tie.Need-shared-slice-read-if1 Inv-loop μ-loop
 shared-slice-read-if1 c = omega arith
 
 returns : tie.Need-returns Inv-loop μ-loop
-returns c = key-fails _ _ _ _ _ (c .before .before .before .loop-test .taken) (c .before .before .byte-at .ensures) (c .if1 .taken)
+returns c =
+    key-fails _ _ _ _ _ (c .before .before .before .loop-test .taken) (c .before .before .byte-at .ensures)
+    (c .if1 .taken)
 
 add-j : tie.Need-add-j Inv-loop μ-loop
 add-j c = omega arith
@@ -31,7 +33,11 @@ loop-less : tie.Need-loop-less Inv-loop μ-loop
 loop-less c = omega arith
 
 loop-again : tie.Need-loop-again Inv-loop μ-loop
-loop-again c = (omega arith, passed-more _ _ (c .before .before .before .before .loop .inv .1) (key-passes _ _ _ _ _ (c .before .before .byte-at .ensures) (c .if1 .left)))
+loop-again c = (
+  omega arith,
+  passed-more _ _ (c .before .before .before .before .loop .inv .1)
+      (key-passes _ _ _ _ _ (c .before .before .byte-at .ensures) (c .if1 .left)),
+)
 
 returns-2 : tie.Need-returns-2 Inv-loop μ-loop
 returns-2 c = key-all _ _ _ _ (c .before .loop .inv .1) (c .before .loop .inv .0) (c .loop-test .left)

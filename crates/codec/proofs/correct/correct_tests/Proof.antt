@@ -45,7 +45,8 @@ cells-requires c κs = search needs
 
 returns-2 : tie.Need-returns-2
 returns-2 c = (
-  sym (correct-length _ _ (accepted (c .before .before)) (λ e. c .if1 .taken (e ∙ sym (cells-given _ _ (c .before .cells .ensures))))),
+  sym (correct-length _ _ (accepted (c .before .before))
+      (λ e. c .if1 .taken (e ∙ sym (cells-given _ _ (c .before .cells .ensures))))),
   (length-outside, λ z. absurd (omega arith)),
 )
 
@@ -55,8 +56,13 @@ class-sizes-requires c κs = search needs
 examine-requires : tie.Need-examine-requires
 examine-requires c κs =
     let k = c .before .before in
-    let e = c .before .before .before .before in
-    (fits e, (sizes-given _ _ _ (fits e .accepted) (k .class-sizes .ensures), e .before .before .before .before .before .before .pre))
+    let e = c .before .before .before .before in (
+      fits e,
+      (
+        sizes-given _ _ _ (fits e .accepted) (k .class-sizes .ensures),
+        e .before .before .before .before .before .before .pre,
+      ),
+    )
 
 returns-3 : tie.Need-returns-3
 returns-3 c =

@@ -12,10 +12,14 @@ cells-at-requires : tie.Need-cells-at-requires
 cells-at-requires c κs = tt
 
 turn-cells-requires : tie.Need-turn-cells-requires
-turn-cells-requires c κs = classes-few _ (c .before .before .before .before .before .before .pre .0 .fits .accepted) _ (c .before .before .before .before .classes .ensures)
+turn-cells-requires c κs =
+    classes-few _ (c .before .before .before .before .before .before .pre .0 .fits .accepted) _
+    (c .before .before .before .before .classes .ensures)
 
 count-damaged-requires : tie.Need-count-damaged-requires
-count-damaged-requires c κs = classes-few _ (c .before .before .before .before .before .before .before .before .before .pre .0 .fits .accepted) _ (c .before .before .before .before .before .before .before .classes .ensures)
+count-damaged-requires c κs =
+    classes-few _ (c .before .before .before .before .before .before .before .before .before .pre .0 .fits .accepted)
+    _ (c .before .before .before .before .before .before .before .classes .ensures)
 
 same-length : tie.Need-same-length
 same-length c = search needs

@@ -28,7 +28,10 @@ loop-less : tie.Need-loop-less Inv-loop μ-loop
 loop-less c = simp length-set (omega arith)
 
 loop-again : tie.Need-loop-again Inv-loop μ-loop
-loop-again c = (simp length-set (omega arith), zeros-more (c .before .loop .payload) (c .before .loop .j) (c .loop-test .taken) (c .before .loop .inv .1))
+loop-again c = (
+  simp length-set (omega arith),
+  zeros-more (c .before .loop .payload) (c .before .loop .j) (c .loop-test .taken) (c .before .loop .inv .1),
+)
 
 same-length : tie.Need-same-length Inv-loop μ-loop
 same-length c = c .before .loop .inv .0

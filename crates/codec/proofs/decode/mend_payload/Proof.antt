@@ -14,10 +14,16 @@ cells-at-requires c κs = tt
 
 flip-bits-requires : tie.Need-flip-bits-requires
 flip-bits-requires c κs =
-    let e = c .before .before .before .before .before .before .before in (e .pre .1 .1 .1 .0 .0, classes-few _ (e .pre .1 .0 .fits .accepted) _ (c .before .before .before .before .classes .ensures))
+    let e = c .before .before .before .before .before .before .before in (
+      e .pre .1 .1 .1 .0 .0,
+      classes-few _ (e .pre .1 .0 .fits .accepted) _ (c .before .before .before .before .classes .ensures),
+    )
 
 count-damaged-requires : tie.Need-count-damaged-requires
-count-damaged-requires c κs = classes-few _ (c .before .before .before .before .before .before .before .before .before .before .pre .1 .0 .fits .accepted) _ (c .before .before .before .before .before .before .before .classes .ensures)
+count-damaged-requires c κs =
+    classes-few _
+    (c .before .before .before .before .before .before .before .before .before .before .pre .1 .0 .fits .accepted)
+    _ (c .before .before .before .before .before .before .before .classes .ensures)
 
 same-length : tie.Need-same-length
 same-length c = search needs
@@ -26,10 +32,14 @@ returns : tie.Need-returns
 returns c =
     let e = c .before .before .before .before .before .before .before .before .before .before .before in
     let ok = e .pre .1 .0 .fits .accepted in
-    let own = classes-given _ ok _ (c .before .before .before .before .before .before .before .before .classes .ensures) in
-    let damaged = all-damaged _ (e .args .field .now) _ (e .pre .1 .0) (e .pre .1 .1 .0) _ own _ (c .before .before .before .before .before .before .cells-at .ensures .0 ok) in (
+    let own =
+    classes-given _ ok _ (c .before .before .before .before .before .before .before .before .classes .ensures) in
+    let damaged =
+    all-damaged _ (e .args .field .now) _ (e .pre .1 .0) (e .pre .1 .1 .0) _ own _
+    (c .before .before .before .before .before .before .cells-at .ensures .0 ok) in (
       bits-same _ _ _ _ (all-mended _ (e .args .field .now) _ (e .pre .1 .0) (e .pre .1 .1 .0) _ own)
-          (c .before .before .before .flip-bits .ensures _ (sym (e .pre .0)) (e .pre .1 .1 .1 .0 .1) _ damaged (e .pre .1 .1 .1 .1)),
+          (c .before .before .before .flip-bits .ensures _ (sym (e .pre .0)) (e .pre .1 .1 .1 .0 .1) _ damaged
+          (e .pre .1 .1 .1 .1)),
       mended-count _ (e .args .field .now) _ (e .pre .1 .0) (e .pre .1 .1 .0) _ own _ (c .count-damaged .ensures),
     )
 

@@ -70,14 +70,19 @@ same-length c = search needs
 
 returns : tie.Need-returns
 returns c =
-    let e = c .before .before .before .before .before .before .before .before .before .before .before .before .before .before .before .before .before .before .before .before in
+    let e =
+    c .before .before .before .before .before .before .before .before .before .before .before .before .before
+    .before .before .before .before .before .before .before in
     let made = c .before .before .mend-payload in
-    let long = made .kept .1 .1 .1 .1 .1 .1 .0 ∙ c .before .before .before .before .before .before .before .gather .kept .1 .1 .1 .1 .1 .0 ∙ c .before .before .before .before .before .before .before .before .before .before .before .before .clear .kept .0 ∙ e .pre .1 .1 in (
+    let long =
+    made .kept .1 .1 .1 .1 .1 .1 .0
+    ∙ c .before .before .before .before .before .before .before .gather .kept .1 .1 .1 .1 .1 .0
+    ∙ c .before .before .before .before .before .before .before .before .before .before .before .before .clear
+    .kept .0
+    ∙ e .pre .1 .1 in (
       bits-all _ _ (made .last .1 .1 .1 .1 .1 .1 .0)
-          (corrected-cells _ (tagsAt (e .args .shape)) _ (received-cells _ _ (e .pre .0 .cells)))
-          long
-          (λ j. omega (arith, c .slice-known4 .given j))
-          (made .ensures .0),
+          (corrected-cells _ (tagsAt (e .args .shape)) _ (received-cells _ _ (e .pre .0 .cells))) long
+          (λ j. omega (arith, c .slice-known4 .given j)) (made .ensures .0),
       made .ensures .1,
     )
 

@@ -1,6 +1,7 @@
 -- `write_field` meets its contract.
 use borrow.Author.Needs.{needs}
-use Rattle.codec.proofs.encode.FieldWritten.{checks-listed, place-below, filled-fits, filled-same, filled-are-cells, listed-below}
+use Rattle.codec.proofs.encode.FieldWritten.{checks-listed, place-below, filled-fits, filled-same, filled-are-cells}
+use Rattle.codec.proofs.encode.FieldWritten.{listed-below}
 use Rattle.codec.proofs.encode.FieldWritten.{to-check, written}
 use Rattle.codec.proofs.theory.WorkArrays.{zeros}
 use Rattle.codec.proofs.encode.write_field.Statement.{statement}

@@ -61,7 +61,8 @@ loop-again c =
 returns-2 : tie.Need-returns-2 Inv-loop μ-loop
 returns-2 c =
     let a = c .before .before .args in
-    none-left (reaches (a .sizes .now) (a .syndromes .now)) (a .m) (c .before .loop .left) (c .before .loop .inv .1) (c .loop-test .left)
+    none-left (reaches (a .sizes .now) (a .syndromes .now)) (a .m) (c .before .loop .left) (c .before .loop .inv .1)
+    (c .loop-test .left)
 
 pub all-in-reach-spec : {M : Type 1} → statement M
 all-in-reach-spec =

@@ -43,7 +43,9 @@ cells : (c : tie.After-cells-ok)
 cells c = let e = entry (c .before) in c .cells-ok .ensures ∙ ap (cellsOk (fieldOf (e .args .field .now))) (all (c .before))
 
 reach : (c : tie.After-all-in-reach)
-    → let e = entry (c .before .before .before .before .before .before) in c .all-in-reach .result ≡ fieldInReach (e .args .shape) (fieldOf (e .args .field .now))
+    → let e =
+    entry (c .before .before .before .before .before .before) in c .all-in-reach .result
+    ≡ fieldInReach (e .args .shape) (fieldOf (e .args .field .now))
 reach c =
     let here = c .before .before .before .before .before .before in
     let e = entry here in
@@ -55,7 +57,10 @@ cells-hold : (c : tie.Else1)
 cells-hold c = passed _ _ (c .if1 .left) (cells (c .before))
 
 reach-holds : (c : tie.Else2)
-    → let e = entry (c .before .before .before .before .before .before .before) in fieldInReach (e .args .shape) (fieldOf (e .args .field .now)) ≡ true
+    → let e =
+    entry (c .before .before .before .before .before .before .before) in fieldInReach (e .args .shape)
+    (fieldOf (e .args .field .now))
+    ≡ true
 reach-holds c = passed _ _ (c .if2 .left) (reach (c .before))
 
 pass-requires : tie.Need-pass-requires
@@ -92,17 +97,22 @@ returns-2 c = (
 )
 
 padding-ok-requires : tie.Need-padding-ok-requires
-padding-ok-requires c κs = (entry (c .before .before .before .before .before .before .before .before) .pre .0, examined (c .before .before .before .before))
+padding-ok-requires c κs = (
+  entry (c .before .before .before .before .before .before .before .before) .pre .0,
+  examined (c .before .before .before .before),
+)
 
 returns-3 : tie.Need-returns-3
 returns-3 c = (
-  number-padding _ _ (cells-hold (c .before .before .before .before .before .before .before .before)) (reach-holds (c .before .before .before)) (failed _ _ (c .if3 .taken) (c .before .padding-ok .ensures)),
+  number-padding _ _ (cells-hold (c .before .before .before .before .before .before .before .before))
+      (reach-holds (c .before .before .before)) (failed _ _ (c .if3 .taken) (c .before .padding-ok .ensures)),
   λ z. absurd (omega arith),
 )
 
 returns-4 : tie.Need-returns-4
 returns-4 c = (
-  number-none _ _ (cells-hold (c .before .before .before .before .before .before .before .before)) (reach-holds (c .before .before .before)) (passed _ _ (c .if3 .left) (c .before .padding-ok .ensures)),
+  number-none _ _ (cells-hold (c .before .before .before .before .before .before .before .before))
+      (reach-holds (c .before .before .before)) (passed _ _ (c .if3 .left) (c .before .padding-ok .ensures)),
   λ z. examined (c .before .before .before .before .before .before),
 )
 

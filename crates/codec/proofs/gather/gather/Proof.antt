@@ -37,7 +37,9 @@ element-copy-out-end c = search needs
 
 -- the list of the shape's own checks
 module _ (c : tie.At-loop Inv-loop μ-loop) where
-  own : let e = c .before .before .before in ListsChecks (layoutOf (e .args .shape)) (e .args .cells) (e .args .amount) (e .args .checks .now)
+  own :
+      let e = c .before .before .before in
+      ListsChecks (layoutOf (e .args .shape)) (e .args .cells) (e .args .amount) (e .args .checks .now)
   own = let e = c .before .before .before in lists-cells _ _ _ _ (e .pre .0) (e .pre .1 .1 .1 .0 .1)
 
   -- what the loop says of it
@@ -77,7 +79,9 @@ add-begin c =
     let e = c .before .before .before .before .before .before .before .before .before in
     omega (
       arith,
-      listed-limit _ _ _ _ (e .pre .0) (e .pre .1 .1 .1 .0 .1) (e .pre .1 .0 .accepted) (c .before .before .before .before .before .before .loop .k) (c .before .before .before .before .before .loop-test .taken),
+      listed-limit _ _ _ _ (e .pre .0) (e .pre .1 .1 .1 .0 .1) (e .pre .1 .0 .accepted)
+          (c .before .before .before .before .before .before .loop .k)
+          (c .before .before .before .before .before .loop-test .taken),
     )
 
 add-k : tie.Need-add-k Inv-loop μ-loop

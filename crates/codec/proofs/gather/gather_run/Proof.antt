@@ -46,8 +46,9 @@ same-length c = c .before .loop .inv .2
 returns : tie.Need-returns Inv-loop μ-loop
 returns c =
     let turn = c .before .loop in
-    λ L run holds.
-    subst (λ (i : ℕ). HoldsBytes L (fieldOf (c .before .before .before .before .args .field .now)) (turn .payload) i) (le-antisymm (turn .inv .1) (c .loop-test .left)) (turn .inv .3 L run holds)
+    λ L run holds. subst
+    (λ (i : ℕ). HoldsBytes L (fieldOf (c .before .before .before .before .args .field .now)) (turn .payload) i)
+    (le-antisymm (turn .inv .1) (c .loop-test .left)) (turn .inv .3 L run holds)
 
 pub gather-run-spec : {M : Type 1} → statement M
 gather-run-spec =

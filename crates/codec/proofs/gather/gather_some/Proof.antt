@@ -16,7 +16,8 @@ begins-byte-requires c κs = search needs
 
 eight-requires : tie.Need-eight-requires
 eight-requires c κs =
-    let e = c .before .before .before .before in (omega (arith, c .before .begins-byte .ensures (c .if1 .taken) .enough), e .pre .1)
+    let e = c .before .before .before .before in
+    (omega (arith, c .before .begins-byte .ensures (c .if1 .taken) .enough), e .pre .1)
 
 slice-write-payload : tie.Need-slice-write-payload
 slice-write-payload c = c .before .before .begins-byte .ensures (c .before .if1 .taken) .inside

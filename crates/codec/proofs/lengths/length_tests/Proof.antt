@@ -13,7 +13,8 @@ use Rattle.lattice.proofs.theory.Limits.{number-other}
 use Rattle.codec.specs.Plan.{planBytes}
 use Rattle.codec.specs.Working.{HoldsSizes}
 use Rattle.codec.proofs.theory.Accepted.{plan-bytes, plan-cells}
-use Rattle.codec.proofs.theory.OperationNumbers.{bytes-given, cells-given, length-refused, payload-number, field-number, fit-number}
+use Rattle.codec.proofs.theory.OperationNumbers.{bytes-given, cells-given, length-refused, payload-number, field-number}
+use Rattle.codec.proofs.theory.OperationNumbers.{fit-number}
 use Rattle.codec.proofs.theory.WorkArrays.{sizes-given}
 use Rattle.codec.proofs.lengths.length_tests.Statement.{statement}
 use Rattle.codec.proofs.lengths.length_tests.Tie as tie
@@ -28,7 +29,10 @@ module _ (c : tie.After-class-sizes) where
       HoldsSizes (layoutOf (a .shape)) (c .class-sizes .last .1 .0) (cellsOf (a .shape))
   sized = sizes-given _ _ _ accepted (c .class-sizes .ensures)
 
-planned : (c : tie.After-data-in) → c .data-in .result / 8 ≡ planBytes (c .before .before .before .before .before .before .before .before .before .before .args .shape)
+planned : (c : tie.After-data-in)
+    → c .data-in .result / 8
+    ≡ planBytes
+    (c .before .before .before .before .before .before .before .before .before .before .args .shape)
 planned c =
     let here = c .before .before .before in
     let own = c .before .classes .ensures in

@@ -49,8 +49,15 @@ loop-again c =
       omega arith,
       turn .inv .1,
       λ L lists inside.
-          let held = turn .inv .2 L lists inside in
-          (omega (arith, listed-before L _ _ _ lists (le-refl _) ((turn .low + turn .high) / 2) (c .before .before .before .before .before .args .cell) (omega arith) (omega (arith, c .before .wide-16 .ensures))), held .1),
+          let held = turn .inv .2 L lists inside in (
+            omega (
+              arith,
+              listed-before L _ _ _ lists (le-refl _) ((turn .low + turn .high) / 2)
+                  (c .before .before .before .before .before .args .cell) (omega arith)
+                  (omega (arith, c .before .wide-16 .ensures)),
+            ),
+            held .1,
+          ),
     )
 
 loop-less-2 : tie.Need-loop-less-2 Inv-loop μ-loop
@@ -62,8 +69,12 @@ loop-again-2 c =
       omega arith,
       omega arith,
       λ L lists inside.
-          let held = turn .inv .2 L lists inside in
-          (held .0, listed-behind L _ _ _ lists (le-refl _) ((turn .low + turn .high) / 2) (c .before .before .before .before .before .args .cell) (omega arith) (omega (arith, c .before .wide-16 .ensures))),
+          let held = turn .inv .2 L lists inside in (
+            held .0,
+            listed-behind L _ _ _ lists (le-refl _) ((turn .low + turn .high) / 2)
+                (c .before .before .before .before .before .args .cell) (omega arith)
+                (omega (arith, c .before .wide-16 .ensures)),
+          ),
     )
 
 returns : tie.Need-returns Inv-loop μ-loop

@@ -30,7 +30,11 @@ element-copy-out-count-if c = search needs
 count-if-requires : tie.Need-count-if-requires Inv-loop μ-loop
 count-if-requires c κs =
     let turn = c .before .before .loop in
-    omega (arith, turn .inv .1, count-most (λ a. not (eqb (getD (c .before .before .before .args .syndromes .now) a 0) 0)) (turn .a))
+    omega (
+      arith,
+      turn .inv .1,
+      count-most (λ a. not (eqb (getD (c .before .before .before .args .syndromes .now) a 0) 0)) (turn .a),
+    )
 
 add-a : tie.Need-add-a Inv-loop μ-loop
 add-a c = search needs
@@ -51,7 +55,8 @@ returns : tie.Need-returns Inv-loop μ-loop
 returns c =
     let turn = c .before .loop in
     turn .inv .1
-    ∙ ap (count (λ a. not (eqb (getD (c .before .before .args .syndromes .now) a 0) 0))) (le-antisymm (turn .inv .0) (c .loop-test .left))
+    ∙ ap (count (λ a. not (eqb (getD (c .before .before .args .syndromes .now) a 0) 0)))
+    (le-antisymm (turn .inv .0) (c .loop-test .left))
 
 pub count-damaged-spec : {M : Type 1} → statement M
 count-damaged-spec =

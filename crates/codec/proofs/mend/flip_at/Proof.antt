@@ -40,8 +40,11 @@ returns-3 c =
 
 returns-4 : tie.Need-returns-4
 returns-4 c =
-    λ L same lists f holds.
-    absurd (omega (arith, c .before .before .before .checks-before .ensures .1 L lists (omega arith), checks-most L (c .before .before .before .before .before .before .args .cell)))
+    λ L same lists f holds. absurd (omega (
+      arith,
+      c .before .before .before .checks-before .ensures .1 L lists (omega arith),
+      checks-most L (c .before .before .before .before .before .before .args .cell),
+    ))
 
 pub flip-at-spec : {M : Type 1} → statement M
 flip-at-spec =

@@ -50,9 +50,11 @@ loop-again c =
     let one = c .before .before .flip-at in (
       omega arith,
       one .kept .1 .1 .1 .1 .0 ∙ turn .inv .1,
-      λ L same lists f damaged holds.
-          bits-same L _ _ _ (mended-more L f _ _ damaged (turn .a) (c .before .before .before .before .before .before .loop-test .taken))
-          (subst (λ (x : ℕ). HoldsBits L (turnedAt (mendedTo L f (turn .a)) x) (one .last .1 .1 .1 .1 .0)) (c .before .before .before .before .wide-32 .ensures)
+      λ L same lists f damaged holds. bits-same L _ _ _
+          (mended-more L f _ _ damaged (turn .a)
+          (c .before .before .before .before .before .before .loop-test .taken))
+          (subst (λ (x : ℕ). HoldsBits L (turnedAt (mendedTo L f (turn .a)) x) (one .last .1 .1 .1 .1 .0))
+          (c .before .before .before .before .wide-32 .ensures)
           (one .ensures L same lists _ (turn .inv .2 L same lists f damaged holds))),
     )
 

@@ -17,7 +17,9 @@ same-length : tie.Need-same-length
 same-length c = search needs
 
 returns : tie.Need-returns
-returns c = turned-inside (c .before .before .before .before .args .field .now) _ _ (c .before .before .if1 .taken) (c .flip .ensures)
+returns c =
+    turned-inside (c .before .before .before .before .args .field .now) _ _ (c .before .before .if1 .taken)
+    (c .flip .ensures)
 
 returns-2 : tie.Need-returns-2
 returns-2 c = turned-outside (c .before .before .args .field .now) _ (c .if1 .left)

@@ -48,11 +48,11 @@ loop-again c =
     let one = c .before .before .turn-cell in (
       omega arith,
       one .kept .0 ∙ turn .inv .1,
-      λ L same damaged i l.
-          one .ensures i (omega (arith, turn .inv .1))
+      λ L same damaged i l. one .ensures i (omega (arith, turn .inv .1))
           ∙ ap (λ (x : ℕ). turnedAt (fieldOf (turn .field)) x i) (c .before .before .before .wide-32 .ensures)
           ∙ turned-same _ _ _ _ (turn .inv .2 L same damaged) i l
-          ∙ mended-more L _ _ _ damaged (turn .a) (c .before .before .before .before .before .before .loop-test .taken) i (omega arith),
+          ∙ mended-more L _ _ _ damaged (turn .a)
+          (c .before .before .before .before .before .before .loop-test .taken) i (omega arith),
     )
 
 same-length : tie.Need-same-length Inv-loop μ-loop

@@ -18,28 +18,37 @@ array-borrow-prefix-e c = let p = c .before .before .before .before .pre .0 .0 i
 
 slice-aggregate-listed-syndromes : tie.Need-slice-aggregate-listed-syndromes
 slice-aggregate-listed-syndromes c =
-    let p = c .before .before .before .before .before .pre .0 .0 in front-length _ 768 (pass-narrow (p .shape) (p .accepted) _ (p .same))
+    let p = c .before .before .before .before .before .pre .0 .0 in
+    front-length _ 768 (pass-narrow (p .shape) (p .accepted) _ (p .same))
 
 array-borrow-prefix-p : tie.Need-array-borrow-prefix-p
-array-borrow-prefix-p c = let p = c .before .before .before .before .before .pre .0 .0 in pass-long (p .shape) (p .accepted) _ (p .same)
+array-borrow-prefix-p c =
+    let p = c .before .before .before .before .before .pre .0 .0 in pass-long (p .shape) (p .accepted) _ (p .same)
 
 slice-aggregate-listed-syndromes-2 : tie.Need-slice-aggregate-listed-syndromes-2
 slice-aggregate-listed-syndromes-2 c =
-    let p = c .before .before .before .before .before .before .pre .0 .0 in front-length _ 1280 (pass-long (p .shape) (p .accepted) _ (p .same))
+    let p = c .before .before .before .before .before .before .pre .0 .0 in
+    front-length _ 1280 (pass-long (p .shape) (p .accepted) _ (p .same))
 
 array-borrow-prefix-q : tie.Need-array-borrow-prefix-q
-array-borrow-prefix-q c = let p = c .before .before .before .before .before .before .pre .0 .0 in pass-long (p .shape) (p .accepted) _ (p .same)
+array-borrow-prefix-q c =
+    let p = c .before .before .before .before .before .before .pre .0 .0 in
+    pass-long (p .shape) (p .accepted) _ (p .same)
 
 slice-aggregate-listed-syndromes-3 : tie.Need-slice-aggregate-listed-syndromes-3
 slice-aggregate-listed-syndromes-3 c =
-    let p = c .before .before .before .before .before .before .before .pre .0 .0 in front-length _ 1280 (pass-long (p .shape) (p .accepted) _ (p .same))
+    let p = c .before .before .before .before .before .before .before .pre .0 .0 in
+    front-length _ 1280 (pass-long (p .shape) (p .accepted) _ (p .same))
 
 array-borrow-prefix-t : tie.Need-array-borrow-prefix-t
-array-borrow-prefix-t c = let p = c .before .before .before .before .before .before .before .pre .0 .0 in pass-narrow (p .shape) (p .accepted) _ (p .same)
+array-borrow-prefix-t c =
+    let p = c .before .before .before .before .before .before .before .pre .0 .0 in
+    pass-narrow (p .shape) (p .accepted) _ (p .same)
 
 slice-aggregate-listed-syndromes-4 : tie.Need-slice-aggregate-listed-syndromes-4
 slice-aggregate-listed-syndromes-4 c =
-    let p = c .before .before .before .before .before .before .before .before .pre .0 .0 in front-length _ 768 (pass-narrow (p .shape) (p .accepted) _ (p .same))
+    let p = c .before .before .before .before .before .before .before .before .pre .0 .0 in
+    front-length _ 768 (pass-narrow (p .shape) (p .accepted) _ (p .same))
 
 listed-syndromes-requires : tie.Need-listed-syndromes-requires
 listed-syndromes-requires c κs =
@@ -54,8 +63,8 @@ listed-syndromes-requires c κs =
           e .pre .1 .1,
           (
             (
-              pass-space (p .shape) (p .accepted) _ (p .same) _ _ _ (sym (front-length _ 768 narrow)) (sym (front-length _ 1280 long))
-                  (sym (front-length _ 1280 long)),
+              pass-space (p .shape) (p .accepted) _ (p .same) _ _ _ (sym (front-length _ 768 narrow))
+                  (sym (front-length _ 1280 long)) (sym (front-length _ 1280 long)),
               refl,
             ),
             front-zeros (e .args .pass .classes + e .args .pass .columns) 768,

@@ -12,7 +12,9 @@ first-line-requires c κs = tt
 
 take-lines-requires : tie.Need-take-lines-requires
 take-lines-requires c κs =
-    let e = c .before .before .before .before .before .before .before .before .before .before .before .before .before .before .before .before .before .before .before .before in
+    let e =
+    c .before .before .before .before .before .before .before .before .before .before .before .before .before
+    .before .before .before .before .before .before .before in
     let p = e .pre .0 .0 in
     let room = e .pre .1 .1 .1 .0 in
     let first = c .before .before .before .before .before .before .before .before .before .before .first-line in
@@ -29,7 +31,10 @@ take-lines-requires c κs =
 
 fold-requires : tie.Need-fold-requires
 fold-requires c κs =
-    let e = c .before .before .before .before .before .before .before .before .before .before .before .before .before .before .before .before .before .before .before .before .before .before .before .before .before .before .before in
+    let e =
+    c .before .before .before .before .before .before .before .before .before .before .before .before .before
+    .before .before .before .before .before .before .before .before .before .before .before .before .before
+    .before in
     let p = e .pre .0 .0 in
     let high = most (p .shape) (p .accepted) _ (p .same) in (
       (some (p .shape) (p .accepted) _ (p .same), high, omega (arith, high)),
@@ -53,13 +58,14 @@ same-length-5 c = search needs
 
 returns : tie.Need-returns
 returns c =
-    let e = c .before .before .before .before .before .before .before .before .before .before .before .before .before .before .before .before .before .before .before .before .before .before .before .before .before .before .before .before .before .before in
+    let e =
+    c .before .before .before .before .before .before .before .before .before .before .before .before .before
+    .before .before .before .before .before .before .before .before .before .before .before .before .before
+    .before .before .before .before in
     let taken = c .before .before .before .before .before .before .before .before .before .take-lines in
     let fold = c .before .before .fold in
-    λ s ok same.
-    pass-folded s ok _ same _ (taken .last .1 .1 .1 .1 .1 .1 .0) (e .args .syndromes .now) (fold .last .1 .1 .0)
-    (taken .ensures s ok same) (e .pre .1 .1 .0)
-    (fold .ensures .0) (fold .ensures .1)
+    λ s ok same. pass-folded s ok _ same _ (taken .last .1 .1 .1 .1 .1 .1 .0) (e .args .syndromes .now)
+    (fold .last .1 .1 .0) (taken .ensures s ok same) (e .pre .1 .1 .0) (fold .ensures .0) (fold .ensures .1)
 
 pub listed-syndromes-spec : {M : Type 1} → statement M
 listed-syndromes-spec =

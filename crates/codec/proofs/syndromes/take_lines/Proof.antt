@@ -53,9 +53,12 @@ next-positions-requires c κs = search needs
 
 add-n : tie.Need-add-n Inv-loop μ-loop
 add-n c =
-    let e = c .before .before .before .before .before .before .before .before .before .before .before .before .before .before .before .before .before .before in
+    let e =
+    c .before .before .before .before .before .before .before .before .before .before .before .before .before
+    .before .before .before .before .before in
     let p = e .pre .0 .0 in
-    let turn = c .before .before .before .before .before .before .before .before .before .before .before .before .loop in
+    let turn =
+    c .before .before .before .before .before .before .before .before .before .before .before .before .loop in
     let inside = c .before .before .before .before .before .before .before .before .before .before .if1 .taken in
     omega (
       arith,
@@ -71,9 +74,10 @@ loop-less c = search needs
 
 loop-again : tie.Need-loop-again Inv-loop μ-loop
 loop-again c =
-    let e = c .before .before .before .before .before .before .before .before .before .before .before .before .before .before .before .before .before .before in
-    let turn = c .before .before .before .before .before .before .before .before .before .before .before .before .loop in
-    let inside = c .before .before .before .before .before .before .before .before .before .before .if1 .taken in
+    let d = c .before .before .before .before .before .before .before .before .before .before in
+    let e = d .before .before .before .before .before .before .before .before in
+    let turn = d .before .before .loop in
+    let inside = d .if1 .taken in
     let line = c .before .before .before .before .before .before .before .take-line in
     let step = c .before .before .before .next-positions in (
       omega arith,

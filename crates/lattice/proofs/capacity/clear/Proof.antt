@@ -32,7 +32,11 @@ loop-less : tie.Need-loop-less Inv-loop μ-loop
 loop-less c = simp length-set (omega arith)
 
 loop-again : tie.Need-loop-again Inv-loop μ-loop
-loop-again c = (simp length-set (omega arith), simp length-set (omega arith), zeros-more (c .before .loop .sizes) (c .before .loop .a) (c .loop-test .taken) (c .before .loop .inv .2))
+loop-again c = (
+  simp length-set (omega arith),
+  simp length-set (omega arith),
+  zeros-more (c .before .loop .sizes) (c .before .loop .a) (c .loop-test .taken) (c .before .loop .inv .2),
+)
 
 same-length : tie.Need-same-length Inv-loop μ-loop
 same-length c = c .before .loop .inv .1

@@ -49,17 +49,17 @@ loop-again c =
     let turn = c .before .before .before .loop in (
       omega arith,
       omega arith,
-      sum-more (λ b. dataCells (getD (c .before .before .before .before .before .args .sizes .now) b 0)) (turn .a) (turn .sum) (c .data-cells .result) (turn .inv .2)
-          (c .data-cells .ensures),
+      sum-more (λ b. dataCells (getD (c .before .before .before .before .before .args .sizes .now) b 0)) (turn .a)
+          (turn .sum) (c .data-cells .result) (turn .inv .2) (c .data-cells .ensures),
     )
 
 returns-2 : tie.Need-returns-2 Inv-loop μ-loop
 unfolding dataIn
 returns-2 c =
     let turn = c .before .loop in
-    λ few.
-    turn .inv .2
-    ∙ ap (sumBelow (λ b. dataCells (getD (c .before .before .before .args .sizes .now) b 0))) (le-antisymm (turn .inv .0) (c .loop-test .left))
+    λ few. turn .inv .2
+    ∙ ap (sumBelow (λ b. dataCells (getD (c .before .before .before .args .sizes .now) b 0)))
+    (le-antisymm (turn .inv .0) (c .loop-test .left))
 
 pub data-in-spec : {M : Type 1} → statement M
 data-in-spec =

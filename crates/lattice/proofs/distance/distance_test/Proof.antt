@@ -21,7 +21,10 @@ enum-known-tested : tie.Need-enum-known-tested
 enum-known-tested c = search needs
 
 returns : tie.Need-returns
-returns c = (not-tested _ _ _ _ _ (told (c .before .before .before .distance-tests .ensures) (c .before .tested .given .1)), (refl, refl))
+returns c = (
+  not-tested _ _ _ _ _ (told (c .before .before .before .distance-tests .ensures) (c .before .tested .given .1)),
+  (refl, refl),
+)
 
 enum-told : tie.Need-enum-told
 enum-told c = search needs

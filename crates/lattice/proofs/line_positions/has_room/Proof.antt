@@ -7,7 +7,8 @@ use borrow.Author.Tests.{le-leb, leb-true}
 use Rattle.lattice.specs.Range.{inRange}
 use Rattle.lattice.proofs.theory.Bools.{failed, passed}
 use Rattle.lattice.proofs.theory.Limits.{range-low, range-high}
-use Rattle.lattice.proofs.theory.PassRoom.{refuted, pass-most, pass-narrow, pass-row, pass-plane, room-first, room-row, room-plane}
+use Rattle.lattice.proofs.theory.PassRoom.{refuted, pass-most, pass-narrow, pass-row, pass-plane, room-first, room-row}
+use Rattle.lattice.proofs.theory.PassRoom.{room-plane}
 use Rattle.lattice.proofs.line_positions.has_room.Statement.{statement}
 use Rattle.lattice.proofs.line_positions.has_room.Tie as tie
 

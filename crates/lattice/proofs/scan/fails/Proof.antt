@@ -6,7 +6,8 @@ use Prim.Native.Nat.{_%_}
 use lib.Dec.{eqb}
 use lib.IntN.{ℤ, pos, natAbs, _-ℤ_, _*ℤ_}
 use Rattle.lattice.specs.DistanceTest.{failsAt}
-use Rattle.lattice.proofs.theory.Words.{read-back, upright-size, difference-fits, residue-fits, residue-quot-fits, residue-rem}
+use Rattle.lattice.proofs.theory.Words.{read-back, upright-size, difference-fits, residue-fits, residue-quot-fits}
+use Rattle.lattice.proofs.theory.Words.{residue-rem}
 use Rattle.lattice.proofs.scan.fails.Statement.{statement}
 use Rattle.lattice.proofs.scan.fails.Tie as tie
 
@@ -24,7 +25,8 @@ sub-result c =
 sub-result-2 : tie.Need-sub-result-2
 sub-result-2 c =
     let a = c .before .before .before .before .before .before .args in
-    residue-fits (a .x .column) (c .before .before .before .before .scaled .result) (c .before .before .scaled2 .result) 0 (omega arith) (omega arith)
+    residue-fits (a .x .column) (c .before .before .before .before .scaled .result)
+    (c .before .before .scaled2 .result) 0 (omega arith) (omega arith)
 
 cast-result : tie.Need-cast-result
 cast-result c = search needs
@@ -33,10 +35,8 @@ rem-result : tie.Need-rem-result
 rem-result c =
     let a = c .before .before .before .before .before .before .before .args in (
       omega arith,
-      residue-quot-fits (a .x .column) (c .before .before .before .before .before .scaled .result) (c .before .before .before .scaled2 .result)
-          (a .k .m)
-          (omega arith)
-          (omega arith),
+      residue-quot-fits (a .x .column) (c .before .before .before .before .before .scaled .result)
+          (c .before .before .before .scaled2 .result) (a .k .m) (omega arith) (omega arith),
     )
 
 returns : tie.Need-returns

@@ -39,7 +39,8 @@ fails-requires c κs =
       omega arith,
       omega (arith, upright-size (a .row) (omega arith)),
       omega (arith, upright-size (a .plane) (omega arith)),
-      shifted-near (a .first) (c .before .before .loop .tried) (omega arith) (omega arith) (c .shifted .result) (c .shifted .ensures),
+      shifted-near (a .first) (c .before .before .loop .tried) (omega arith) (omega arith) (c .shifted .result)
+          (c .shifted .ensures),
     )
 
 -- the triple that is tried is the next of the list
@@ -49,8 +50,8 @@ tried-next : (c : tie.After-shifted Inv-loop μ-loop)
     ≡ triple (read (a .row)) (read (a .plane)) (read (a .first) +ℤ pos (c .before .before .loop .tried))
 tried-next c =
     let a = c .before .before .before .args in
-    ap (triple (read (a .row)) (read (a .plane)))
-    (shifted-again (a .first) (c .before .before .loop .tried) (omega arith) (omega arith) (c .shifted .result) (c .shifted .ensures))
+    ap (triple (read (a .row)) (read (a .plane))) (shifted-again (a .first) (c .before .before .loop .tried)
+    (omega arith) (omega arith) (c .shifted .result) (c .shifted .ensures))
 
 returns : tie.Need-returns Inv-loop μ-loop
 returns c =

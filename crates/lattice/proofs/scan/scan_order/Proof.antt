@@ -28,10 +28,8 @@ returns-2 c =
     let columns = c .before .before .before .before .scan-columns in
     let planes = c .before .before .scan-planes in
     let both = c .before .after in
-    order-planes (a .k) (a .n) (scanOf (columns .result)) (columns .ensures .0) (c .before .before .before .if1 .left) (scanOf (planes .result)) (scanOf (both .result))
-    (planes .ensures .0)
-    (both .ensures)
-    (c .if2 .taken)
+    order-planes (a .k) (a .n) (scanOf (columns .result)) (columns .ensures .0) (c .before .before .before .if1 .left)
+    (scanOf (planes .result)) (scanOf (both .result)) (planes .ensures .0) (both .ensures) (c .if2 .taken)
 
 scan-rows-requires : tie.Need-scan-rows-requires
 scan-rows-requires c κs = omega arith
@@ -46,15 +44,10 @@ returns-3 c =
     let planes = c .before .before .before .before .scan-planes in
     let both = c .before .before .before .after in
     let rows = c .before .scan-rows in
-    order-rows (a .k) (a .n) (scanOf (columns .result)) (columns .ensures .0) (c .before .before .before .before .before .if1 .left) (scanOf (planes .result))
-    (scanOf (both .result))
-    (planes .ensures .0)
-    (both .ensures)
-    (scanOf (rows .result))
-    (scanOf (c .after2 .result))
-    (c .before .before .if2 .left)
-    (rows .ensures .0)
-    (c .after2 .ensures)
+    order-rows (a .k) (a .n) (scanOf (columns .result)) (columns .ensures .0)
+    (c .before .before .before .before .before .if1 .left) (scanOf (planes .result)) (scanOf (both .result))
+    (planes .ensures .0) (both .ensures) (scanOf (rows .result)) (scanOf (c .after2 .result))
+    (c .before .before .if2 .left) (rows .ensures .0) (c .after2 .ensures)
 
 pub scan-order-spec : {M : Type 1} → statement M
 scan-order-spec =

@@ -10,7 +10,8 @@ use Rattle.lattice.specs.Order.{run, planesAt}
 use Rattle.lattice.specs.DistanceTest.{after, scan, Scan}
 use Rattle.lattice.specs.Scanning.{scanOf}
 use Rattle.lattice.proofs.theory.Words.{read, upright-size, shifted-near, shifted-again}
-use Rattle.lattice.proofs.theory.ScanLoops.{block-at, left, left-start, left-end, left-found, left-past, planeBlock, planes-read}
+use Rattle.lattice.proofs.theory.ScanLoops.{block-at, left, left-start, left-end, left-found, left-past, planeBlock}
+use Rattle.lattice.proofs.theory.ScanLoops.{planes-read}
 use Rattle.lattice.proofs.scan.scan_planes.Statement.{statement}
 use Rattle.lattice.proofs.scan.scan_planes.Tie as tie
 
@@ -18,7 +19,8 @@ abbrev Inv-loop : tie.InvT-loop
 Inv-loop k row n first count tried₀ i₀ tried i =
     (i ≤ count)
     × (tried ≤ i * 64)
-    × (scan k (planesAt (toZ w32 row) n (run (toZ w32 first) count)) ≡ after tried (left k (planesAt (toZ w32 row) n) (toZ w32 first) count i))
+    × (scan k (planesAt (toZ w32 row) n (run (toZ w32 first) count))
+    ≡ after tried (left k (planesAt (toZ w32 row) n) (toZ w32 first) count i))
 
 abbrev μ-loop : tie.MeasureT-loop
 μ-loop k row n first count tried₀ i₀ tried i = count - i
@@ -50,21 +52,19 @@ next : (c : tie.After-scan-plane Inv-loop μ-loop)
 next c =
     let a = c .before .before .before .before .args in
     let l = c .before .before .before .loop in
-    block-at (a .k) (planeBlock (read (a .row)) (a .n)) (l .tried) (read (c .before .shifted .result)) (read (a .first) +ℤ pos (l .i)) (scanOf (c .scan-plane .result))
-    (c .scan-plane .ensures .0)
-    (shifted-again (a .first) (l .i) (omega arith) (omega arith) (c .before .shifted .result) (c .before .shifted .ensures))
+    block-at (a .k) (planeBlock (read (a .row)) (a .n)) (l .tried) (read (c .before .shifted .result))
+    (read (a .first) +ℤ pos (l .i)) (scanOf (c .scan-plane .result)) (c .scan-plane .ensures .0)
+    (shifted-again (a .first) (l .i) (omega arith) (omega arith) (c .before .shifted .result)
+    (c .before .shifted .ensures))
 
 returns : tie.Need-returns Inv-loop μ-loop
 returns c =
     let a = c .before .before .before .before .before .args in
     let l = c .before .before .before .before .loop in (
-      sym
-          (l .inv .2
-          ∙ left-found (a .k) (planesAt (read (a .row)) (a .n)) refl (read (a .first)) (a .count) (planeBlock (read (a .row)) (a .n)) (λ z zs. refl) (l .tried) (l .i)
-          (omega arith)
-          (scanOf (c .before .scan-plane .result))
-          (next (c .before))
-          (c .if1 .taken))
+      sym (l .inv .2
+          ∙ left-found (a .k) (planesAt (read (a .row)) (a .n)) refl (read (a .first)) (a .count)
+          (planeBlock (read (a .row)) (a .n)) (λ z zs. refl) (l .tried) (l .i) (omega arith)
+          (scanOf (c .before .scan-plane .result)) (next (c .before)) (c .if1 .taken))
           ∙ planes-read (a .k) (a .row) (a .first) (a .n) (a .count) (omega arith) (omega arith),
       omega arith,
     )
@@ -82,11 +82,9 @@ loop-again c =
       omega arith,
       omega arith,
       l .inv .2
-          ∙ left-past (a .k) (planesAt (read (a .row)) (a .n)) refl (read (a .first)) (a .count) (planeBlock (read (a .row)) (a .n)) (λ z zs. refl) (l .tried) (l .i)
-          (omega arith)
-          (scanOf (c .before .scan-plane .result))
-          (next (c .before))
-          (c .if1 .left),
+          ∙ left-past (a .k) (planesAt (read (a .row)) (a .n)) refl (read (a .first)) (a .count)
+          (planeBlock (read (a .row)) (a .n)) (λ z zs. refl) (l .tried) (l .i) (omega arith)
+          (scanOf (c .before .scan-plane .result)) (next (c .before)) (c .if1 .left),
     )
 
 nothing-requires : tie.Need-nothing-requires Inv-loop μ-loop
@@ -97,9 +95,9 @@ returns-2 c =
     let a = c .before .before .before .args in
     let l = c .before .before .loop in (
       c .nothing .ensures
-          ∙ sym
-          (l .inv .2
-          ∙ left-end (a .k) (planesAt (read (a .row)) (a .n)) refl (read (a .first)) (a .count) (l .tried) (l .i) (c .before .loop-test .left))
+          ∙ sym (l .inv .2
+          ∙ left-end (a .k) (planesAt (read (a .row)) (a .n)) refl (read (a .first)) (a .count) (l .tried) (l .i)
+          (c .before .loop-test .left))
           ∙ planes-read (a .k) (a .row) (a .first) (a .n) (a .count) (omega arith) (omega arith),
       omega (arith, ap (λ (s : Scan). s .tried) (c .nothing .ensures)),
     )

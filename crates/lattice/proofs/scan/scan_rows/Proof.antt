@@ -46,9 +46,10 @@ next : (c : tie.After-scan-row Inv-loop μ-loop)
 next c =
     let a = c .before .before .before .before .args in
     let l = c .before .before .before .loop in
-    block-at (a .k) (rowBlock (a .n)) (l .tried) (read (c .before .shifted .result)) (pos 1 +ℤ pos (l .i)) (scanOf (c .scan-row .result))
-    (c .scan-row .ensures .0)
-    (shifted-again (pos 1) (l .i) (omega arith) (omega arith) (c .before .shifted .result) (c .before .shifted .ensures))
+    block-at (a .k) (rowBlock (a .n)) (l .tried) (read (c .before .shifted .result)) (pos 1 +ℤ pos (l .i))
+    (scanOf (c .scan-row .result)) (c .scan-row .ensures .0)
+    (shifted-again (pos 1) (l .i) (omega arith) (omega arith) (c .before .shifted .result)
+    (c .before .shifted .ensures))
 
 returns : tie.Need-returns Inv-loop μ-loop
 returns c =

@@ -48,10 +48,9 @@ returns-3 c =
 
 mul-result : tie.Need-mul-result
 mul-result c =
-    fits-below
-    {n = maxSide * maxSide}
-    tt
-    (mul-le-mul (range-high 1 maxSide _ (columns (c .before .before .before .before))) (range-high 1 maxSide _ (rows (c .before .before))))
+    fits-below {n = maxSide * maxSide} tt (mul-le-mul
+    (range-high 1 maxSide _ (columns (c .before .before .before .before)))
+    (range-high 1 maxSide _ (rows (c .before .before))))
 
 mul-result-2 : tie.Need-mul-result-2
 mul-result-2 c =
@@ -59,7 +58,8 @@ mul-result-2 c =
     {n = maxSide * maxSide * maxPlanes}
     tt
     (mul-le-mul
-    (mul-le-mul (range-high 1 maxSide _ (columns (c .before .before .before .before))) (range-high 1 maxSide _ (rows (c .before .before))))
+    (mul-le-mul (range-high 1 maxSide _ (columns (c .before .before .before .before)))
+    (range-high 1 maxSide _ (rows (c .before .before))))
     (range-high 1 maxPlanes _ (planes c)))
 
 returns-4 : tie.Need-returns-4
