@@ -1,4 +1,5 @@
 -- Laws about the definitions, for any reader of them.
+
 -- what stands at a position of a text
 pub mod StandsAt
 pub mod ByteTests

@@ -4,7 +4,8 @@ ghost use mathlib.Core.Path.{_≡_};
 ghost use Prim.Native.Nat.{_+_, _*_, _<_};
 ghost use lib.ListN.{length};
 ghost use Rattle.codec.specs.Field.{fieldOf, Received};
-ghost use Rattle.card.specs.Text.{digits, digitCount, numberLine, hexDigit, hexText, payloadText, cellsText, rowText, rowsText};
+ghost use Rattle.card.specs.Text.{digits, digitCount, numberLine, hexDigit, hexText, payloadText, cellsText, rowText};
+ghost use Rattle.card.specs.Text.{rowsText};
 ghost use Rattle.card.specs.Working.{Room, Printed};
 
 // Writes one byte.

@@ -49,7 +49,8 @@ fn put_head(out: &mut [u8], header: Header, key: &[u8], n: usize) -> usize
 pub(crate) fn reply_field(header: Header, classes: usize, cells: &[u8], output: &mut [u8]) -> usize
     requires { ⌜ CardHeader header ⌝ }
     requires { ⌜ FieldCells header (now cells) ⌝ }
-    ensures { λ r. ⌜ Answered (headText header classesKey classes ++ fieldText header (now (cells .entry))) (now (output .entry)) (now (output .exit)) r ⌝ }
+    ensures { λ r. ⌜ Answered (headText header classesKey classes ++ fieldText header (now (cells .entry)))
+        (now (output .entry)) (now (output .exit)) r ⌝ }
 {
     let width = header.numbers.columns;
     let lines = header.numbers.planes * header.numbers.rows;
@@ -69,7 +70,8 @@ pub(crate) fn reply_payload(
     output: &mut [u8],
 ) -> usize
     requires { ⌜ length (now payload) ≤ maxCardBytes ⌝ }
-    ensures { λ r. ⌜ Answered (headText header mendedKey mended ++ payloadText (now (payload .entry))) (now (output .entry)) (now (output .exit)) r ⌝ }
+    ensures { λ r. ⌜ Answered (headText header mendedKey mended ++ payloadText (now (payload .entry)))
+        (now (output .entry)) (now (output .exit)) r ⌝ }
 {
     let length = head_length(header, b"mended=", mended) + 9 + 2 * payload.len();
     if output.len() < length {

@@ -1,4 +1,5 @@
 -- Laws about the definitions, for any reader of them.
+
 -- numbers, lists and tests
 pub mod Xor
 pub mod BinaryDigits

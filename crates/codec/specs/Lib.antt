@@ -1,4 +1,5 @@
 -- What the crate `codec` promises: the definitions that its contracts cite, and the statements of its theorems.
+
 -- definitions
 pub mod Field
 pub mod Hamming

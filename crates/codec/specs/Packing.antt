@@ -1,6 +1,5 @@
 -- The bytes of a payload and the cells that hold their bits, as the loops of encoding and decoding go over them. Only contracts
--- of
--- functions that are private to the crate cite this file.
+-- of functions that are private to the crate cite this file.
 use Prim.Native.Nat.{ℕ, _+_, _*_, _/_, _%_, _<_, _≤_}
 use mathlib.Core.Bool.{true, cond}
 use mathlib.Core.List.{List}

@@ -72,8 +72,7 @@ pub record FieldFits (s : Shape) (field : List ℕ) : Type 0 where
   pub long : length field ≡ cellsOf s
 
 -- a field that passes the tests of its cells and classes: its length is the plan's, it has nothing but cells, and a codeword is
--- in
--- reach of each class
+-- in reach of each class
 pub record Mendable (s : Shape) (field : List ℕ) : Type 0 where
   pub fits : FieldFits s field
   pub cells : Received (fieldOf field) (cellsOf s)

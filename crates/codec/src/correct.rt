@@ -64,7 +64,9 @@ fn correct_tests(shape: Shape, field: &[u8], syndromes: &mut [u32; Shape::MAX_CL
     requires { ⌜ HoldsZeros (now syndromes) ⌝ }
     ensures { λ r. ⌜ testedNumber r ≡ correctNumber shape (now (field .entry)) ⌝ }
     ensures { λ r. ⌜ NoOutside r ⌝ }
-    ensures { λ r. ⌜ (testedNumber r ≡ 0 → HoldsSyndromes (layoutOf shape) (fieldOf (now (field .entry))) (now (syndromes .exit)) (cellsOf shape)) ⌝ }
+    ensures { λ r. ⌜ (testedNumber r ≡ 0
+        → HoldsSyndromes (layoutOf shape) (fieldOf (now (field .entry))) (now (syndromes .exit))
+        (cellsOf shape)) ⌝ }
 {
     let tested = shape.tests();
     if let Tested::Refused(why) = tested {

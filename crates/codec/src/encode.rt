@@ -67,7 +67,8 @@ fn set_checks(
     requires { ⌜ amount ≤ maxChecks ⌝ }
     requires { ⌜ ((k : ℕ) → k < amount → getD (now checks) k 0 < length (now field)) ⌝ }
     requires { ⌜ ((k : ℕ) → k < amount → getD (now places) k 0 / 32 < maxClasses) ⌝ }
-    ensures { λ _. ⌜ ChecksPut (now (checks .entry)) (now (places .entry)) (now (syndromes .entry)) (now (field .entry)) (now (field .exit)) amount ⌝ }
+    ensures { λ _. ⌜ ChecksPut (now (checks .entry)) (now (places .entry)) (now (syndromes .entry))
+        (now (field .entry)) (now (field .exit)) amount ⌝ }
 {
     let mut k = 0;
     while k < amount {

@@ -64,7 +64,10 @@ fn gather_some(field: &[u8], payload: &mut [u8], k: usize, i: usize, end: usize)
     requires { ⌜ (k ≤ i) × (i < end) × (end ≤ length (now field)) ⌝ }
     requires { ⌜ Cells (fieldOf (now field)) (length (now field)) ⌝ }
     ensures { λ r. ⌜ (i < r) × (r ≤ end) ⌝ }
-    ensures { λ r. ⌜ ((L : Layout) → Run L k i end → HoldsBytes L (fieldOf (now (field .entry))) (now (payload .entry)) i → HoldsBytes L (fieldOf (now (field .entry))) (now (payload .exit)) r) ⌝ }
+    ensures { λ r. ⌜ ((L : Layout)
+        → Run L k i end
+        → HoldsBytes L (fieldOf (now (field .entry))) (now (payload .entry)) i
+        → HoldsBytes L (fieldOf (now (field .entry))) (now (payload .exit)) r) ⌝ }
 {
     let rank = i - k;
     if begins_byte(rank, end - i, payload.len()) {
@@ -80,7 +83,10 @@ fn gather_some(field: &[u8], payload: &mut [u8], k: usize, i: usize, end: usize)
 fn gather_run(field: &[u8], payload: &mut [u8], k: usize, begin: usize, end: usize)
     requires { ⌜ (k ≤ begin) × (begin ≤ end) × (end ≤ length (now field)) ⌝ }
     requires { ⌜ Cells (fieldOf (now field)) (length (now field)) ⌝ }
-    ensures { λ _. ⌜ ((L : Layout) → Run L k begin end → HoldsBytes L (fieldOf (now (field .entry))) (now (payload .entry)) begin → HoldsBytes L (fieldOf (now (field .entry))) (now (payload .exit)) end) ⌝ }
+    ensures { λ _. ⌜ ((L : Layout)
+        → Run L k begin end
+        → HoldsBytes L (fieldOf (now (field .entry))) (now (payload .entry)) begin
+        → HoldsBytes L (fieldOf (now (field .entry))) (now (payload .exit)) end) ⌝ }
 {
     let mut i = begin;
     while i < end {

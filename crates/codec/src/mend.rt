@@ -45,7 +45,8 @@ pub(crate) fn wide_16(x: u16) -> usize
 
 // Turns over a cell of the field; a number that is no cell's leaves it.
 fn turn_cell(field: &mut [u8], cell: usize)
-    ensures { λ _. ⌜ Same (fieldOf (now (field .exit))) (turnedAt (fieldOf (now (field .entry))) cell) (length (now (field .entry))) ⌝ }
+    ensures { λ _. ⌜ Same (fieldOf (now (field .exit))) (turnedAt (fieldOf (now (field .entry))) cell)
+        (length (now (field .entry))) ⌝ }
 {
     if cell < field.len() {
         field[cell] = flip(field[cell]);
@@ -55,7 +56,11 @@ fn turn_cell(field: &mut [u8], cell: usize)
 // Turns over the damaged cell of each class below m.
 pub(crate) fn turn_cells(m: usize, damaged: &[u32; Shape::MAX_CLASSES], field: &mut [u8])
     requires { ⌜ m ≤ maxClasses ⌝ }
-    ensures { λ _. ⌜ ((L : Layout) → L .cells ≡ length (now (field .entry)) → Damaged L m (fieldOf (now (field .entry))) (now (damaged .entry)) → Same (fieldOf (now (field .exit))) (mendedTo L (fieldOf (now (field .entry))) m) (length (now (field .entry)))) ⌝ }
+    ensures { λ _. ⌜ ((L : Layout)
+        → L .cells ≡ length (now (field .entry))
+        → Damaged L m (fieldOf (now (field .entry))) (now (damaged .entry))
+        → Same (fieldOf (now (field .exit))) (mendedTo L (fieldOf (now (field .entry))) m)
+        (length (now (field .entry)))) ⌝ }
 {
     let mut a = 0;
     while a < m {
@@ -68,7 +73,10 @@ pub(crate) fn turn_cells(m: usize, damaged: &[u32; Shape::MAX_CLASSES], field: &
 fn checks_before(checks: &[u16; MAX_CHECKS], amount: usize, cell: usize) -> usize
     requires { ⌜ amount ≤ maxChecks ⌝ }
     ensures { λ r. ⌜ r ≤ amount ⌝ }
-    ensures { λ r. ⌜ ((L : Layout) → ListsChecks L (L .cells) amount (now (checks .entry)) → cell ≤ L .cells → r ≡ checksTo L cell) ⌝ }
+    ensures { λ r. ⌜ ((L : Layout)
+        → ListsChecks L (L .cells) amount (now (checks .entry))
+        → cell ≤ L .cells
+        → r ≡ checksTo L cell) ⌝ }
 {
     let mut low = 0;
     let mut high = amount;
@@ -108,7 +116,12 @@ fn flip_bit(payload: &mut [u8], k: usize)
 // Turns over the bit of a cell that holds one; a check and a number that is no cell's leave the payload.
 fn flip_at(checks: &[u16; MAX_CHECKS], amount: usize, cells: usize, cell: usize, payload: &mut [u8])
     requires { ⌜ amount ≤ maxChecks ⌝ }
-    ensures { λ _. ⌜ ((L : Layout) → L .cells ≡ cells → ListsChecks L (L .cells) amount (now (checks .entry)) → (f : Field) → HoldsBits L f (now (payload .entry)) → HoldsBits L (turnedAt f cell) (now (payload .exit))) ⌝ }
+    ensures { λ _. ⌜ ((L : Layout)
+        → L .cells ≡ cells
+        → ListsChecks L (L .cells) amount (now (checks .entry))
+        → (f : Field)
+        → HoldsBits L f (now (payload .entry))
+        → HoldsBits L (turnedAt f cell) (now (payload .exit))) ⌝ }
 {
     if cells <= cell {
         return;
@@ -132,7 +145,13 @@ pub(crate) fn flip_bits(
     payload: &mut [u8],
 )
     requires { ⌜ (amount ≤ maxChecks) × (m ≤ maxClasses) ⌝ }
-    ensures { λ _. ⌜ ((L : Layout) → L .cells ≡ cells → ListsChecks L (L .cells) amount (now (checks .entry)) → (f : Field) → Damaged L m f (now (damaged .entry)) → HoldsBits L f (now (payload .entry)) → HoldsBits L (mendedTo L f m) (now (payload .exit))) ⌝ }
+    ensures { λ _. ⌜ ((L : Layout)
+        → L .cells ≡ cells
+        → ListsChecks L (L .cells) amount (now (checks .entry))
+        → (f : Field)
+        → Damaged L m f (now (damaged .entry))
+        → HoldsBits L f (now (payload .entry))
+        → HoldsBits L (mendedTo L f m) (now (payload .exit))) ⌝ }
 {
     let mut a = 0;
     while a < m {

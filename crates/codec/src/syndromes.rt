@@ -45,7 +45,10 @@ fn take_lines(
     requires { ⌜ Ready pass (length (now e)) (now p) (now q) ⌝ }
     requires { ⌜ ((s : Shape) → Accepted s → pass ≡ passOf s → AtLine s 0 first (now e)) ⌝ }
     requires { ⌜ ((y : ℕ) → getD (now t) y 0 ≡ 0) ⌝ }
-    ensures { λ _. ⌜ ((s : Shape) → Accepted s → pass ≡ passOf s → Taken (layoutOf s) (classesOf s) (fieldOf (now (field .entry))) (now (t .exit)) (cellsOf s)) ⌝ }
+    ensures { λ _. ⌜ ((s : Shape)
+        → Accepted s
+        → pass ≡ passOf s
+        → Taken (layoutOf s) (classesOf s) (fieldOf (now (field .entry))) (now (t .exit)) (cellsOf s)) ⌝ }
 {
     let mut line = first;
     let mut n = 0;
@@ -62,7 +65,9 @@ fn take_lines(
 fn fold(t: &[u16], m: usize, syndromes: &mut [u32])
     requires { ⌜ (0 < m) × (m ≤ maxClasses) × (m ≤ length (now syndromes)) ⌝ }
     requires { ⌜ ((a : ℕ) → a < m → getD (now syndromes) a 0 ≡ 0) ⌝ }
-    ensures { λ _. ⌜ ((a : ℕ) → a < m → getD (now (syndromes .exit)) a 0 ≡ folded m a (length (now (t .entry))) (now (t .entry))) ⌝ }
+    ensures { λ _. ⌜ ((a : ℕ)
+        → a < m
+        → getD (now (syndromes .exit)) a 0 ≡ folded m a (length (now (t .entry))) (now (t .entry))) ⌝ }
     ensures { λ _. ⌜ ((a : ℕ) → m ≤ a → getD (now (syndromes .exit)) a 0 ≡ getD (now (syndromes .entry)) a 0) ⌝ }
 {
     let mut a = 0;
@@ -84,12 +89,18 @@ fn listed_syndromes(
     t: &mut [u16],
     syndromes: &mut [u32],
 )
-    requires { ⌜ OfShape pass × (2 ≤ pass .classes) × (length (now field) ≡ pass .cells) × (maxClasses ≤ length (now syndromes)) ⌝ }
+    requires { ⌜ OfShape pass
+        × (2 ≤ pass .classes)
+        × (length (now field) ≡ pass .cells)
+        × (maxClasses ≤ length (now syndromes)) ⌝ }
     requires { ⌜ Cells (fieldOf (now field)) (length (now field)) ⌝ }
     requires { ⌜ HoldsZeros (now syndromes) ⌝ }
     requires { ⌜ Room pass (length (now e)) (length (now p)) (length (now q)) × (length (now t) ≡ length (now e)) ⌝ }
     requires { ⌜ ((y : ℕ) → getD (now t) y 0 ≡ 0) ⌝ }
-    ensures { λ _. ⌜ ((s : Shape) → Accepted s → pass ≡ passOf s → HoldsSyndromes (layoutOf s) (fieldOf (now (field .entry))) (now (syndromes .exit)) (cellsOf s)) ⌝ }
+    ensures { λ _. ⌜ ((s : Shape)
+        → Accepted s
+        → pass ≡ passOf s
+        → HoldsSyndromes (layoutOf s) (fieldOf (now (field .entry))) (now (syndromes .exit)) (cellsOf s)) ⌝ }
 {
     let first = first_line(pass, e, p, q);
     take_lines(pass, first, field, e, p, q, t);
@@ -98,10 +109,16 @@ fn listed_syndromes(
 
 // The syndromes of two classes or more; the array is 0 at entry.
 fn line_syndromes(pass: Pass, field: &[u8], syndromes: &mut [u32])
-    requires { ⌜ OfShape pass × (2 ≤ pass .classes) × (length (now field) ≡ pass .cells) × (maxClasses ≤ length (now syndromes)) ⌝ }
+    requires { ⌜ OfShape pass
+        × (2 ≤ pass .classes)
+        × (length (now field) ≡ pass .cells)
+        × (maxClasses ≤ length (now syndromes)) ⌝ }
     requires { ⌜ Cells (fieldOf (now field)) (length (now field)) ⌝ }
     requires { ⌜ HoldsZeros (now syndromes) ⌝ }
-    ensures { λ _. ⌜ ((s : Shape) → Accepted s → pass ≡ passOf s → HoldsSyndromes (layoutOf s) (fieldOf (now (field .entry))) (now (syndromes .exit)) (cellsOf s)) ⌝ }
+    ensures { λ _. ⌜ ((s : Shape)
+        → Accepted s
+        → pass ≡ passOf s
+        → HoldsSyndromes (layoutOf s) (fieldOf (now (field .entry))) (now (syndromes .exit)) (cellsOf s)) ⌝ }
 {
     let wide = pass.classes + pass.columns;
     let long = wide + pass.classes;
@@ -125,7 +142,9 @@ fn one_syndrome(n: usize, field: &[u8], syndromes: &mut [u32])
     requires { ⌜ (n ≤ length (now field)) × (n ≤ maxCells) × (0 < length (now syndromes)) ⌝ }
     requires { ⌜ Cells (fieldOf (now field)) n ⌝ }
     requires { ⌜ HoldsZeros (now syndromes) ⌝ }
-    ensures { λ _. ⌜ ((L : Layout) → ((i : ℕ) → i < n → L .class i ≡ 0) → HoldsSyndromes L (fieldOf (now (field .entry))) (now (syndromes .exit)) n) ⌝ }
+    ensures { λ _. ⌜ ((L : Layout)
+        → ((i : ℕ) → i < n → L .class i ≡ 0)
+        → HoldsSyndromes L (fieldOf (now (field .entry))) (now (syndromes .exit)) n) ⌝ }
 {
     let mut sum: u32 = 0;
     let mut i = 0;
@@ -141,7 +160,10 @@ pub(crate) fn field_syndromes(pass: Pass, field: &[u8], syndromes: &mut [u32])
     requires { ⌜ OfShape pass × (length (now field) ≡ pass .cells) × (maxClasses ≤ length (now syndromes)) ⌝ }
     requires { ⌜ Cells (fieldOf (now field)) (length (now field)) ⌝ }
     requires { ⌜ HoldsZeros (now syndromes) ⌝ }
-    ensures { λ _. ⌜ ((s : Shape) → Accepted s → pass ≡ passOf s → HoldsSyndromes (layoutOf s) (fieldOf (now (field .entry))) (now (syndromes .exit)) (cellsOf s)) ⌝ }
+    ensures { λ _. ⌜ ((s : Shape)
+        → Accepted s
+        → pass ≡ passOf s
+        → HoldsSyndromes (layoutOf s) (fieldOf (now (field .entry))) (now (syndromes .exit)) (cellsOf s)) ⌝ }
 {
     if pass.classes == 1 {
         one_syndrome(pass.cells, field, syndromes);

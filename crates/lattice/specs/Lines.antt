@@ -1,6 +1,5 @@
 -- The lines of a field, for a pass that divides nothing. Line l is the cells l × W to l × W + W − 1, a row of a plane. Its
--- classes
--- are a stretch of one table. Only contracts of functions that pass over the cells cite this file.
+-- classes are a stretch of one table. Only contracts of functions that pass over the cells cite this file.
 use Prim.Native.Nat.{ℕ, _+_, _-_, _*_, _/_, _%_, _<_, _≤_}
 use mathlib.Core.Bool.{cond}
 use mathlib.Core.List.{List}

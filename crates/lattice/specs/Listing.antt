@@ -1,6 +1,5 @@
 -- The cells that hold a check, listed in byte order, the runs of cells between them, and the cells that have given positions.
--- Only
--- contracts of functions that pass over the cells cite this file.
+-- Only contracts of functions that pass over the cells cite this file.
 use Prim.Native.Nat.{ℕ, _+_, _-_, _*_, _<_, _≤_}
 use mathlib.Core.Bool.{true, false, not}
 use mathlib.Core.List.{List}

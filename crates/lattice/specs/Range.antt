@@ -8,6 +8,6 @@ use lib.Dec.{leb}
 unfoldable pub inRange : ℕ → ℕ → ℕ → Bool
 inRange low high x = leb low x && leb x high
 
--- each refusal's condition by itself
+-- x is below `low` or above `high`
 abbrev pub Outside : ℕ → ℕ → ℕ → Type 0
 Outside low high x = (x < low) ⊎ (high < x)

@@ -18,7 +18,11 @@ use crate::shape::Shape;
 fn count_starts(pass: Pass, starts: &mut [u32])
     requires { ⌜ OfShape pass × (maxClasses ≤ length (now starts)) ⌝ }
     requires { ⌜ ((a : ℕ) → getD (now starts) a 0 ≡ 0) ⌝ }
-    ensures { λ _. ⌜ ((s : Shape) → Accepted s → pass ≡ passOf s → (a : ℕ) → getD (now (starts .exit)) a 0 ≡ startsAt (lineStart (settingsOf s) (s .rows)) a (pass .lines)) ⌝ }
+    ensures { λ _. ⌜ ((s : Shape)
+        → Accepted s
+        → pass ≡ passOf s
+        → (a : ℕ)
+        → getD (now (starts .exit)) a 0 ≡ startsAt (lineStart (settingsOf s) (s .rows)) a (pass .lines)) ⌝ }
 {
     let mut line = Line {
         left: pass.last,
@@ -49,13 +53,16 @@ fn sum_starts(m: usize, starts: &[u32], heads: &mut [u32])
     }
 }
 
-// The size of each class below m, from those sums: `base` for the whole rounds of the table in the lines, and the lines that begin
-// in the `gap` places up to the class's own.
+// The size of each class below m, from those sums: `base` for the whole rounds of the table in the lines, and the lines that
+// begin in the `gap` places up to the class's own.
 fn spread(m: usize, gap: usize, base: u32, heads: &[u32], sizes: &mut [u32])
     requires { ⌜ (gap ≤ m) × (m ≤ maxClasses) × (base ≤ maxCells) × (2 * m < length (now heads)) × (m ≤ length (now sizes)) ⌝ }
     requires { ⌜ ((y : ℕ) → y ≤ 2 * m → getD (now heads) y 0 ≤ y * maxCells) ⌝ }
     requires { ⌜ ((a : ℕ) → a < m → getD (now heads) (a + 1 + m - gap) 0 ≤ base + getD (now heads) (a + 1 + m) 0) ⌝ }
-    ensures { λ _. ⌜ ((a : ℕ) → a < m → getD (now (sizes .exit)) a 0 + getD (now (heads .entry)) (a + 1 + m - gap) 0 ≡ base + getD (now (heads .entry)) (a + 1 + m) 0) ⌝ }
+    ensures { λ _. ⌜ ((a : ℕ)
+        → a < m
+        → getD (now (sizes .exit)) a 0 + getD (now (heads .entry)) (a + 1 + m - gap) 0
+        ≡ base + getD (now (heads .entry)) (a + 1 + m) 0) ⌝ }
     ensures { λ _. ⌜ ((a : ℕ) → m ≤ a → getD (now (sizes .exit)) a 0 ≡ getD (now (sizes .entry)) a 0) ⌝ }
 {
     let mut a = 0;
@@ -69,7 +76,11 @@ fn spread(m: usize, gap: usize, base: u32, heads: &[u32], sizes: &mut [u32])
 pub(crate) fn sizes_by(pass: Pass, sizes: &mut [u32])
     requires { ⌜ OfShape pass × (maxClasses ≤ length (now sizes)) ⌝ }
     requires { ⌜ ((a : ℕ) → getD (now sizes) a 0 ≡ 0) ⌝ }
-    ensures { λ _. ⌜ ((s : Shape) → Accepted s → pass ≡ passOf s → (a : ℕ) → getD (now (sizes .exit)) a 0 ≡ size (layoutOf s) a) ⌝ }
+    ensures { λ _. ⌜ ((s : Shape)
+        → Accepted s
+        → pass ≡ passOf s
+        → (a : ℕ)
+        → getD (now (sizes .exit)) a 0 ≡ size (layoutOf s) a) ⌝ }
 {
     let m = pass.classes;
     let mut starts = [0u32; Shape::MAX_CLASSES];

@@ -55,7 +55,10 @@ fn clear(sizes: &mut [u32])
 
 // The size of each class; for a shape that the constructor refuses the array keeps its entries.
 pub fn class_sizes(shape: Shape, sizes: &mut [u32; Shape::MAX_CLASSES])
-    ensures { λ r. ⌜ ((a : ℕ) → a < maxClasses → getD (now (sizes .exit)) a 0 ≡ beside (shapeNumber shape) (size (layoutOf shape) a) (getD (now (sizes .entry)) a 0)) ⌝ }
+    ensures { λ r. ⌜ ((a : ℕ)
+        → a < maxClasses
+        → getD (now (sizes .exit)) a 0
+        ≡ beside (shapeNumber shape) (size (layoutOf shape) a) (getD (now (sizes .entry)) a 0)) ⌝ }
 {
     let tested = shape.tests();
     if let Tested::Refused(_) = tested {
@@ -65,7 +68,8 @@ pub fn class_sizes(shape: Shape, sizes: &mut [u32; Shape::MAX_CLASSES])
     sizes_by(shape.pass(), sizes);
 }
 
-// The number of cells that hold no check, where `sizes` holds the size of each of that many classes; 0 for more than there can be.
+// The number of cells that hold no check, where `sizes` holds the size of each of that many classes; 0 for more than there can
+// be.
 pub fn data_in(sizes: &[u32; Shape::MAX_CLASSES], classes: usize) -> usize
     ensures { λ r. ⌜ (classes ≤ maxClasses → r ≡ dataIn (now (sizes .entry)) classes) ⌝ }
 {

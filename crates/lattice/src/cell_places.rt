@@ -62,7 +62,10 @@ fn cell_at(pass: Pass, class: usize, position: u32) -> u32
 // For each class of an accepted shape the cell that has the class's entry as its position, or `NO_CELL`.
 fn place_all(pass: Pass, positions: &[u32], cells: &mut [u32])
     requires { ⌜ OfShape pass × (maxClasses ≤ length (now positions)) × (maxClasses ≤ length (now cells)) ⌝ }
-    ensures { λ _. ⌜ ((s : Shape) → Accepted s → pass ≡ passOf s → CellsAt (layoutOf s) (pass .classes) (now (positions .entry)) (now (cells .exit))) ⌝ }
+    ensures { λ _. ⌜ ((s : Shape)
+        → Accepted s
+        → pass ≡ passOf s
+        → CellsAt (layoutOf s) (pass .classes) (now (positions .entry)) (now (cells .exit))) ⌝ }
 {
     let mut a = 0;
     while a < pass.classes {
@@ -78,7 +81,8 @@ pub fn cells_at(
     positions: &[u32; Shape::MAX_CLASSES],
     cells: &mut [u32; Shape::MAX_CLASSES],
 )
-    ensures { λ _. ⌜ (Accepted shape → CellsAt (layoutOf shape) (classesOf shape) (now (positions .entry)) (now (cells .exit))) ⌝ }
+    ensures { λ _. ⌜ (Accepted shape
+        → CellsAt (layoutOf shape) (classesOf shape) (now (positions .entry)) (now (cells .exit))) ⌝ }
     ensures { λ _. ⌜ ((Accepted shape → ⊥) → now (cells .exit) ≡ now (cells .entry)) ⌝ }
 {
     let tested = shape.tests();

@@ -36,7 +36,10 @@ fn fill_gains(gained: &mut [u16], m: usize, w: usize)
 fn count_line(counts: &mut [u32], gains: &[u16], m: usize, from: usize)
     requires { ⌜ (m ≤ length (now counts)) × (m + from ≤ length (now gains)) ⌝ }
     requires { ⌜ ((a : ℕ) → a < m → getD (now counts) a 0 ≤ maxCells) ⌝ }
-    ensures { λ _. ⌜ ((a : ℕ) → a < m → getD (now (counts .exit)) a 0 ≡ getD (now (counts .entry)) a 0 + getD (now (gains .entry)) (a + from) 0) ⌝ }
+    ensures { λ _. ⌜ ((a : ℕ)
+        → a < m
+        → getD (now (counts .exit)) a 0
+        ≡ getD (now (counts .entry)) a 0 + getD (now (gains .entry)) (a + from) 0) ⌝ }
     ensures { λ _. ⌜ ((a : ℕ) → m ≤ a → getD (now (counts .exit)) a 0 ≡ getD (now (counts .entry)) a 0) ⌝ }
 {
     let mut a = 0;
@@ -157,7 +160,9 @@ fn place_number(a: usize, position: u32) -> u16
 fn put(cells: &mut [u16], places: &mut [u16], amount: usize, cell: u16, place: u16) -> usize
     requires { ⌜ (maxChecks ≤ length (now cells)) × (maxChecks ≤ length (now places)) ⌝ }
     ensures { λ r. ⌜ (amount ≤ maxChecks → r ≤ maxChecks) ⌝ }
-    ensures { λ r. ⌜ (amount < maxChecks → PutLast amount r cell place (now (cells .entry)) (now (places .entry)) (now (cells .exit)) (now (places .exit))) ⌝ }
+    ensures { λ r. ⌜ (amount < maxChecks
+        → PutLast amount r cell place (now (cells .entry)) (now (places .entry)) (now (cells .exit))
+        (now (places .exit))) ⌝ }
 {
     if amount < MAX_CHECKS {
         cells[amount] = cell;
@@ -178,7 +183,13 @@ fn list_cell(
     amount: usize,
 ) -> usize
     requires { ⌜ (a < maxClasses) × (cell < maxCells) × (getD (now counts) a 0 < maxCells) ⌝ }
-    ensures { λ r. ⌜ ((L : Layout) → L .class cell ≡ a → checksTo L (cell + 1) ≤ maxChecks → ListedTo L cell amount (now (sizes .entry)) (now (counts .entry)) (now (cells .entry)) (now (places .entry)) → ListedTo L (cell + 1) r (now (sizes .entry)) (now (counts .exit)) (now (cells .exit)) (now (places .exit))) ⌝ }
+    ensures { λ r. ⌜ ((L : Layout)
+        → L .class cell ≡ a
+        → checksTo L (cell + 1) ≤ maxChecks
+        → ListedTo L cell amount (now (sizes .entry)) (now (counts .entry)) (now (cells .entry))
+        (now (places .entry))
+        → ListedTo L (cell + 1) r (now (sizes .entry)) (now (counts .exit)) (now (cells .exit))
+        (now (places .exit))) ⌝ }
 {
     let position = count_in(counts, a);
     if is_check(sizes[a], position) {
@@ -201,7 +212,8 @@ fn list_line(
 ) -> usize
     requires { ⌜ OfShape pass × (l < pass .lines) × LineOf pass l line ⌝ }
     requires { ⌜ LinesListed pass l amount (now sizes) (now counts) (now cells) (now places) ⌝ }
-    ensures { λ r. ⌜ LinesListed pass (l + 1) r (now (sizes .entry)) (now (counts .exit)) (now (cells .exit)) (now (places .exit)) ⌝ }
+    ensures { λ r. ⌜ LinesListed pass (l + 1) r (now (sizes .entry)) (now (counts .exit)) (now (cells .exit))
+        (now (places .exit)) ⌝ }
 {
     let first = l * pass.columns;
     let mut n = amount;
@@ -234,10 +246,12 @@ fn list_or_count(
     at: Progress,
 ) -> Progress
     requires { ⌜ OfShape pass × (l < pass .lines) × LineOf pass l line ⌝ }
-    requires { ⌜ (2 * pass .classes ≤ length (now gains)) × Gains (pass .classes) (pass .columns) (2 * pass .classes) (now gains) ⌝ }
+    requires { ⌜ (2 * pass .classes ≤ length (now gains))
+        × Gains (pass .classes) (pass .columns) (2 * pass .classes) (now gains) ⌝ }
     requires { ⌜ LinesListed pass l (at .amount) (now sizes) (now counts) (now cells) (now places) ⌝ }
     requires { ⌜ FreeAhead pass (at .free) (now counts) ⌝ }
-    ensures { λ r. ⌜ LinesListed pass (l + 1) (r .amount) (now (sizes .entry)) (now (counts .exit)) (now (cells .exit)) (now (places .exit)) ⌝ }
+    ensures { λ r. ⌜ LinesListed pass (l + 1) (r .amount) (now (sizes .entry)) (now (counts .exit))
+        (now (cells .exit)) (now (places .exit)) ⌝ }
     ensures { λ r. ⌜ FreeAhead pass (r .free) (now (counts .exit)) ⌝ }
 {
     let m = pass.classes;
@@ -263,8 +277,10 @@ fn list_lines(
     places: &mut [u16; MAX_CHECKS],
 ) -> usize
     requires { ⌜ OfShape pass × ((a : ℕ) → getD (now counts) a 0 ≡ 0) ⌝ }
-    requires { ⌜ (2 * pass .classes ≤ length (now gains)) × Gains (pass .classes) (pass .columns) (2 * pass .classes) (now gains) ⌝ }
-    ensures { λ r. ⌜ LinesListed pass (pass .lines) r (now (sizes .entry)) (now (counts .exit)) (now (cells .exit)) (now (places .exit)) ⌝ }
+    requires { ⌜ (2 * pass .classes ≤ length (now gains))
+        × Gains (pass .classes) (pass .columns) (2 * pass .classes) (now gains) ⌝ }
+    ensures { λ r. ⌜ LinesListed pass (pass .lines) r (now (sizes .entry)) (now (counts .exit)) (now (cells .exit))
+        (now (places .exit)) ⌝ }
 {
     let mut line = Line {
         left: pass.last,
@@ -280,15 +296,18 @@ fn list_lines(
     at.amount
 }
 
-// The cells that hold a check, in byte order, and the place of each, where `sizes` holds the size of each class. Gives their number;
-// 0 for a shape that the constructor refuses.
+// The cells that hold a check, in byte order, and the place of each, where `sizes` holds the size of each class. Gives their
+// number; 0 for a shape that the constructor refuses.
 pub fn check_cells(
     shape: Shape,
     sizes: &[u32; Shape::MAX_CLASSES],
     cells: &mut [u16; MAX_CHECKS],
     places: &mut [u16; MAX_CHECKS],
 ) -> usize
-    ensures { λ r. ⌜ (Accepted shape → ((a : ℕ) → a < maxClasses → getD (now (sizes .entry)) a 0 ≡ size (layoutOf shape) a) → ListsChecks (layoutOf shape) (cellsOf shape) r (now (cells .exit)) × HoldsPlaces (layoutOf shape) r (now (cells .exit)) (now (places .exit))) ⌝ }
+    ensures { λ r. ⌜ (Accepted shape
+        → ((a : ℕ) → a < maxClasses → getD (now (sizes .entry)) a 0 ≡ size (layoutOf shape) a)
+        → ListsChecks (layoutOf shape) (cellsOf shape) r (now (cells .exit))
+        × HoldsPlaces (layoutOf shape) r (now (cells .exit)) (now (places .exit))) ⌝ }
     ensures { λ r. ⌜ r ≤ maxChecks ⌝ }
 {
     let tested = shape.tests();

@@ -97,7 +97,12 @@ pub fn next_place(a: usize, m: usize) -> usize
 
 // The line after.
 pub fn next_line(pass: Pass, line: Line) -> Line
-    ensures { λ r. ⌜ ((s : Shape) → Accepted s → pass ≡ passOf s → (l : ℕ) → IsLine (settingsOf s) (s .rows) l line → IsLine (settingsOf s) (s .rows) (l + 1) r) ⌝ }
+    ensures { λ r. ⌜ ((s : Shape)
+        → Accepted s
+        → pass ≡ passOf s
+        → (l : ℕ)
+        → IsLine (settingsOf s) (s .rows) l line
+        → IsLine (settingsOf s) (s .rows) (l + 1) r) ⌝ }
 {
     if line.left > 0 {
         Line {

@@ -51,7 +51,8 @@ fn repeat(p: &mut [u16], m: usize, d: u16)
 // The list of the first line.
 fn first_positions(e: &mut [u16], m: usize)
     requires { ⌜ (0 < m) × (m ≤ length (now e)) × (length (now e) ≤ 4096) ⌝ }
-    ensures { λ _. ⌜ ((L : Layout) (table : ℕ → ℕ) (off : ℕ) → Positions L m table 0 off 0 (length (now (e .entry))) (now (e .exit))) ⌝ }
+    ensures { λ _. ⌜ ((L : Layout) (table : ℕ → ℕ) (off : ℕ)
+        → Positions L m table 0 off 0 (length (now (e .entry))) (now (e .exit))) ⌝ }
 {
     fill_low(e, m, 0, 1);
     repeat(e, m, 1);
@@ -69,7 +70,10 @@ pub(crate) fn gains(p: &mut [u16], m: usize, n: usize)
 // The step of the list: what is gained from the place `from` on, less `down`, in 16 bits.
 fn advance(e: &mut [u16], p: &[u16], from: usize, down: u16)
     requires { ⌜ length (now e) + from ≤ length (now p) ⌝ }
-    ensures { λ _. ⌜ ((y : ℕ) → y < length (now (e .entry)) → getD (now (e .exit)) y 0 ≡ (getD (now (e .entry)) y 0 + getD (now (p .entry)) (y + from) 0 + (65536 - down)) % 65536) ⌝ }
+    ensures { λ _. ⌜ ((y : ℕ)
+        → y < length (now (e .entry))
+        → getD (now (e .exit)) y 0
+        ≡ (getD (now (e .entry)) y 0 + getD (now (p .entry)) (y + from) 0 + (65536 - down)) % 65536) ⌝ }
 {
     let less = 65536 - down as u32;
     let mut y = 0;
@@ -108,7 +112,8 @@ fn has_room(pass: Pass, e: usize, p: usize, q: usize) -> bool
 // Fills lists that have room.
 fn fill_lists(pass: Pass, e: &mut [u16], p: &mut [u16], q: &mut [u16])
     requires { ⌜ Small pass (length (now e)) (length (now p)) (length (now q)) ⌝ }
-    ensures { λ _. ⌜ ((L : Layout) (table : ℕ → ℕ) (off : ℕ) → Positions L (pass .classes) table 0 off 0 (length (now (e .entry))) (now (e .exit))) ⌝ }
+    ensures { λ _. ⌜ ((L : Layout) (table : ℕ → ℕ) (off : ℕ)
+        → Positions L (pass .classes) table 0 off 0 (length (now (e .entry))) (now (e .exit))) ⌝ }
     ensures { λ _. ⌜ Gains (pass .classes) (pass .columns + pass .row) (length (now (p .entry))) (now (p .exit)) ⌝ }
     ensures { λ _. ⌜ Gains (pass .classes) (pass .columns + pass .plane) (length (now (q .entry))) (now (q .exit)) ⌝ }
 {
@@ -120,7 +125,12 @@ fn fill_lists(pass: Pass, e: &mut [u16], p: &mut [u16], q: &mut [u16])
 // Fills the lists for a pass: e with the positions of the first line, p and q with what a line and its step give, to the next row
 // and to the next plane; where they have no room they stay. Gives the first line.
 pub fn first_line(pass: Pass, e: &mut [u16], p: &mut [u16], q: &mut [u16]) -> Line
-    ensures { λ r. ⌜ ((s : Shape) → Accepted s → pass ≡ passOf s → Room pass (length (now (e .entry))) (length (now (p .entry))) (length (now (q .entry))) → AtLine s 0 r (now (e .exit)) × Ready pass (length (now (e .entry))) (now (p .exit)) (now (q .exit))) ⌝ }
+    ensures { λ r. ⌜ ((s : Shape)
+        → Accepted s
+        → pass ≡ passOf s
+        → Room pass (length (now (e .entry))) (length (now (p .entry))) (length (now (q .entry)))
+        → AtLine s 0 r (now (e .exit))
+        × Ready pass (length (now (e .entry))) (now (p .exit)) (now (q .exit))) ⌝ }
 {
     if has_room(pass, e.len(), p.len(), q.len()) {
         fill_lists(pass, e, p, q);
@@ -133,7 +143,16 @@ pub fn first_line(pass: Pass, e: &mut [u16], p: &mut [u16], q: &mut [u16]) -> Li
 
 // The step of the list to a line that begins at `next`, `back` places before `start`; where p has no room it stays.
 fn step(e: &mut [u16], p: &[u16], m: usize, start: usize, back: usize, next: usize)
-    ensures { λ _. ⌜ (next ≤ m → length (now (e .entry)) + m ≤ length (now (p .entry)) → (y : ℕ) → y < length (now (e .entry)) → getD (now (e .exit)) y 0 ≡ (getD (now (e .entry)) y 0 + getD (now (p .entry)) (y + (m - next)) 0 + (65536 - round start back)) % 65536) ⌝ }
+    ensures { λ _. ⌜ (next ≤ m
+        → length (now (e .entry)) + m ≤ length (now (p .entry))
+        → (y : ℕ)
+        → y < length (now (e .entry))
+        → getD (now (e .exit)) y 0
+        ≡
+        (getD (now (e .entry)) y 0
+        + getD (now (p .entry)) (y + (m - next)) 0
+        + (65536 - round start back))
+        % 65536) ⌝ }
 {
     if m < next {
         return;
@@ -150,7 +169,15 @@ fn step(e: &mut [u16], p: &[u16], m: usize, start: usize, back: usize, next: usi
 
 // Steps the list to the line after, which is given. With one class, where a position may need 17 bits, the list does not serve.
 pub fn next_positions(pass: Pass, line: Line, e: &mut [u16], p: &[u16], q: &[u16]) -> Line
-    ensures { λ r. ⌜ ((s : Shape) → Accepted s → pass ≡ passOf s → 2 ≤ pass .classes → Ready pass (length (now (e .entry))) (now (p .entry)) (now (q .entry)) → (l : ℕ) → l < pass .lines → AtLine s l line (now (e .entry)) → AtLine s (l + 1) r (now (e .exit))) ⌝ }
+    ensures { λ r. ⌜ ((s : Shape)
+        → Accepted s
+        → pass ≡ passOf s
+        → 2 ≤ pass .classes
+        → Ready pass (length (now (e .entry))) (now (p .entry)) (now (q .entry))
+        → (l : ℕ)
+        → l < pass .lines
+        → AtLine s l line (now (e .entry))
+        → AtLine s (l + 1) r (now (e .exit))) ⌝ }
 {
     let next = next_line(pass, line);
     if line.left > 0 {

@@ -1,7 +1,8 @@
 // The shape of a field: its limits, its constructor and its number of cells.
 ghost use mathlib.Core.Path.{_≡_};
 ghost use Rattle.lattice.specs.Refusal.{testedNumber, figure};
-ghost use Rattle.lattice.specs.Shape.{maxSide, maxPlanes, maxCells, maxFlatStrength, maxStackStrength, maxClasses, maxStrength, sizeOk, strengthOk, shapeFrom, shapeNumber, cellsOf};
+ghost use Rattle.lattice.specs.Shape.{maxSide, maxPlanes, maxCells, maxFlatStrength, maxStackStrength, maxClasses};
+ghost use Rattle.lattice.specs.Shape.{maxStrength, sizeOk, strengthOk, shapeFrom, shapeNumber, cellsOf};
 ghost use Rattle.lattice.specs.Answer.{IsNewShape, newNumber};
 use crate::range::within;
 use crate::refusal::Refusal;
@@ -102,8 +103,14 @@ impl Shape {
     // The shape of these numbers, or the refusal 1 or 2.
     pub fn new(numbers: ShapeNumbers) -> NewShape
         ensures { λ r. ⌜ IsNewShape numbers r ⌝ }
-        ensures limits { λ r. do ⌜ ((← ⟦Shape::MAX_SIDE⟧ .entry) ≡ maxSide) × ((← ⟦Shape::MAX_PLANES⟧ .entry) ≡ maxPlanes) × ((← ⟦Shape::MAX_CELLS⟧ .entry) ≡ maxCells) ⌝ }
-        ensures strengths { λ r. do ⌜ ((← ⟦Shape::MAX_FLAT_STRENGTH⟧ .entry) ≡ maxFlatStrength) × ((← ⟦Shape::MAX_STACK_STRENGTH⟧ .entry) ≡ maxStackStrength) × ((← ⟦Shape::MAX_CLASSES⟧ .entry) ≡ maxClasses) ⌝ }
+        ensures limits { λ r. do
+          ⌜ ((← ⟦Shape::MAX_SIDE⟧ .entry) ≡ maxSide)
+              × ((← ⟦Shape::MAX_PLANES⟧ .entry) ≡ maxPlanes)
+              × ((← ⟦Shape::MAX_CELLS⟧ .entry) ≡ maxCells) ⌝ }
+        ensures strengths { λ r. do
+          ⌜ ((← ⟦Shape::MAX_FLAT_STRENGTH⟧ .entry) ≡ maxFlatStrength)
+              × ((← ⟦Shape::MAX_STACK_STRENGTH⟧ .entry) ≡ maxStackStrength)
+              × ((← ⟦Shape::MAX_CLASSES⟧ .entry) ≡ maxClasses) ⌝ }
     {
         let tested = Shape::tests_of(numbers);
         if let Tested::Refused(why) = tested {

@@ -3,7 +3,8 @@
 ghost use mathlib.Core.Path.{_≡_};
 ghost use Rattle.lattice.specs.Cell.{cell};
 ghost use Rattle.lattice.specs.Shape.{shapeFrom};
-ghost use Rattle.varmintfoil.specs.Boundary.{asNumber, IsPlanResult, IsClassResult, IsEncodeResult, IsDecodeResult, IsCorrectResult, IsDistanceResult};
+ghost use Rattle.varmintfoil.specs.Boundary.{asNumber, IsPlanResult, IsClassResult, IsEncodeResult, IsDecodeResult};
+ghost use Rattle.varmintfoil.specs.Boundary.{IsCorrectResult, IsDistanceResult};
 
 mod operations;
 

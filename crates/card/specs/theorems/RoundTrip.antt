@@ -18,8 +18,7 @@ use Rattle.card.specs.Card.{shapeOf, CardHeader, payloadCard, fieldCard}
 use Rattle.card.specs.Program.{answer}
 
 -- what is printed for a payload is the header, the line `classes` and a rest; with that line taken out it is the card text of the
--- field written, and is
--- read back to `mended=0` and the payload
+-- field written, and is read back to `mended=0` and the payload
 pub record ReadBack (h : Header) (p : List ℕ) : Type 0 where
   pub rest : List ℕ
   pub printed : answer (payloadCard h p) ≡ headerText h ++ (numberLine classesKey (planClasses (shapeOf h)) ++ rest)
@@ -27,8 +26,7 @@ pub record ReadBack (h : Header) (p : List ℕ) : Type 0 where
   pub read : answer (headerText h ++ rest) ≡ headerText h ++ (numberLine mendedKey 0 ++ payloadText p)
 
 -- Theorem. What the program prints for a payload it reads back; and with demand 3's damage to the rows, `mended` is the number of
--- cells changed and the
--- payload is the same.
+-- cells changed and the payload is the same.
 pub record PrintedIsRead : Type 1 where
   pub whole : (h : Header) → CardHeader h → (p : List ℕ) → length p ≡ planBytes (shapeOf h) → Bytes p → ReadBack h p
   pub damaged : (h : Header) → CardHeader h → (p : List ℕ) → length p ≡ planBytes (shapeOf h) → Bytes p

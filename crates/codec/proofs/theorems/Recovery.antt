@@ -149,8 +149,7 @@ figure-most zero x = le-refl x
 figure-most (suc n) x = omega arith
 
 -- Theorem (demand 3). Every labelling in which no cluster of at most t cells has one label twice has at least as many labels as
--- the plan
--- gives classes.
+-- the plan gives classes.
 pub classesNeeded : ClassesNeeded
 unfolding planClasses
 classesNeeded s flat some wide high L separates =

@@ -15,8 +15,7 @@ use Rattle.codec.proofs.theory.HeldPayload.{carries-same, encoded-diffe
 use Rattle.codec.proofs.theory.WrittenCells.{written-cells}
 
 -- Theorem. The field written has the plan's cells, is lawful, carries the payload, and is the only such field; two different
--- payloads give two
--- different fields.
+-- payloads give two different fields.
 pub encodeMeaning : EncodeMeaning
 unfolding encodedField
 encodeMeaning =

@@ -35,8 +35,7 @@ OneNearest =
     → (g h : Field) → NearestTo s (fieldOf field) g → NearestTo s (fieldOf field) h → Same g h (cellsOf s)
 
 -- Theorem (demand 2). Decoding gives 0 exactly when there is one with right padding, and then leaves the payload that it carries
--- and the number
--- of cells where it differs; 6 exactly when there is none; 7 exactly when there is one with wrong padding.
+-- and the number of cells where it differs; 6 exactly when there is none; 7 exactly when there is one with wrong padding.
 pub record DecodingMeans (s : Shape) (payload field : List ℕ) : Type 0 where
   pub success : (decodeNumber s payload field ≡ 0) ↔ RightField s (fieldOf field)
   pub none : (decodeNumber s payload field ≡ 6) ↔ ((g : Field) → ¬ NearestTo s (fieldOf field) g)

@@ -37,8 +37,7 @@ RecoveryByClass =
     → Recovered s p (encodedField s p) (damagedField s p selected) buffer
 
 -- Theorem (demand 3). For every shape that the plan accepts, every payload of the plan's length, every cluster of the field of at
--- most t cells
--- and every selection of its cells, none and all included.
+-- most t cells and every selection of its cells, none and all included.
 abbrev pub Recovery : Type 1
 Recovery =
     (s : Shape) → Accepted s
@@ -49,8 +48,7 @@ Recovery =
     → Recovered s p (encodedField s p) (damagedField s p selected) buffer
 
 -- Theorem (demand 3). On every flat field with t at least 1 and both sides at least t, every labelling in which no cluster of at
--- most t cells has
--- one label twice has at least as many labels as the plan gives classes.
+-- most t cells has one label twice has at least as many labels as the plan gives classes.
 abbrev pub ClassesNeeded : Type 1
 ClassesNeeded =
     (s : Shape) → s .planes ≡ 1 → 1 ≤ s .strength → s .strength ≤ s .columns → s .strength ≤ s .rows

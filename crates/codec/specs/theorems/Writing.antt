@@ -13,9 +13,8 @@ use Rattle.codec.specs.Plan.{planBytes}
 use Rattle.codec.specs.Encode.{encodedField}
 
 -- Theorem (demand 2). For every shape that the plan accepts and every payload of the plan's length the field written has the
--- plan's cells,
--- is lawful, has the payload's bits and the padding in the cells that hold no check, and is the only such field; and two
--- different payloads give two different fields.
+-- plan's cells, is lawful, has the payload's bits and the padding in the cells that hold no check, and is the only such field;
+-- and two different payloads give two different fields.
 pub record EncodeMeaning : Type 0 where
   pub long : (s : Shape) (p : List ℕ) → length (encodedField s p) ≡ cellsOf s
   pub lawful : (s : Shape) → Accepted s → (p : List ℕ) → length p ≡ planBytes s → Bytes p

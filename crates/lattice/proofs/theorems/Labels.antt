@@ -15,8 +15,7 @@ use Rattle.lattice.proofs.theorems.Classes.{classesBelow}
 use Rattle.lattice.proofs.theorems.Clusters.{clusterClasses}
 
 -- Theorem. On every flat field with t at least 1 and both sides at least t, every labelling in which no cluster of at most t
--- cells has
--- one label twice has at least m labels.
+-- cells has one label twice has at least m labels.
 pub labelsNeeded : LabelsNeeded
 labelsNeeded s flat positive wide high L sep =
     rw (classes-flat s flat, ← sphere-length (s .strength) positive)

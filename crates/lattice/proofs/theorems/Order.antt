@@ -13,8 +13,7 @@ use Rattle.lattice.proofs.theory.ScanOrder.{firstColumns, firstPlanes, 
 use Rattle.lattice.proofs.theory.TripleCount.{count-parts, third}
 
 -- Theorem. For every t the order lists exactly the triples of absolute sum 1 to t − 1 whose first number that is not 0 is
--- positive,
--- each exactly once, and rising.
+-- positive, each exactly once, and rising.
 pub orderLists : OrderLists
 orderLists =
     record {

@@ -56,8 +56,7 @@ some-classes m b c t e = go (decLe 1 m)
     go (no l) = absurd (testRefused m b c t .0 .0 e .1 .0 (inl (inl (lt-of-not-le l))))
 
 -- Theorem. Where the numbers are accepted, the verdict is yes exactly when all different cells of one class in an endless stack
--- are at
--- least t apart.
+-- are at least t apart.
 pub testMeaning : TestMeaning
 testMeaning m b c t ok = (far, sound)
   where

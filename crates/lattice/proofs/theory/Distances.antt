@@ -1,6 +1,5 @@
 -- The absolute difference and the distance of cells as measures: symmetric, 0 for equal things only, the triangle inequality, and
--- a
--- step that goes nearer.
+-- a step that goes nearer.
 use Prim.Native.Nat.{ℕ, suc, _+_, _-_, _≤_, _<_}
 use mathlib.Core.Logic.{_⊎_, inl, inr, _≢_}
 use mathlib.Core.Path.{_≡_, refl, ap, _∙_, sym}

@@ -1,6 +1,5 @@
 -- Demand 1 for the constructor, the class of a cell and the distance test: each test decides its refusal's condition, and the
--- number is
--- settled by the conditions in the listed order.
+-- number is settled by the conditions in the listed order.
 use Prim.Native.Nat.{ℕ, _*_, _<_, _≤_}
 use mathlib.Core.Bool.{Bool, true, false, _&&_, false≢true}
 use mathlib.Core.Logic.{_⊎_, inl, inr, ⊎-elim}

@@ -1,6 +1,5 @@
 -- The sphere of source document 002, theorem 2.1, cut to t rows and t columns: around row h, where t is 2h + 1 or 2h + 2, the row
--- j above
--- or below has the columns from j up to t − j. It has m cells, and any two are less than t apart.
+-- j above or below has the columns from j up to t − j. It has m cells, and any two are less than t apart.
 use Prim.Native.Nat.{ℕ, zero, suc, _+_, _-_, _*_, _/_, _%_, _≤_, _<_}
 use mathlib.Core.List.{List, [], _∷_, _++_, List·Memᴰ, List·Memᴰ·not-nil, List·Memᴰ·cases-cons, List·Memᴰ·append-cases}
 use mathlib.Core.Logic.{_⊎_, inl, inr, ⊎-elim}

@@ -8,8 +8,7 @@ use Rattle.lattice.specs.Labelling.{labels, Separates}
 use Rattle.lattice.specs.Class.{classesOf, classOf}
 
 -- Theorem (demand 3, the lower bound). On every flat field with t at least 1 and both sides at least t, every labelling in which
--- no
--- cluster of at most t cells has one label twice has at least m labels.
+-- no cluster of at most t cells has one label twice has at least m labels.
 abbrev pub LabelsNeeded : Type 1
 LabelsNeeded =
     (s : Shape) → s .planes ≡ 1 → 1 ≤ s .strength → s .strength ≤ s .columns → s .strength ≤ s .rows

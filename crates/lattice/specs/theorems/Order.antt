@@ -6,8 +6,7 @@ use Rattle.lattice.specs.declared.distance.Triple.{Triple}
 use Rattle.lattice.specs.Order.{origin, order, magnitude, Leading, Before}
 
 -- Theorem. For every t the order lists exactly the triples of absolute sum 1 to t − 1 whose first number that is not 0 is
--- positive,
--- each exactly once, and rising.
+-- positive, each exactly once, and rising.
 pub record OrderLists : Type 0 where
   pub listed : (t k : ℕ) → k < length (order t)
       → Leading (getD (order t) k origin) × (1 ≤ magnitude (getD (order t) k origin)) × (magnitude (getD (order t) k origin) < t)

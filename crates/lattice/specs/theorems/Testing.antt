@@ -15,8 +15,7 @@ TestAtOne =
     (m b c : ℕ) → testNumber m b c 1 ≡ 0 → (verdict m b c 1 ≡ true) × (triplesTried m b c 1 ≡ 0)
 
 -- Theorem. Where the numbers are accepted, the verdict is yes exactly when all different cells of one class in an endless stack
--- are at
--- least t apart.
+-- are at least t apart.
 abbrev pub TestMeaning : Type 0
 TestMeaning =
     (m b c t : ℕ) → testNumber m b c t ≡ 0 → (verdict m b c t ≡ true) ↔ Apart (settings m b c) t
