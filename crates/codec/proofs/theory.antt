@@ -42,4 +42,3 @@ pub mod OperationNumbers
 mod FieldMeaning
 pub mod ReadFields
 pub mod MendedField
-pub mod PlaceBack

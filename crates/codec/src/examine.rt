@@ -1,6 +1,7 @@
 // The tests of a field that decoding and correcting share: 5, 6 and 7.
 ghost use mathlib.Core.Path.{_≡_};
-ghost use Prim.Native.Nat.{_≤_, max};
+ghost use mathlib.Core.Bool.{cond};
+ghost use Prim.Native.Nat.{_+_, _<_, _≤_, max};
 ghost use lib.Dec.{leb};
 ghost use lib.ListN.{getD, length};
 ghost use Rattle.lattice.specs.Refusal.{testedNumber};
@@ -10,16 +11,16 @@ ghost use Rattle.lattice.specs.Counting.{allBelow};
 ghost use Rattle.codec.specs.Field.{fieldOf, cellsOk};
 ghost use Rattle.codec.specs.Payload.{paddingOk};
 ghost use Rattle.codec.specs.Decode.{correctedField, fieldNumber};
-ghost use Rattle.codec.specs.Working.{HoldsZeros, HoldsSizes, FieldFits, Examined, rightAt};
+ghost use Rattle.lattice.specs.Sizes.{HoldsZeros, HoldsSizes};
+ghost use Rattle.codec.specs.Working.{FieldFits, Examined, rightAt};
 use crate::cell::cell_at;
 use crate::cell::is_received;
+use crate::hamming::corrected_value;
+use crate::hamming::holds_data;
+use crate::payload::padding_value;
 use crate::syndromes::field_syndromes;
-use crate::walk::corrected_value;
-use crate::walk::holds_data;
-use crate::walk::less_if;
-use crate::walk::padding_value;
-use crate::walk::place_back;
 use lattice::capacity::data_in;
+use lattice::place::place_back;
 use lattice::refusal::Refusal;
 use lattice::refusal::Tested;
 use lattice::shape::Shape;
@@ -72,6 +73,14 @@ fn is_right(is_data: bool, j: usize, value: u8) -> bool
         return true;
     }
     value == padding_value(j)
+}
+
+// One less where the test holds.
+fn less_if(test: bool, n: usize) -> usize
+    requires { ⌜ 0 < n ⌝ }
+    ensures { λ r. ⌜ cond test 1 0 + r ≡ n ⌝ }
+{
+    if test { n - 1 } else { n }
 }
 
 // Do the padding cells hold the padding after correction? They are the last of the data, so the cells are looked at from the

@@ -1,19 +1,26 @@
 // The damaged cells turned over, class by class: in the field, or in the payload that was gathered from it.
-ghost use mathlib.Core.Bool.{true, false, not};
+ghost use mathlib.Core.Bool.{true, false, cond, not};
 ghost use mathlib.Core.Path.{_≡_};
 ghost use Prim.Native.Nat.{_+_, _<_, _≤_};
 ghost use lib.Dec.{eqb};
 ghost use lib.ListN.{getD, length};
-ghost use Rattle.lattice.specs.Shape.{maxClasses};
+ghost use Rattle.lattice.specs.Shape.{maxCells, maxClasses};
 ghost use Rattle.lattice.specs.Position.{Layout};
 ghost use Rattle.lattice.specs.Counting.{count};
 ghost use Rattle.lattice.specs.Listing.{maxChecks, checksTo, ListsChecks};
 ghost use Rattle.codec.specs.Field.{Field, fieldOf, Same};
 ghost use Rattle.codec.specs.Packing.{BitFlipped, HoldsBits, turnedAt, mendedTo, Damaged};
-use crate::walk::count_if;
-use crate::walk::flip;
+use crate::hamming::flip;
 use lattice::check_cells::MAX_CHECKS;
 use lattice::shape::Shape;
+
+// One more where the test holds.
+fn count_if(test: bool, n: usize) -> usize
+    requires { ⌜ n < maxCells ⌝ }
+    ensures { λ r. ⌜ r ≡ cond test 1 0 + n ⌝ }
+{
+    if test { 1 + n } else { n }
+}
 
 // The number of classes below m whose syndrome is not 0.
 pub(crate) fn count_damaged(m: usize, syndromes: &[u32; Shape::MAX_CLASSES]) -> usize

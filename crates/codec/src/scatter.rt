@@ -5,8 +5,8 @@ ghost use lib.ListN.{length};
 ghost use Rattle.codec.specs.Filling.{BitsPut, ValuesPut};
 ghost use Rattle.codec.specs.Working.{valueAt};
 use crate::gather::begins_byte;
-use crate::walk::padding_value;
-use crate::walk::payload_bit;
+use crate::payload::padding_value;
+use crate::payload::payload_bit;
 
 // Four cells from a number below 16, the highest bit first.
 fn put_four(part: &mut [u8], x: usize, four: u8)

@@ -37,6 +37,7 @@ pub mod StackTable
 -- positions, checks and the capacity
 pub mod Positions
 pub mod Sizes
+pub mod PlaceBack
 pub mod Powers
 pub mod BitLength
 pub mod PowerTest

@@ -7,24 +7,21 @@ use lib.ListN.{getD}
 use Rattle.lattice.specs.declared.line.Line.{Line}
 use Rattle.lattice.specs.declared.line.Pass.{Pass}
 use Rattle.lattice.specs.declared.shape.Shape.{Shape}
-use Rattle.lattice.specs.Shape.{maxClasses, Accepted}
+use Rattle.lattice.specs.Shape.{Accepted}
 use Rattle.lattice.specs.Settings.{settingsOf}
 use Rattle.lattice.specs.Class.{layoutOf}
-use Rattle.lattice.specs.Position.{Layout, size}
+use Rattle.lattice.specs.Position.{Layout}
 use Rattle.lattice.specs.Check.{isPower}
 use Rattle.lattice.specs.Lines.{passOf, IsLine}
-use Rattle.lattice.specs.Listing.{maxChecks, ListsChecks, HoldsPlaces, Counts}
-
--- the array holds the size of each class
-abbrev pub HoldsSizes : Layout → List ℕ → Type 0
-HoldsSizes L sizes = (a : ℕ) → a < maxClasses → getD sizes a 0 ≡ size L a
+use Rattle.lattice.specs.Listing.{maxChecks, ListsChecks, HoldsPlaces}
+use Rattle.lattice.specs.Sizes.{HoldsSizes}
 
 -- the first n cells are counted and, where the array of sizes is right, listed
 pub record ListedTo (L : Layout) (n amount : ℕ) (sizes counts cells places : List ℕ) : Type 0 where
   pub few : amount ≤ maxChecks
-  pub counted : Counts L n counts
-  pub listed : HoldsSizes L sizes → ListsChecks L n amount cells
-  pub placed : HoldsSizes L sizes → HoldsPlaces L amount cells places
+  pub counted : HoldsSizes L counts n
+  pub listed : HoldsSizes L sizes (L .cells) → ListsChecks L n amount cells
+  pub placed : HoldsSizes L sizes (L .cells) → HoldsPlaces L amount cells places
 
 -- the first l lines of a pass are counted and listed
 abbrev pub LinesListed : Pass → ℕ → ℕ → List ℕ → List ℕ → List ℕ → List ℕ → Type 0

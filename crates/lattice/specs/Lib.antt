@@ -19,6 +19,7 @@ pub mod Answer
 -- theorems
 pub mod theorems
 -- what passes over the cells keep: only contracts of their functions cite these
+pub mod Sizes
 pub mod Scanning
 pub mod Lines
 pub mod Listing

@@ -6,8 +6,8 @@ use mathlib.Core.List.{List}
 use mathlib.Core.Logic.{_⊎_}
 use mathlib.Core.Path.{_≡_}
 use lib.ListN.{getD}
-use Rattle.lattice.specs.Shape.{maxCells, maxClasses}
-use Rattle.lattice.specs.Position.{Layout, size, sizeTo, position}
+use Rattle.lattice.specs.Shape.{maxCells}
+use Rattle.lattice.specs.Position.{Layout, size, position}
 use Rattle.lattice.specs.Check.{checks, holdsData}
 use Rattle.lattice.specs.Counting.{count}
 
@@ -44,10 +44,6 @@ pub record Run (L : Layout) (k i e : ℕ) : Type 0 where
   pub inside : e ≤ L .cells
   pub before : checksTo L i ≡ k
   pub free : (x : ℕ) → i ≤ x → x < e → holdsData L x ≡ true
-
--- the array holds the number of cells of each class among the first n cells
-pub record Counts (L : Layout) (n : ℕ) (counts : List ℕ) : Type 0 where
-  pub at : (a : ℕ) → a < maxClasses → getD counts a 0 ≡ sizeTo L a n
 
 -- what stands for a cell where there is none
 abbrev pub noCell : ℕ

@@ -2,10 +2,11 @@
 ghost use mathlib.Core.Path.{_≡_};
 ghost use Prim.Native.Nat.{ℕ, _+_, _<_, _≤_};
 ghost use lib.ListN.{getD};
-ghost use Rattle.lattice.specs.Refusal.{beside, figure};
-ghost use Rattle.lattice.specs.Shape.{maxClasses, shapeNumber};
+ghost use mathlib.Core.Logic.{_≢_};
+ghost use Rattle.lattice.specs.Refusal.{figure};
+ghost use Rattle.lattice.specs.Shape.{maxClasses, shapeNumber, Accepted, cellsOf};
 ghost use Rattle.lattice.specs.Class.{layoutOf};
-ghost use Rattle.lattice.specs.Position.{size};
+ghost use Rattle.lattice.specs.Sizes.{HoldsSizes};
 ghost use Rattle.lattice.specs.Check.{isPower, isCheck, checks, dataCells, capacity, dataIn};
 use crate::by_lines::sizes_by;
 use crate::refusal::Tested;
@@ -55,10 +56,8 @@ fn clear(sizes: &mut [u32])
 
 // The size of each class; for a shape that the constructor refuses the array keeps its entries.
 pub fn class_sizes(shape: Shape, sizes: &mut [u32; Shape::MAX_CLASSES])
-    ensures { λ r. ⌜ ((a : ℕ)
-        → a < maxClasses
-        → getD (now (sizes .exit)) a 0
-        ≡ beside (shapeNumber shape) (size (layoutOf shape) a) (getD (now (sizes .entry)) a 0)) ⌝ }
+    ensures { λ _. ⌜ (Accepted shape → HoldsSizes (layoutOf shape) (now (sizes .exit)) (cellsOf shape)) ⌝ }
+    ensures { λ _. ⌜ (shapeNumber shape ≢ 0 → now (sizes .exit) ≡ now (sizes .entry)) ⌝ }
 {
     let tested = shape.tests();
     if let Tested::Refused(_) = tested {

@@ -5,7 +5,8 @@ ghost use Prim.Native.Nat.{ℕ, _+_, _-_, _*_, _^_, _<_, _≤_};
 ghost use lib.ListN.{length, getD};
 ghost use Rattle.lattice.specs.Shape.{maxSide, maxCells, maxClasses, Accepted, cellsOf};
 ghost use Rattle.lattice.specs.Class.{layoutOf};
-ghost use Rattle.lattice.specs.Position.{Layout, size};
+ghost use Rattle.lattice.specs.Position.{Layout};
+ghost use Rattle.lattice.specs.Sizes.{HoldsSizes};
 ghost use Rattle.lattice.specs.Check.{checks};
 ghost use Rattle.lattice.specs.Lines.{OfShape, Gains};
 ghost use Rattle.lattice.specs.Listing.{maxChecks, checksTo, ListsChecks, HoldsPlaces};
@@ -305,7 +306,7 @@ pub fn check_cells(
     places: &mut [u16; MAX_CHECKS],
 ) -> usize
     ensures { λ r. ⌜ (Accepted shape
-        → ((a : ℕ) → a < maxClasses → getD (now (sizes .entry)) a 0 ≡ size (layoutOf shape) a)
+        → HoldsSizes (layoutOf shape) (now (sizes .entry)) (cellsOf shape)
         → ListsChecks (layoutOf shape) (cellsOf shape) r (now (cells .exit))
         × HoldsPlaces (layoutOf shape) r (now (cells .exit)) (now (places .exit))) ⌝ }
     ensures { λ r. ⌜ r ≤ maxChecks ⌝ }

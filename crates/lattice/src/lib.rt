@@ -8,6 +8,7 @@ pub mod distance;
 mod integers;
 pub mod line;
 pub mod line_positions;
+pub mod place;
 pub mod range;
 pub mod refusal;
 mod scan;

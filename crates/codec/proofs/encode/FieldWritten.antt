@@ -8,9 +8,9 @@ use lib.ListN.{length, getD}
 use Rattle.lattice.specs.declared.shape.Shape.{Shape}
 use Rattle.lattice.specs.Shape.{maxClasses, Accepted, cellsOf}
 use Rattle.lattice.specs.Class.{layoutOf}
-use Rattle.lattice.specs.Position.{size}
 use Rattle.lattice.specs.Check.{holdsData}
 use Rattle.lattice.specs.Listing.{maxChecks, ListsChecks, HoldsPlaces}
+use Rattle.lattice.specs.Sizes.{HoldsSizes}
 use Rattle.lattice.proofs.theory.ClassBelow.{classes-limit, class-below}
 use Rattle.lattice.proofs.theory.Limits.{legal}
 use Rattle.codec.specs.Field.{fieldOf, Cells, Same}
@@ -28,14 +28,14 @@ use Rattle.codec.proofs.theory.Syndrome.{syndrome-same}
 -- the lists of the checks and their places, as they are made from the sizes of the classes
 abbrev pub ListsGiven : Shape → List ℕ → List ℕ → List ℕ → ℕ → Type 0
 ListsGiven s sizes checks places amount =
-    (Accepted s → ((a : ℕ) → a < maxClasses → getD sizes a 0 ≡ size (layoutOf s) a)
+    (Accepted s → HoldsSizes (layoutOf s) sizes (cellsOf s)
     → ListsChecks (layoutOf s) (cellsOf s) amount checks × HoldsPlaces (layoutOf s) amount checks places)
     × (amount ≤ maxChecks)
 
 module _ (s : Shape) (payload sizes checks places : List ℕ) (amount : ℕ) (fits : PayloadFits s payload sizes)
     (given : ListsGiven s sizes checks places amount) where
   lists : ListsChecks (layoutOf s) (cellsOf s) amount checks × HoldsPlaces (layoutOf s) amount checks places
-  lists = given .0 (fits .accepted) (λ a l. fits .sized .at a l)
+  lists = given .0 (fits .accepted) (fits .sized)
 
   pub checks-listed : ChecksListed s payload checks amount
   checks-listed =

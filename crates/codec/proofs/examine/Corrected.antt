@@ -11,7 +11,8 @@ use Rattle.lattice.specs.Class.{layoutOf}
 use Rattle.codec.specs.Field.{fieldOf, flip}
 use Rattle.codec.specs.Hamming.{syndrome, corrected}
 use Rattle.codec.specs.Decode.{correctedField}
-use Rattle.codec.specs.Working.{HoldsSyndromes, AtPlace}
+use Rattle.lattice.specs.Sizes.{AtPlace}
+use Rattle.codec.specs.Working.{HoldsSyndromes}
 use Rattle.codec.specs.Code.{tagsAt}
 use Rattle.codec.proofs.theory.Tags.{tag-position}
 

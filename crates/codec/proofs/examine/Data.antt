@@ -9,7 +9,7 @@ use Rattle.lattice.specs.Shape.{cellsOf}
 use Rattle.lattice.specs.Class.{layoutOf}
 use Rattle.lattice.specs.Position.{sizeTo}
 use Rattle.lattice.specs.Check.{isCheck, holdsData}
-use Rattle.codec.specs.Working.{HoldsSizes, AtPlace}
+use Rattle.lattice.specs.Sizes.{HoldsSizes, AtPlace}
 
 -- with the array of the sizes
 pub data-at : (s : Shape) (sizes : List ℕ) → HoldsSizes (layoutOf s) sizes (cellsOf s)

@@ -16,7 +16,8 @@ use Rattle.lattice.specs.Counting.{allBelow}
 use Rattle.lattice.proofs.theory.CapacityGiven.{capacity-accepted}
 use Rattle.codec.specs.Field.{Field}
 use Rattle.codec.specs.Payload.{payloadBytes, padding, rank, isPadding, paddingOk}
-use Rattle.codec.specs.Working.{HoldsSizes, rightAt}
+use Rattle.lattice.specs.Sizes.{HoldsSizes}
+use Rattle.codec.specs.Working.{rightAt}
 use Rattle.codec.proofs.theory.AllBelow.{all-below, last-fails, last-passes}
 use Rattle.codec.proofs.theory.Ranks.{rank-all, rank-rises, rank-most, rank-last}
 
@@ -70,7 +71,7 @@ pub padding-start : (s : Shape) (f : Field) (sizes : List ℕ) (k i : ℕ)
     → PassedFrom (layoutOf s) f (k % 8) i
 unfolding paddingOk right payloadBytes
 padding-start s f sizes k i a p m given e c =
-    let all : k ≡ capacity (layoutOf s) = e ∙ capacity-accepted s sizes m a (p .at) given in
+    let all : k ≡ capacity (layoutOf s) = e ∙ capacity-accepted s sizes m a p given in
     record {
       within = omega arith;
       unseen = omega (arith, rank-all (layoutOf s), ap (rank (layoutOf s)) c);

@@ -20,7 +20,8 @@ use Rattle.lattice.proofs.theory.LineCounts.{zeros-at}
 use Rattle.lattice.proofs.theory.SizesByLines.{classes-are, columns-are, lines-are, cells-are, most}
 use Rattle.codec.specs.Field.{Field, Cells}
 use Rattle.codec.specs.Hamming.{tagsOf, syndrome}
-use Rattle.codec.specs.Working.{HoldsZeros, HoldsSyndromes}
+use Rattle.lattice.specs.Sizes.{HoldsZeros}
+use Rattle.codec.specs.Working.{HoldsSyndromes}
 use Rattle.codec.specs.Lines.{folded, Taken, LineTaken}
 use Rattle.codec.proofs.theory.CellValues.{cell-most}
 use Rattle.codec.proofs.syndromes.LineTaken.{line-taken}

@@ -15,7 +15,8 @@ use Rattle.lattice.specs.Position.{Layout, sizeTo, position}
 use Rattle.lattice.proofs.theory.Counting.{count-all}
 use Rattle.codec.specs.Field.{Field}
 use Rattle.codec.specs.Hamming.{tagsOf, syndromeTo}
-use Rattle.codec.specs.Working.{HoldsZeros, HoldsSyndromes}
+use Rattle.lattice.specs.Sizes.{HoldsZeros}
+use Rattle.codec.specs.Working.{HoldsSyndromes}
 use Rattle.codec.proofs.syndromes.LineTaken.{chosen}
 use Rattle.codec.proofs.theory.Syndrome.{syndrome-step, syndrome-empty}
 use Rattle.codec.proofs.theory.Tags.{tag-position}

@@ -20,7 +20,8 @@ use Rattle.codec.specs.Plan.{planCapacity, planBytes, planCells}
 use Rattle.codec.specs.Encode.{encodeNumber}
 use Rattle.codec.specs.Decode.{fieldNumber, decodeNumber}
 use Rattle.codec.specs.Correct.{correctNumber}
-use Rattle.codec.specs.Working.{HoldsSizes, lengthNumber, Mendable}
+use Rattle.lattice.specs.Sizes.{HoldsSizes}
+use Rattle.codec.specs.Working.{lengthNumber, Mendable}
 use Rattle.codec.proofs.theory.Accepted.{plan-bytes, plan-cells}
 use Rattle.codec.proofs.theory.FieldNumber.{zero-cells, zero-reach}
 
@@ -31,7 +32,7 @@ unfolding planBytes planCapacity
 bytes-given s sizes k m a p given e =
     ap
     (λ (n : ℕ). n / 8)
-    (e ∙ capacity-accepted s sizes m a (p .at) given ∙ sym (beside-zero (shapeNumber s) (capacity (layoutOf s)) 0 a))
+    (e ∙ capacity-accepted s sizes m a p given ∙ sym (beside-zero (shapeNumber s) (capacity (layoutOf s)) 0 a))
 
 pub cells-given : (s : Shape) (n : ℕ) → n ≡ figure (shapeNumber s) (cellsOf s) → n ≡ planCells s
 unfolding planCells

@@ -6,15 +6,15 @@ use mathlib.Core.Path.{_≡_, ap, _∙_}
 use native.Mathlib.Decide.{decLt}
 use native.Mathlib.Nat.{add-mod-right, add-zero, mod-eq-of-lt, mod-lt, le-refl, suc-mul}
 use native.Mathlib.Omega.{arith}
+use borrow.Author.Tests.{ne-eqb}
 use lib.Dec.{eqb}
 use lib.ListN.{getD}
-use borrow.Author.Tests.{ne-eqb}
 use Rattle.lattice.specs.Shape.{maxClasses}
 use Rattle.lattice.specs.Position.{Layout, sizeTo, position}
 use Rattle.lattice.specs.Check.{isCheck, checks, holdsData}
 use Rattle.lattice.specs.Lines.{remainderTable, among, Gains}
-use Rattle.lattice.specs.Listing.{Counts}
 use Rattle.lattice.specs.CheckList.{ListedTo, NoPowerNear}
+use Rattle.lattice.specs.Sizes.{HoldsSizes}
 use Rattle.lattice.proofs.theory.Among.{count-from, among-shift}
 use Rattle.lattice.proofs.check_cells.Listed.{listed-run}
 use Rattle.lattice.proofs.theory.Counting.{count-none}
@@ -84,9 +84,9 @@ module _ (L : Layout) (m start n w : ℕ) (some : 0 < m) (first : start < m)
       )
 
   -- the counts after the line, by the list of gains
-  pub line-counts : (gains counts counts' : List ℕ) → Gains m w (2 * m) gains → Counts L n counts
+  pub line-counts : (gains counts counts' : List ℕ) → Gains m w (2 * m) gains → HoldsSizes L counts n
       → ((a : ℕ) → a < m → getD counts' a 0 ≡ getD counts a 0 + getD gains (a + (m - start)) 0)
-      → ((a : ℕ) → m ≤ a → getD counts' a 0 ≡ getD counts a 0) → Counts L (n + w) counts'
+      → ((a : ℕ) → m ≤ a → getD counts' a 0 ≡ getD counts a 0) → HoldsSizes L counts' (n + w)
   unfolding Gains
   line-counts gains counts counts' gain counted own others = record { at = λ a l. go a l (decLt a m) }
     where
@@ -96,7 +96,7 @@ module _ (L : Layout) (m start n w : ℕ) (some : 0 < m) (first : start < m)
       go a l (no p) = omega (arith, others a (omega arith), counted .at a l, line-outside a (omega arith))
 
   -- where no power of two is near the counts, no cell of the line holds a check
-  pub line-free : (counts : List ℕ) → m ≤ maxClasses → Counts L n counts → NoPowerNear m (w / m + 1) counts
+  pub line-free : (counts : List ℕ) → m ≤ maxClasses → HoldsSizes L counts n → NoPowerNear m (w / m + 1) counts
       → (x : ℕ) → x < w → holdsData L (n + x) ≡ true
   unfolding holdsData isCheck position
   line-free counts few counted none x l =

@@ -12,7 +12,8 @@ use Rattle.lattice.specs.Settings.{settingsOf}
 use Rattle.lattice.specs.Class.{classesOf, classAt, layoutOf}
 use Rattle.lattice.specs.Lines.{passOf, IsLine, Gains}
 use Rattle.lattice.specs.Listing.{maxChecks, checksTo, ListsChecks, HoldsPlaces}
-use Rattle.lattice.specs.CheckList.{HoldsSizes, ListedTo, NoPowerNear}
+use Rattle.lattice.specs.CheckList.{ListedTo, NoPowerNear}
+use Rattle.lattice.specs.Sizes.{HoldsSizes}
 use Rattle.lattice.proofs.theory.AtLine.{line-room}
 use Rattle.lattice.proofs.check_cells.Few.{checks-few}
 use Rattle.lattice.proofs.check_cells.FreeLine.{line-listed}
@@ -39,7 +40,7 @@ listed-none s sizes counts cells places zeros =
 module _ (s : Shape) (ok : Accepted s) (pass : Pass) (same : pass ≡ passOf s) where
   -- the list after every line is that of the field
   pub listed-all : (amount : ℕ) (sizes counts cells places : List ℕ)
-      → ListedTo (layoutOf s) (pass .lines * s .columns) amount sizes counts cells places → HoldsSizes (layoutOf s) sizes
+      → ListedTo (layoutOf s) (pass .lines * s .columns) amount sizes counts cells places → HoldsSizes (layoutOf s) sizes (cellsOf s)
       → ListsChecks (layoutOf s) (cellsOf s) amount cells × HoldsPlaces (layoutOf s) amount cells places
   listed-all amount sizes counts cells places held right =
       let lines = lines-are s ok pass same in
@@ -90,7 +91,7 @@ module _ (s : Shape) (ok : Accepted s) (pass : Pass) (same : pass ≡ passOf s) 
       pub line-few : (n : ℕ) → ListedTo (layoutOf s) n amount sizes counts cells places → (a : ℕ) → a < pass .classes
           → getD counts a 0 ≤ n
       line-few n held a p =
-          sizes-most (layoutOf s) counts n a (held .counted .at) (omega (arith, most s ok pass same))
+          sizes-most (layoutOf s) counts n a (held .counted) (omega (arith, most s ok pass same))
 
     -- the checks up to a cell of the line have room
     pub line-checks : (x : ℕ) → x < pass .columns → checksTo (layoutOf s) (l * pass .columns + x + 1) ≤ maxChecks

@@ -8,8 +8,9 @@ use lib.ListN.{getD}
 use Rattle.lattice.specs.Shape.{maxClasses}
 use Rattle.lattice.specs.Position.{Layout, sizeTo, position}
 use Rattle.lattice.specs.Check.{isCheck, checks, holdsData}
-use Rattle.lattice.specs.Listing.{maxChecks, checksTo, placeOf, Counts}
-use Rattle.lattice.specs.CheckList.{HoldsSizes, ListedTo, PutLast}
+use Rattle.lattice.specs.Listing.{maxChecks, checksTo, placeOf}
+use Rattle.lattice.specs.CheckList.{ListedTo, PutLast}
+use Rattle.lattice.specs.Sizes.{HoldsSizes}
 use Rattle.lattice.proofs.check_cells.Listed.{listed-free, listed-check, places-check}
 use Rattle.lattice.proofs.theory.Runs.{checks-check}
 use Rattle.lattice.proofs.theory.Sizes.{sizes-more}
@@ -19,18 +20,18 @@ module _ (L : Layout) (n amount a p : ℕ) (sizes counts cells places counts' : 
     (small : a < maxClasses) (before : ListedTo L n amount sizes counts cells places) (next : p ≡ getD counts a 0 + 1)
     (stored : getD counts' a 0 ≡ p) (others : (b : ℕ) → (b ≡ a → ⊥) → getD counts' b 0 ≡ getD counts b 0) where
   -- the counts after the cell, its position, and the test of its check
-  counted : Counts L (n + 1) counts'
+  counted : HoldsSizes L counts' (n + 1)
   counted =
-      record { at = sizes-more L counts counts' n a (before .counted .at) (sym own) (stored ∙ next) others }
+      sizes-more L counts counts' n a (before .counted) (sym own) (stored ∙ next) others
 
   position-is : position L n ≡ p
   unfolding position
   position-is = omega (arith, ap (λ (b : ℕ). sizeTo L b n) own, before .counted .at a small)
 
-  tested : HoldsSizes L sizes → holdsData L n ≡ not (isCheck (getD sizes a 0) p)
+  tested : HoldsSizes L sizes (L .cells) → holdsData L n ≡ not (isCheck (getD sizes a 0) p)
   unfolding holdsData
   tested right =
-      ap₂ (λ (k q : ℕ). not (isCheck k q)) (ap (λ (b : ℕ). sizeTo L b (L .cells)) own ∙ sym (right a small)) position-is
+      ap₂ (λ (k q : ℕ). not (isCheck k q)) (ap (λ (b : ℕ). sizeTo L b (L .cells)) own ∙ sym (right .at a small)) position-is
 
   -- a cell with no check is counted
   pub step-free : isCheck (getD sizes a 0) p ≡ false → ListedTo L (n + 1) amount sizes counts' cells places
@@ -47,10 +48,10 @@ module _ (L : Layout) (n amount a p : ℕ) (sizes counts cells places counts' : 
       (cells' places' : List ℕ)
       (within : amount ≤ maxChecks → r ≤ maxChecks) (number : place ≡ a * 32 + (checks p - 1))
       (put : amount < maxChecks → PutLast amount r n place cells places cells' places') where
-    check : HoldsSizes L sizes → holdsData L n ≡ false
+    check : HoldsSizes L sizes (L .cells) → holdsData L n ≡ false
     check right = tested right ∙ ap not e
 
-    room : HoldsSizes L sizes → amount < maxChecks
+    room : HoldsSizes L sizes (L .cells) → amount < maxChecks
     room right = omega (arith, few, checks-check L n (check right), before .listed right .all)
 
     place-is : place ≡ placeOf L n

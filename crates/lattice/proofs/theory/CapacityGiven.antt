@@ -6,17 +6,17 @@ use native.Mathlib.Decide.{ℕ-discrete}
 use native.Mathlib.Nat.{lt-of-lt-of-le}
 use lib.ListN.{getD}
 use Rattle.lattice.specs.declared.shape.Shape.{Shape}
-use Rattle.lattice.specs.Refusal.{beside, figure}
+use Rattle.lattice.specs.Refusal.{figure}
 use Rattle.lattice.specs.Shape.{shapeNumber, cellsOf, maxClasses, Accepted}
 use Rattle.lattice.specs.Cell.{cellAt}
 use Rattle.lattice.specs.Class.{classesOf, layoutOf}
 use Rattle.lattice.specs.Position.{Layout, size}
 use Rattle.lattice.specs.Check.{dataCells, capacity, dataIn}
+use Rattle.lattice.specs.Sizes.{HoldsSizes}
 use Rattle.lattice.proofs.theory.CapacityByClass.{capacity-by-class}
 use Rattle.lattice.proofs.theory.ClassBelow.{class-below, classes-limit}
 use Rattle.lattice.proofs.theory.Counting.{sum-same}
 use Rattle.lattice.proofs.theory.Answers.{beside-zero, beside-other}
-use Rattle.lattice.proofs.theory.Sizes.{Sizes}
 
 -- every shape gives at most 512 classes
 pub classes-given : (s : Shape) → figure (shapeNumber s) (classesOf s) ≤ maxClasses
@@ -33,23 +33,22 @@ unfolding dataIn
 capacity-held L m xs below p = sum-same _ _ m (λ a l. ap dataCells (p a l)) ∙ sym (capacity-by-class L m below)
 
 -- for an accepted shape that is its capacity
-pub capacity-accepted : (s : Shape) (xs : List ℕ) (m : ℕ) → Accepted s → Sizes (layoutOf s) xs (cellsOf s)
+pub capacity-accepted : (s : Shape) (xs : List ℕ) (m : ℕ) → Accepted s → HoldsSizes (layoutOf s) xs (cellsOf s)
     → m ≡ figure (shapeNumber s) (classesOf s) → dataIn xs m ≡ capacity (layoutOf s)
 capacity-accepted s xs m e p given =
     let own : m ≡ classesOf s = given ∙ beside-zero (shapeNumber s) (classesOf s) 0 e in
     capacity-held (layoutOf s) m xs (λ i l. rw own (class-below s e (cellAt s i)))
-    (λ a l. p a (lt-of-lt-of-le (rw own at l) (classes-limit s e)))
+    (λ a l. p .at a (lt-of-lt-of-le (rw own at l) (classes-limit s e)))
 
 -- and for every shape the capacity that it gives
-pub capacity-given : (s : Shape) (before xs : List ℕ) (m : ℕ)
-    → ((a : ℕ) → a < maxClasses → getD xs a 0 ≡ beside (shapeNumber s) (size (layoutOf s) a) (getD before a 0))
+pub capacity-given : (s : Shape) (xs : List ℕ) (m : ℕ) → (Accepted s → HoldsSizes (layoutOf s) xs (cellsOf s))
     → m ≡ figure (shapeNumber s) (classesOf s) → dataIn xs m ≡ figure (shapeNumber s) (capacity (layoutOf s))
 unfolding dataIn
-capacity-given s before xs m p given = go (ℕ-discrete (shapeNumber s) 0)
+capacity-given s xs m p given = go (ℕ-discrete (shapeNumber s) 0)
   where
     go : Dec (shapeNumber s ≡ 0) → dataIn xs m ≡ figure (shapeNumber s) (capacity (layoutOf s))
     go (yes e) =
-        capacity-accepted s xs m e (λ a l. p a l ∙ beside-zero (shapeNumber s) _ _ e) given
+        capacity-accepted s xs m e (p e) given
         ∙ sym (beside-zero (shapeNumber s) _ 0 e)
     go (no r) =
         ap (dataIn xs) (given ∙ beside-other (shapeNumber s) (classesOf s) 0 r) ∙ sym (beside-other (shapeNumber s) _ 0 r)

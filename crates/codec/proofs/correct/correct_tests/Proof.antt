@@ -4,13 +4,12 @@ use native.Mathlib.Omega.{arith}
 use borrow.Author.Needs.{needs}
 use Rattle.lattice.specs.declared.refusal.Refusal.the-variants as why
 use Rattle.lattice.specs.Shape.{Accepted}
-use Rattle.codec.specs.Working.{FieldFits}
 use Rattle.lattice.proofs.theory.Answers.{told, told-none, some-number, other-reason, length-outside}
 use Rattle.lattice.proofs.theory.Limits.{number-other}
+use Rattle.codec.specs.Working.{FieldFits}
 use Rattle.codec.proofs.theory.Accepted.{plan-cells, correct-number}
 use Rattle.codec.proofs.theory.FieldNumber.{field-other}
 use Rattle.codec.proofs.theory.OperationNumbers.{cells-given, correct-refused, correct-length}
-use Rattle.codec.proofs.theory.WorkArrays.{sizes-given}
 use Rattle.codec.proofs.correct.correct_tests.Statement.{statement}
 use Rattle.codec.proofs.correct.correct_tests.Tie as tie
 
@@ -59,7 +58,7 @@ examine-requires c κs =
     let e = c .before .before .before .before in (
       fits e,
       (
-        sizes-given _ _ _ (fits e .accepted) (k .class-sizes .ensures),
+        k .class-sizes .ensures .0 (fits e .accepted),
         e .before .before .before .before .before .before .pre,
       ),
     )

@@ -35,7 +35,7 @@ gather-requires c κs =
         (
           field-cells _ _ (e .pre .0),
           (
-            (listed .1, listed .0 (e .pre .0 .fits .accepted) (e .pre .1 .0 .sized .at) .0),
+            (listed .1, listed .0 (e .pre .0 .fits .accepted) (e .pre .1 .0 .sized) .0),
             c .before .before .before .before .clear .ensures,
           ),
         ),
@@ -45,20 +45,18 @@ gather-requires c κs =
 mend-payload-requires : tie.Need-mend-payload-requires
 mend-payload-requires c κs =
     let gather = c .before .before .before .before .gather in
-    let e = c .before .before .before .before .before .before .before .before .before .before .before .before .before
-    .before .before .before .before in
-    let listed = c .before .before .before .before .before .before .before .before .before .before .before .before
-    .check-cells .ensures in
-    let long = gather .kept .1 .1 .1 .1 .1 .0
-    ∙ c .before .before .before .before .before .before .before .before .before .clear .kept .0
-    ∙ e .pre .1 .1 in (
-      all (c .before .before .before .before .before .before .before .before .before .before .before),
+    let cleared = c .before .before .before .before .before .before .before .before .before in
+    let counted = cleared .before .before in
+    let listed = counted .before .check-cells .ensures in
+    let e = counted .before .before .before .before .before .before in
+    let long = gather .kept .1 .1 .1 .1 .1 .0 ∙ cleared .clear .kept .0 ∙ e .pre .1 .1 in (
+      all counted,
       (
         e .pre .0,
         (
           e .pre .1 .0 .held,
           (
-            (listed .1, listed .0 (e .pre .0 .fits .accepted) (e .pre .1 .0 .sized .at) .0),
+            (listed .1, listed .0 (e .pre .0 .fits .accepted) (e .pre .1 .0 .sized) .0),
             gathered-bits _ _ _ (received-cells _ _ (e .pre .0 .cells)) long (gather .ensures),
           ),
         ),

@@ -11,12 +11,12 @@ use Rattle.lattice.proofs.theory.CapacityGiven.{classes-given}
 use Rattle.lattice.proofs.theory.ClassAt.{at-cells}
 use Rattle.codec.specs.Decode.{correctedField}
 use Rattle.codec.specs.Field.{fieldOf}
-use Rattle.codec.specs.Working.{HoldsRest, AtCellBack}
+use Rattle.lattice.specs.Sizes.{HoldsRest, AtCellBack, AtPlace}
 use Rattle.codec.proofs.examine.Corrected.{mended-at}
 use Rattle.codec.proofs.examine.Data.{data-at}
 use Rattle.codec.proofs.examine.Padding.{PassedFrom, padding-start, padding-passes, left-some, padding-fails, padding-more}
 use Rattle.codec.proofs.theory.WorkArrays.{cell-limit, zeros}
-use Rattle.codec.proofs.theory.PlaceBack.{rest-none, back-cell}
+use Rattle.lattice.proofs.theory.PlaceBack.{rest-none, back-cell}
 use Rattle.codec.proofs.examine.padding_ok.Statement.{statement}
 use Rattle.codec.proofs.examine.padding_ok.Tie as tie
 
@@ -55,13 +55,24 @@ cell c =
     (some c)
     (turn .inv .1 .within)
 
+-- its place, and the counts with it
+place : (c : tie.After-place-back Inv-loop μ-loop)
+    → let turn = c .before .before .before in
+    AtPlace (entry turn .args .shape) (turn .loop .i - 1) (c .place-back .result .class) (c .place-back .result .position)
+place c = c .place-back .ensures .0 (cell (c .before .before))
+
+rest : (c : tie.After-place-back Inv-loop μ-loop)
+    → let turn = c .before .before .before in
+    HoldsRest (layoutOf (entry turn .args .shape)) (c .place-back .last .0) (turn .loop .i - 1)
+rest c = c .place-back .ensures .1 (cell (c .before .before))
+
 -- it holds no check
 held : (c : tie.After-holds-data Inv-loop μ-loop)
     → let turn = c .before .before .before .before in
     c .holds-data .result ≡ holdsData (layoutOf (entry turn .args .shape)) (turn .loop .i - 1)
 held c =
     let sized = entry (c .before .before .before .before) .pre .1 .sized in
-    data-at _ _ sized _ _ _ (c .before .place-back .ensures .0) _ (c .holds-data .ensures)
+    data-at _ _ sized _ _ _ (place (c .before)) _ (c .holds-data .ensures)
 
 -- its value after correction
 value : (c : tie.After-corrected-value Inv-loop μ-loop)
@@ -76,7 +87,7 @@ value c =
     _
     (start .pre .1 .held)
     _ _ _
-    (c .before .before .before .place-back .ensures .0)
+    (place (c .before .before .before))
     _
     (rw (c .before .cell-at .ensures) at (c .corrected-value .ensures))
 
@@ -111,10 +122,10 @@ cast-place-back c =
     fits-lt (cell-limit _ _ refl _ (at .below) (at .accepted)) (fits-lit tt)
 
 place-back-requires : tie.Need-place-back-requires Inv-loop μ-loop
-place-back-requires c κs = cell (c .before)
+place-back-requires c κs = tt
 
 holds-data-requires : tie.Need-holds-data-requires Inv-loop μ-loop
-holds-data-requires c κs = c .place-back .ensures .0 .below
+holds-data-requires c κs = place c .below
 
 cell-at-requires : tie.Need-cell-at-requires Inv-loop μ-loop
 cell-at-requires c κs =
@@ -152,7 +163,7 @@ loop-less c = omega (arith, some (c .before .before .before .before .before .bef
 loop-again : tie.Need-loop-again Inv-loop μ-loop
 loop-again c =
     let turn = c .before .before .before .before .before .before .before .before in (
-      c .before .before .before .before .before .before .place-back .ensures .1,
+      rest (c .before .before .before .before .before .before),
       padding-more
           _ _ _ _
           (turn .before .loop .inv .1)

@@ -7,15 +7,14 @@ use lib.ListN.{length}
 use Rattle.lattice.specs.declared.refusal.Refusal.the-variants as why
 use Rattle.lattice.specs.Shape.{Accepted, cellsOf}
 use Rattle.lattice.specs.Class.{layoutOf}
+use Rattle.lattice.specs.Sizes.{HoldsSizes}
 use Rattle.lattice.proofs.theory.Answers.{told, told-none, some-number, other-reason, passed-reason, length-outside}
 use Rattle.lattice.proofs.theory.CapacityGiven.{classes-given}
 use Rattle.lattice.proofs.theory.Limits.{number-other}
 use Rattle.codec.specs.Plan.{planBytes}
-use Rattle.codec.specs.Working.{HoldsSizes}
 use Rattle.codec.proofs.theory.Accepted.{plan-bytes, plan-cells}
 use Rattle.codec.proofs.theory.OperationNumbers.{bytes-given, cells-given, length-refused, payload-number, field-number}
 use Rattle.codec.proofs.theory.OperationNumbers.{fit-number}
-use Rattle.codec.proofs.theory.WorkArrays.{sizes-given}
 use Rattle.codec.proofs.lengths.length_tests.Statement.{statement}
 use Rattle.codec.proofs.lengths.length_tests.Tie as tie
 
@@ -27,7 +26,7 @@ module _ (c : tie.After-class-sizes) where
   sized :
       let a = c .before .before .before .before .before .before .before .args in
       HoldsSizes (layoutOf (a .shape)) (c .class-sizes .last .1 .0) (cellsOf (a .shape))
-  sized = sizes-given _ _ _ accepted (c .class-sizes .ensures)
+  sized = c .class-sizes .ensures .0 accepted
 
 planned : (c : tie.After-data-in)
     → c .data-in .result / 8

@@ -1,10 +1,10 @@
 -- `class_sizes` meets its contract.
-use mathlib.Core.Path.{_≡_, _∙_}
+use mathlib.Core.Path.{_≡_, refl, _∙_}
 use native.Mathlib.Nat.{le-refl}
 use borrow.Author.Needs.{needs}
 use Rattle.lattice.specs.Shape.{Accepted}
 use Rattle.lattice.specs.Lines.{passOf}
-use Rattle.lattice.proofs.theory.Answers.{refused, done, told, told-none}
+use Rattle.lattice.proofs.theory.Answers.{some-number, told, told-none}
 use Rattle.lattice.proofs.theory.NextLine.{pass-accepted}
 use Rattle.lattice.proofs.capacity.class_sizes.Statement.{statement}
 use Rattle.lattice.proofs.capacity.class_sizes.Tie as tie
@@ -23,8 +23,9 @@ enum-told : tie.Need-enum-told
 enum-told c = search needs
 
 returns : tie.Need-returns
-returns c a l =
-    refused (c .enum-told .given .0 .0) _ _ _ (told (c .before .before .tests .ensures) (c .enum-told .given .1))
+returns c =
+    let number = told (c .before .before .tests .ensures) (c .enum-told .given .1) in
+    (λ ok. absurd (some-number (c .enum-told .given .0 .0) (number ∙ ok)), λ other. refl)
 
 enum-told-2 : tie.Need-enum-told-2
 enum-told-2 c = search needs
@@ -45,9 +46,9 @@ sizes-by-requires c κs = (
 )
 
 returns-2 : tie.Need-returns-2
-returns-2 c a l =
+returns-2 c =
     let ok = accepted (c .before .before .before .before .before) in
-    done _ _ _ _ ok (c .sizes-by .ensures _ ok (own (c .before .before)) a)
+    (λ same. record { at = λ a l. c .sizes-by .ensures _ ok (own (c .before .before)) a }, λ other. absurd (other ok))
 
 pub class-sizes-spec : {M : Type 1} → statement M
 class-sizes-spec =

@@ -20,7 +20,7 @@ returns c =
     let class-sizes = c .before .before .before .class-sizes in
     let s = c .before .before .before .before .before .args .self in
     c .data-in .ensures (rw (c .before .classes .ensures) (classes-given s))
-    ∙ capacity-given s (replicate maxClasses 0) (class-sizes .last .1 .0) _ (class-sizes .ensures)
+    ∙ capacity-given s (class-sizes .last .1 .0) _ (class-sizes .ensures .0)
     (c .before .classes .ensures)
 
 pub capacity-spec : {M : Type 1} → statement M

@@ -1,8 +1,8 @@
 -- `less_if` meets its contract.
 use native.Mathlib.Omega.{arith}
 use borrow.Author.Needs.{needs}
-use Rattle.codec.proofs.walk.less_if.Statement.{statement}
-use Rattle.codec.proofs.walk.less_if.Tie as tie
+use Rattle.codec.proofs.examine.less_if.Statement.{statement}
+use Rattle.codec.proofs.examine.less_if.Tie as tie
 
 sub-result : tie.Need-sub-result
 sub-result c = search needs

@@ -1,8 +1,8 @@
 -- `padding_value` meets its contract.
 use mathlib.Core.Path.{refl}
 use Rattle.codec.specs.Payload.{padding}
-use Rattle.codec.proofs.walk.padding_value.Statement.{statement}
-use Rattle.codec.proofs.walk.padding_value.Tie as tie
+use Rattle.codec.proofs.payload.padding_value.Statement.{statement}
+use Rattle.codec.proofs.payload.padding_value.Tie as tie
 
 returns : tie.Need-returns
 unfolding padding

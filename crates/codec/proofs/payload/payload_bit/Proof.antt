@@ -1,8 +1,8 @@
 -- `payload_bit` meets its contract.
 use borrow.Author.Needs.{needs}
 use Rattle.codec.proofs.theory.PayloadByte.{byte-power-some, payload-bit-is}
-use Rattle.codec.proofs.walk.payload_bit.Statement.{statement}
-use Rattle.codec.proofs.walk.payload_bit.Tie as tie
+use Rattle.codec.proofs.payload.payload_bit.Statement.{statement}
+use Rattle.codec.proofs.payload.payload_bit.Tie as tie
 
 shared-slice-read-result : tie.Need-shared-slice-read-result
 shared-slice-read-result c = search needs

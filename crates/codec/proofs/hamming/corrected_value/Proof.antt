@@ -2,8 +2,8 @@
 use mathlib.Core.Path.{sym, refl, _∙_}
 use borrow.Author.Needs.{needs}
 use borrow.Author.Tests.{eq-eqb, ne-eqb}
-use Rattle.codec.proofs.walk.corrected_value.Statement.{statement}
-use Rattle.codec.proofs.walk.corrected_value.Tie as tie
+use Rattle.codec.proofs.hamming.corrected_value.Statement.{statement}
+use Rattle.codec.proofs.hamming.corrected_value.Tie as tie
 
 syndrome-of-requires : tie.Need-syndrome-of-requires
 syndrome-of-requires c κs = search needs

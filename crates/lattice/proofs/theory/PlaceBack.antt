@@ -5,15 +5,15 @@ use mathlib.Core.Path.{_≡_, sym, ap, _∙_}
 use native.Mathlib.Decide.{ℕ-discrete}
 use native.Mathlib.Omega.{arith}
 use lib.ListN.{getD}
 use Rattle.lattice.specs.declared.class.Placement.{Placement}
 use Rattle.lattice.specs.declared.shape.Shape.{Shape}
 use Rattle.lattice.specs.Shape.{maxClasses, Accepted, cellsOf}
 use Rattle.lattice.specs.Cell.{cellAt}
 use Rattle.lattice.specs.Class.{classAt, layoutOf, placementOf, classBy}
 use Rattle.lattice.specs.Position.{Layout, sizeTo, size}
+use Rattle.lattice.specs.Sizes.{HoldsZeros, HoldsSizes, HoldsRest, EntryStored, AtCellBack, AtPlace}
 use Rattle.lattice.proofs.theory.ClassAt.{at-class, at-below}
 use Rattle.lattice.proofs.theory.Positions.{size-own, size-other, position-size}
-use Rattle.codec.specs.Working.{HoldsZeros, HoldsSizes, HoldsRest, Stored, AtCellBack, AtPlace}
 
 -- behind the last cell there is none
 pub rest-none : (s : Shape) (behind : List ℕ) (n : ℕ) → HoldsZeros behind → n ≡ cellsOf s → HoldsRest (layoutOf s) behind n
@@ -21,7 +21,7 @@ rest-none s behind n p e =
     record { at = λ a l. omega (arith, p .at a l, ap (sizeTo (layoutOf s) a) e) }
 
 -- one cell more adds 1 to the entry of its class
-rest-more : (L : Layout) (xs ys : List ℕ) (n k : ℕ) → HoldsRest L xs (n + 1) → k ≡ L .class n → Stored xs ys k (getD xs k 0 + 1)
+rest-more : (L : Layout) (xs ys : List ℕ) (n k : ℕ) → HoldsRest L xs (n + 1) → k ≡ L .class n → EntryStored xs ys k (getD xs k 0 + 1)
     → HoldsRest L ys n
 rest-more L xs ys n k rest own st = record { at = λ a l. go a l (ℕ-discrete a k) }
   where
@@ -65,5 +65,5 @@ module _ (s : Shape) (k : Placement) (sizes behind : List ℕ) (i : ℕ) (at : A
       }
 
   -- the counts with the cell
-  pub back-counted : (after : List ℕ) → Stored behind after a (getD behind a 0 + 1) → HoldsRest (layoutOf s) after i
+  pub back-counted : (after : List ℕ) → EntryStored behind after a (getD behind a 0 + 1) → HoldsRest (layoutOf s) after i
   back-counted after st = rest-more (layoutOf s) behind after i a (at .counted) own st

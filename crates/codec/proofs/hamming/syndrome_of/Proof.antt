@@ -2,8 +2,8 @@
 use mathlib.Core.Path.{sym}
 use lib.ListN.{List·getD-eq-default}
 use borrow.Author.Needs.{needs}
-use Rattle.codec.proofs.walk.syndrome_of.Statement.{statement}
-use Rattle.codec.proofs.walk.syndrome_of.Tie as tie
+use Rattle.codec.proofs.hamming.syndrome_of.Statement.{statement}
+use Rattle.codec.proofs.hamming.syndrome_of.Tie as tie
 
 mul-result : tie.Need-mul-result
 mul-result c = search needs

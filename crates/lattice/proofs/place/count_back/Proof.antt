@@ -1,9 +1,9 @@
 -- `count_back` meets its contract.
 use mathlib.Core.Path.{refl}
 use borrow.Author.Needs.{needs}
-use Rattle.codec.proofs.theory.WorkArrays.{stored}
-use Rattle.codec.proofs.walk.count_back.Statement.{statement}
-use Rattle.codec.proofs.walk.count_back.Tie as tie
+use Rattle.lattice.proofs.theory.Stores.{entry-stored}
+use Rattle.lattice.proofs.place.count_back.Statement.{statement}
+use Rattle.lattice.proofs.place.count_back.Tie as tie
 
 mul-count : tie.Need-mul-count
 mul-count c = search needs
@@ -27,7 +27,7 @@ same-length : tie.Need-same-length
 same-length c = search needs
 
 returns : tie.Need-returns
-returns c = (refl, stored _ _ _ (c .before .pre .0))
+returns c = (refl, entry-stored _ _ _ (c .before .pre .0))
 
 pub count-back-spec : {M : Type 1} → statement M
 count-back-spec =

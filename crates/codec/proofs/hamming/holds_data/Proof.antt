@@ -2,8 +2,8 @@
 use mathlib.Core.Bool.{not}
 use mathlib.Core.Path.{ap}
 use borrow.Author.Needs.{needs}
-use Rattle.codec.proofs.walk.holds_data.Statement.{statement}
-use Rattle.codec.proofs.walk.holds_data.Tie as tie
+use Rattle.codec.proofs.hamming.holds_data.Statement.{statement}
+use Rattle.codec.proofs.hamming.holds_data.Tie as tie
 
 mul-is-check : tie.Need-mul-is-check
 mul-is-check c = search needs
