@@ -10,7 +10,8 @@ use Rattle.lattice.specs.Shape.{shapeConditions, cellsOf}
 use Rattle.codec.specs.Field.{Field, fieldOf}
 use Rattle.codec.specs.Payload.{Bytes}
 use Rattle.codec.specs.Plan.{planBytes}
-use Rattle.codec.specs.Conditions.{WrongPayload, NoneInReach, WrongPadding}
+use Rattle.codec.specs.Conditions.{WrongPayloadLength, NoneInReach}
+use Rattle.codec.specs.Reach.{WrongInReach}
 use Rattle.card.specs.declared.header.Header.{Header}
 use Rattle.card.specs.Text.{headerText, payloadText, fieldText, refusalText}
 use Rattle.card.specs.Card.{maxInput, maxCardCells, shapeOf, Small, CardHeader, FieldCells, payloadCard, fieldCard}
@@ -51,7 +52,7 @@ NoBody s = (x : HeaderFirst s) × (¬ Body (x .header) (x .rest))
 -- 3: the payload's length isn't the plan's
 abbrev pub PayloadRefused : List ℕ → Type 0
 PayloadRefused s =
-    (x : HeaderFirst s) × (p : List ℕ) × Bytes p × (x .rest ≡ payloadText p) × WrongPayload (shapeOf (x .header)) p
+    (x : HeaderFirst s) × (p : List ℕ) × Bytes p × (x .rest ≡ payloadText p) × WrongPayloadLength (shapeOf (x .header)) p
 
 -- 6, 7: of the field that the rows give
 abbrev pub FieldRefused : (Shape → Field → Type 0) → List ℕ → Type 0
@@ -63,7 +64,7 @@ abbrev pub ReachRefused : List ℕ → Type 0
 ReachRefused s = FieldRefused NoneInReach s
 
 abbrev pub PaddingRefused : List ℕ → Type 0
-PaddingRefused s = FieldRefused WrongPadding s
+PaddingRefused s = FieldRefused WrongInReach s
 
 -- the operation's own refusals
 abbrev pub operationRefusals : List ℕ → List Listed

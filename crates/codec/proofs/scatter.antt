@@ -1,3 +1,2 @@
 -- What scattering the payload uses alone.
-mod Values
 mod Scattered

@@ -1,11 +1,12 @@
 -- Damage to a field that was written, and what comes back from it.
-use Prim.Native.Nat.{ℕ}
-use mathlib.Core.Bool.{Bool, cond}
+use Prim.Native.Nat.{ℕ, _<_}
+use mathlib.Core.Bool.{Bool, cond, true}
 use mathlib.Core.List.{List}
 use mathlib.Core.Path.{_≡_}
 use Rattle.lattice.specs.declared.shape.Shape.{Shape}
 use Rattle.lattice.specs.Shape.{cellsOf}
 use Rattle.lattice.specs.Cell.{Cell, cellAt}
+use Rattle.lattice.specs.Class.{classAt}
 use Rattle.codec.specs.Field.{Field, fieldOf, listOf, flip, differences}
 use Rattle.codec.specs.Encode.{encodedField}
 use Rattle.codec.specs.Decode.{decodeNumber, decodeCount, decodeLeaves}
@@ -18,6 +19,12 @@ damaged f selected i = cond (selected i) (flip (f i)) (f i)
 -- F is the field written from p, and G is F with the selected cells turned over
 abbrev pub damagedField : Shape → List ℕ → (Cell → Bool) → List ℕ
 damagedField s p selected = listOf (damaged (fieldOf (encodedField s p)) (λ i. selected (cellAt s i))) (cellsOf s)
+
+-- at most one cell of each class is selected
+abbrev pub OneInEachClass : Shape → (Cell → Bool) → Type 0
+OneInEachClass s selected =
+    (i j : ℕ) → i < cellsOf s → j < cellsOf s → selected (cellAt s i) ≡ true → selected (cellAt s j) ≡ true
+    → classAt s i ≡ classAt s j → i ≡ j
 
 -- from G the payload p and the field F come back: reading G into a payload buffer gives 0 and leaves exactly p; mending G gives 0
 -- and leaves exactly F; and the count of each is the number of cells where F and G differ

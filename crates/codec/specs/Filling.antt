@@ -14,8 +14,8 @@ use Rattle.lattice.specs.Position.{Layout}
 use Rattle.lattice.specs.Check.{holdsData}
 use Rattle.lattice.specs.Listing.{maxChecks, checksTo, ListsChecks, HoldsPlaces, Run}
 use Rattle.codec.specs.Field.{Field, fieldOf, listOf, Same}
-use Rattle.codec.specs.Payload.{payloadBytes, dataField, encoded}
-use Rattle.codec.specs.Working.{HoldsSyndromes, valueAt}
+use Rattle.codec.specs.Payload.{payloadBytes, dataField, encoded, dataValue}
+use Rattle.codec.specs.Working.{HoldsSyndromes}
 
 -- the cells from x on are the n bits of v, the highest first, and the others stay
 pub record BitsPut (before after : List ℕ) (x n v : ℕ) : Type 0 where
@@ -25,7 +25,7 @@ pub record BitsPut (before after : List ℕ) (x n v : ℕ) : Type 0 where
 -- in a part that begins at cell `at`, the cells from i up to e, which k checks stand before, have their values, and the others
 -- stay
 pub record ValuesPut (payload before after : List ℕ) (at k i e : ℕ) : Type 0 where
-  pub own : (x : ℕ) → i ≤ x → x < e → getD after (x - at) 0 ≡ valueAt payload (x - k)
+  pub own : (x : ℕ) → i ≤ x → x < e → getD after (x - at) 0 ≡ dataValue (length payload) payload (x - k)
   pub others : (y : ℕ) → (at + y < i) ⊎ (e ≤ at + y) → getD after y 0 ≡ getD before y 0
 
 -- from any cell up to `end` that k checks stand before, the run goes up to cell r: the next check, or the end

@@ -10,8 +10,8 @@ pub mod Encode
 pub mod Decode
 pub mod Correct
 pub mod Answer
-pub mod Conditions
 pub mod Reach
+pub mod Conditions
 pub mod Damage
 -- theorems
 pub mod theorems

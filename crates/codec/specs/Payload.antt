@@ -31,23 +31,23 @@ payloadBit p k = getD p (k / 8) 0 / 2 ^ (7 - k % 8) % 2
 unfoldable pub padding : ℕ → ℕ
 padding j = 0
 
--- the value of the k-th of the cells that hold no check: a bit of the payload, or padding behind its last bit
-unfoldable pub dataValue : Layout → List ℕ → ℕ → ℕ
-dataValue L p k =
-    cond (ltb k (8 * payloadBytes L)) (payloadBit p k) (padding (k - 8 * payloadBytes L))
+-- the value of the k-th of the cells that hold no check, for a payload of that many bytes: one of its bits, or padding behind the
+-- last
+unfoldable pub dataValue : ℕ → List ℕ → ℕ → ℕ
+dataValue bytes p k = cond (ltb k (8 * bytes)) (payloadBit p k) (padding (k - 8 * bytes))
 
 -- the field of the data alone, with 0 in the check cells
 unfoldable pub dataField : Layout → List ℕ → Field
-dataField L p i = cond (holdsData L i) (dataValue L p (rank L i)) 0
+dataField L p i = cond (holdsData L i) (dataValue (payloadBytes L) p (rank L i)) 0
 
 -- the field written from a payload: the check cell at position 2^j holds bit j of the syndrome of its class's data
 unfoldable pub encoded : Layout → List ℕ → Field
 encoded L p i =
-    cond (holdsData L i) (dataValue L p (rank L i)) (syndrome L (tagsOf L) (dataField L p) (L .class i) / position L i % 2)
+    cond (holdsData L i) (dataValue (payloadBytes L) p (rank L i)) (syndrome L (tagsOf L) (dataField L p) (L .class i) / position L i % 2)
 
 -- the field has the payload's bits and the padding in the cells that hold no check
 abbrev pub Carries : Layout → Field → List ℕ → Type 0
-Carries L f p = (i : ℕ) → i < L .cells → holdsData L i ≡ true → f i ≡ dataValue L p (rank L i)
+Carries L f p = (i : ℕ) → i < L .cells → holdsData L i ≡ true → f i ≡ dataValue (payloadBytes L) p (rank L i)
 
 -- the padding cells hold the padding
 abbrev pub PaddingRight : Layout → Field → Type 0

@@ -16,9 +16,9 @@ pub record Readable (s : Shape) (field : List ℕ) : Type 0 where
   pub long : length field ≡ cellsOf s
   pub cells : Received (fieldOf field) (cellsOf s)
 
--- a lawful field in reach with right padding, and one with wrong padding
-abbrev pub RightField : Shape → Field → Type 0
-RightField s f = (g : Field) × NearestTo s f g × PaddingRight (layoutOf s) g
+-- a lawful field in reach, which differs in at most one cell of each class: one with right padding, and one with wrong padding
+abbrev pub RightInReach : Shape → Field → Type 0
+RightInReach s f = (g : Field) × NearestTo s f g × PaddingRight (layoutOf s) g
 
-abbrev pub WrongFieldNear : Shape → Field → Type 0
-WrongFieldNear s f = (g : Field) × NearestTo s f g × (¬ PaddingRight (layoutOf s) g)
+abbrev pub WrongInReach : Shape → Field → Type 0
+WrongInReach s f = (g : Field) × NearestTo s f g × (¬ PaddingRight (layoutOf s) g)

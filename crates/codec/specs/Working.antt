@@ -1,9 +1,9 @@
 -- What the work arrays of a pass over the cells hold. Only contracts of functions that are private to the crate cite this file.
-use Prim.Native.Nat.{ℕ, _-_, _*_, _<_}
-use mathlib.Core.Bool.{Bool, true, cond, not, _||_}
+use Prim.Native.Nat.{ℕ, _<_}
+use mathlib.Core.Bool.{Bool, true, not, _||_}
 use mathlib.Core.List.{List}
 use mathlib.Core.Path.{_≡_}
-use lib.Dec.{eqb, ltb}
+use lib.Dec.{eqb}
 use lib.ListN.{length, getD}
 use Rattle.lattice.specs.declared.shape.Shape.{Shape}
 use Rattle.lattice.specs.Refusal.{unless}
@@ -15,15 +15,11 @@ use Rattle.codec.specs.Field.{Field, fieldOf, Received}
 use Rattle.codec.specs.Hamming.{tagsOf, syndromeTo}
 use Rattle.codec.specs.Code.{fieldInReach}
 use Rattle.codec.specs.Plan.{planBytes, planCells}
-use Rattle.codec.specs.Payload.{payloadBytes, payloadBit, padding}
+use Rattle.codec.specs.Payload.{payloadBytes, padding}
 
 -- the array holds the syndrome of each class of f over the first n cells
 pub record HoldsSyndromes (L : Layout) (f : Field) (l : List ℕ) (n : ℕ) : Type 0 where
   pub at : (a : ℕ) → a < maxClasses → getD l a 0 ≡ syndromeTo L (tagsOf L) f a n
-
--- the value of the k-th of the cells that hold no check, by the payload's own length
-unfoldable pub valueAt : List ℕ → ℕ → ℕ
-valueAt p k = cond (ltb k (8 * length p)) (payloadBit p k) (padding (k - 8 * length p))
 
 -- the shape is accepted, the payload has its plan's length, and the array holds the size of each class
 pub record PayloadFits (s : Shape) (payload sizes : List ℕ) : Type 0 where

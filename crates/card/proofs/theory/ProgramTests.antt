@@ -19,7 +19,8 @@ use Rattle.codec.specs.Payload.{paddingOk}
 use Rattle.codec.specs.Plan.{planBytes, planCells}
 use Rattle.codec.specs.Encode.{encodeNumber}
 use Rattle.codec.specs.Decode.{correctedField, fieldNumber, decodeNumber}
-use Rattle.codec.specs.Conditions.{NoneInReach, WrongPadding}
+use Rattle.codec.specs.Conditions.{NoneInReach}
+use Rattle.codec.specs.Reach.{WrongInReach}
 use Rattle.codec.proofs.theory.Accepted.{plan-cells, decode-number}
 use Rattle.codec.proofs.theory.FieldLists.{received-ok}
 use Rattle.card.specs.declared.header.Header.{Header}
@@ -75,7 +76,7 @@ module _ (s : List ℕ) (h : Header) (next : ℕ) (found : headerOf s ≡ head.F
       (due-test 2 _ (payload-condition s h next found card p bytes text)
       (λ _.
       due-skip (no-field s h next found card p bytes text NoneInReach)
-      (due-skip (no-field s h next found card p bytes text WrongPadding) due-none)))
+      (due-skip (no-field s h next found card p bytes text WrongInReach) due-none)))
   operation-due card (of-field e each text) =
       let cells = cellsIn s h next in
       subst (Due (operationRefusals s)) (sym (operation-rows s h next e ∙ decode-cells h card cells each))

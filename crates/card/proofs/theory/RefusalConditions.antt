@@ -17,7 +17,8 @@ use Rattle.codec.specs.Code.{fieldInReach}
 use Rattle.codec.specs.Payload.{Bytes, paddingOk}
 use Rattle.codec.specs.Plan.{planBytes}
 use Rattle.codec.specs.Decode.{correctedField}
-use Rattle.codec.specs.Conditions.{WrongPayload, NoneInReach, WrongPadding}
+use Rattle.codec.specs.Conditions.{WrongPayloadLength, NoneInReach}
+use Rattle.codec.specs.Reach.{WrongInReach}
 use Rattle.codec.proofs.theory.FieldTests.{equal-decides, reach-decides, padding-decides}
 use Rattle.card.specs.declared.header.Header.{Header}
 use Rattle.card.specs.declared.header.HeaderAnswer.the-variants as head
@@ -85,19 +86,19 @@ module _ (s : List ℕ) (h : Header) (next : ℕ) (found : headerOf s ≡ head.F
       unfolding first
       payload-condition = decides-same (there, back) (equal-decides (length p) (planBytes (shapeOf h)))
         where
-          there : WrongPayload (shapeOf h) p → PayloadRefused s
+          there : WrongPayloadLength (shapeOf h) p → PayloadRefused s
           there wrong =
               let x = first s h next found in
               (x, p, bytes, rest-of s h next found x (payloadText p) text, wrong)
 
-          back : PayloadRefused s → WrongPayload (shapeOf h) p
+          back : PayloadRefused s → WrongPayloadLength (shapeOf h) p
           back r =
               let q = r .1 in
               let t : s ≡ payloadCard h q = text-of s h next found (r .0) (payloadText q) (r .3) in
               let same : q ≡ p =
               sym (payload-read s h next found card q (r .2) t .1)
               ∙ payload-read s h next found card p bytes text .1 in
-              subst₂ (λ (g : Header) (l : List ℕ). WrongPayload (shapeOf g) l) (same-header s h next found (r .0)) same (r .4)
+              subst₂ (λ (g : Header) (l : List ℕ). WrongPayloadLength (shapeOf g) l) (same-header s h next found (r .0)) same (r .4)
 
       pub no-field : (C : Shape → Field → Type 0) → ¬ FieldRefused C s
       no-field C r = let d = rows-of s h next found (r .0) (r .1) (r .2) (r .3) in one-kind p (r .1) (d .0) text (d .1)
@@ -133,5 +134,5 @@ module _ (s : List ℕ) (h : Header) (next : ℕ) (found : headerOf s ≡ head.F
       pub padding-condition : fieldInReach (shapeOf h) (fieldOf cells) ≡ true
           → Decides (paddingOk (layoutOf (shapeOf h)) (correctedField (shapeOf h) (fieldOf cells))) (PaddingRefused s)
       padding-condition reach =
-          decides-same (field-condition WrongPadding)
+          decides-same (field-condition WrongInReach)
           (padding-decides (shapeOf h) (card .accepted) (fieldOf cells) (received-cells _ _ (each .each)) reach)

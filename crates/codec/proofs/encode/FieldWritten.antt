@@ -15,7 +15,7 @@ use Rattle.lattice.proofs.theory.ClassBelow.{classes-limit, class-below}
 use Rattle.lattice.proofs.theory.Limits.{legal}
 use Rattle.codec.specs.Field.{fieldOf, Cells, Same}
 use Rattle.codec.specs.Hamming.{tagsOf}
-use Rattle.codec.specs.Payload.{rank, dataField, encoded}
+use Rattle.codec.specs.Payload.{rank, dataField, encoded, payloadBytes}
 use Rattle.codec.specs.Encode.{encodedField}
 use Rattle.codec.specs.Working.{HoldsSyndromes, PayloadFits, FieldFits}
 use Rattle.codec.specs.Filling.{ChecksListed, dataBuffer, ToCheck}
@@ -68,7 +68,7 @@ module _ (s : Shape) (payload sizes checks places : List ℕ) (amount : ℕ) (fi
     filled-are-cells i l =
         rw (filled-same i (omega (arith, filled-fits .long)))
         (cond-cell (holdsData (layoutOf s) i) _ _
-        (most-cell _ (data-value-most (layoutOf s) payload (rank (layoutOf s) i)))
+        (most-cell _ (data-value-most (payloadBytes (layoutOf s)) payload (rank (layoutOf s) i)))
         zero-cell)
 
     pub listed-below : (k : ℕ) → k < amount → getD checks k 0 < length field

@@ -15,7 +15,7 @@ use Rattle.lattice.specs.Check.{holdsData}
 use Rattle.lattice.specs.Listing.{checksTo, ListsChecks, Run}
 use Rattle.lattice.proofs.theory.Runs.{checks-mono, checks-most, checks-check, run-checks, run-part, next-run, last-run}
 use Rattle.codec.specs.Payload.{payloadBytes, payloadBit, padding, rank, dataValue, dataField}
-use Rattle.codec.specs.Working.{valueAt}
+use Rattle.codec.specs.Payload.{dataValue}
 use Rattle.codec.specs.Filling.{ValuesPut, EndsRun, DataPut, AtRun}
 use Rattle.codec.proofs.theory.Gathered.{run-rank}
 
@@ -50,8 +50,8 @@ module _ (L : Layout) (amount : ℕ) (checks : List ℕ) (lists : ListsChecks L 
 module _ (L : Layout) (p : List ℕ) where
   -- the data alone, at a cell that holds no check and at a check
   data-value : length p ≡ payloadBytes L → (x k : ℕ) → holdsData L x ≡ true → rank L x + k ≡ x
-      → valueAt p (x - k) ≡ dataField L p x
-  unfolding valueAt dataField dataValue
+      → dataValue (length p) p (x - k) ≡ dataField L p x
+  unfolding dataField dataValue
   data-value long x k held ranked =
       let number : x - k ≡ rank L x = omega arith in
       rw held (ap₂ (λ (m r : ℕ). cond (ltb r (8 * m)) (payloadBit p r) (padding (r - 8 * m))) long number)

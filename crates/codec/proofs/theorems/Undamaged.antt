@@ -14,7 +14,7 @@ use Rattle.codec.specs.Plan.{planBytes}
 use Rattle.codec.specs.Encode.{encodedField}
 use Rattle.codec.specs.Decode.{correctedField, decodeNumber, decodeLeaves}
 use Rattle.codec.specs.Correct.{correctNumber, correctLeaves}
-use Rattle.codec.specs.Reach.{Readable, RightField}
+use Rattle.codec.specs.Reach.{Readable, RightInReach}
 use Rattle.codec.specs.theorems.Undamaged.{NothingToCorrect}
 use Rattle.codec.specs.Damage.{damaged, damagedField, Recovered}
 use Rattle.codec.specs.Code.{tagsAt, NearestTo}
@@ -62,7 +62,7 @@ readable s field e =
     record { accepted = t .fits .accepted; long = t .fits .long; cells = t .cells }
 
 module _ (s : Shape) (field : List ℕ) (success : correctNumber s field ≡ 0) where
-  found : RightField s (fieldOf field)
+  found : RightInReach s (fieldOf field)
   found = correctMeaning s field (readable s field success) .success .0 success
 
   M : List ℕ

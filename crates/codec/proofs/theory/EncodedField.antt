@@ -8,7 +8,7 @@ use Rattle.lattice.specs.Position.{Layout, position}
 use Rattle.lattice.specs.Check.{holdsData}
 use Rattle.codec.specs.Field.{Field, Cells, Same}
 use Rattle.codec.specs.Hamming.{tagsOf, syndrome, Codeword, Lawful}
-use Rattle.codec.specs.Payload.{rank, dataValue, dataField, encoded, Carries}
+use Rattle.codec.specs.Payload.{rank, dataValue, dataField, encoded, Carries, payloadBytes}
 use Rattle.codec.proofs.theory.CellValues.{most-cell, cond-cell}
 use Rattle.codec.proofs.theory.CheckBits.{dataPart, codeword-checks, checks-codeword}
 use Rattle.codec.proofs.theory.PayloadBits.{data-value-most}
@@ -18,10 +18,10 @@ module _ (L : Layout) (p : List ℕ) where
   -- the cells of the field written are 0 or 1
   pub encoded-cells : (m : ℕ) → Cells (encoded L p) m
   unfolding encoded
-  encoded-cells m i l = cond-cell (holdsData L i) _ _ (most-cell _ (data-value-most L p (rank L i))) (most-cell _ (omega arith))
+  encoded-cells m i l = cond-cell (holdsData L i) _ _ (most-cell _ (data-value-most (payloadBytes L) p (rank L i))) (most-cell _ (omega arith))
 
   -- the value of a cell of the field written
-  pub encoded-data : (i : ℕ) → holdsData L i ≡ true → encoded L p i ≡ dataValue L p (rank L i)
+  pub encoded-data : (i : ℕ) → holdsData L i ≡ true → encoded L p i ≡ dataValue (payloadBytes L) p (rank L i)
   unfolding encoded
   encoded-data i e = rw e
 

@@ -13,7 +13,7 @@ use Rattle.codec.specs.Field.{Field, Cells, Received, Same, differences}
 use Rattle.codec.specs.Payload.{Carries, PaddingRight, paddingOk, heldPayload}
 use Rattle.codec.specs.Code.{tagsAt, NearestTo, fieldInReach}
 use Rattle.codec.specs.Decode.{correctedField, fieldNumber, correctedCount}
-use Rattle.codec.specs.Reach.{RightField, WrongFieldNear}
+use Rattle.codec.specs.Reach.{RightInReach, WrongInReach}
 use Rattle.codec.proofs.theory.Accepted.{class-at-below}
 use Rattle.codec.proofs.theory.CellValues.{received-cells}
 use Rattle.codec.proofs.theory.FieldLists.{received-ok}
@@ -25,9 +25,9 @@ use Rattle.codec.proofs.theory.HeldPayload.{held-carries, carries-same}
 use Rattle.codec.proofs.theory.Tags.{tags-tell}
 
 pub record FieldMeans (s : Shape) (f : Field) : Type 0 where
-  pub success : (fieldNumber s f ≡ 0) ↔ RightField s f
+  pub success : (fieldNumber s f ≡ 0) ↔ RightInReach s f
   pub none : (fieldNumber s f ≡ 6) ↔ ((g : Field) → ¬ NearestTo s f g)
-  pub wrong : (fieldNumber s f ≡ 7) ↔ WrongFieldNear s f
+  pub wrong : (fieldNumber s f ≡ 7) ↔ WrongInReach s f
   pub cells : Cells (correctedField s f) (cellsOf s)
   pub mended : (g : Field) → NearestTo s f g → Same (correctedField s f) g (cellsOf s)
   pub carries : (g : Field) → NearestTo s f g → PaddingRight (layoutOf s) g
@@ -99,15 +99,15 @@ module _ (s : Shape) (accepted : Accepted s) (f : Field) (received : Received f 
   number-is a b p q = field-number ∙ ap₂ number-of p q
 
   -- 0 exactly when a lawful field in reach has right padding
-  number-success : (fieldNumber s f ≡ 0) ↔ RightField s f
+  number-success : (fieldNumber s f ≡ 0) ↔ RightInReach s f
   number-success = (λ e. to reach right refl refl e, from)
     where
-      to : (a b : Bool) → reach ≡ a → right ≡ b → fieldNumber s f ≡ 0 → RightField s f
+      to : (a b : Bool) → reach ≡ a → right ≡ b → fieldNumber s f ≡ 0 → RightInReach s f
       to true true p q e = (correctedField s f, mended-nearest p, mended-right q)
       to true false p q e = absurd (omega (arith, number-is true false p q))
       to false b p q e = absurd (omega (arith, number-is false b p q))
 
-      from : RightField s f → fieldNumber s f ≡ 0
+      from : RightInReach s f → fieldNumber s f ≡ 0
       from found = number-is true true (nearest-reach (found .0) (found .1)) (nearest-right (found .0) (found .1) (found .2))
 
   -- 6 exactly when none is in reach
@@ -124,15 +124,15 @@ module _ (s : Shape) (accepted : Accepted s) (f : Field) (received : Received f 
       from none false b p q = number-is false b p q
 
   -- 7 exactly when one has wrong padding
-  number-wrong : (fieldNumber s f ≡ 7) ↔ WrongFieldNear s f
+  number-wrong : (fieldNumber s f ≡ 7) ↔ WrongInReach s f
   number-wrong = (λ e. to reach right refl refl e, λ found. from found right refl)
     where
-      to : (a b : Bool) → reach ≡ a → right ≡ b → fieldNumber s f ≡ 7 → WrongFieldNear s f
+      to : (a b : Bool) → reach ≡ a → right ≡ b → fieldNumber s f ≡ 7 → WrongInReach s f
       to true true p q e = absurd (omega (arith, number-is true true p q))
       to true false p q e = (correctedField s f, mended-nearest p, mended-wrong q)
       to false b p q e = absurd (omega (arith, number-is false b p q))
 
-      from : WrongFieldNear s f → (b : Bool) → right ≡ b → fieldNumber s f ≡ 7
+      from : WrongInReach s f → (b : Bool) → right ≡ b → fieldNumber s f ≡ 7
       from found true q = absurd (nearest-wrong (found .0) (found .1) (found .2) q)
       from found false q = number-is true false (nearest-reach (found .0) (found .1)) q
 

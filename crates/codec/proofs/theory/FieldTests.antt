@@ -17,7 +17,8 @@ use Rattle.codec.specs.Field.{Field, fieldOf, Cells, cellsOk}
 use Rattle.codec.specs.Payload.{paddingOk}
 use Rattle.codec.specs.Plan.{planCells}
 use Rattle.codec.specs.Decode.{correctedField, fieldNumber}
-use Rattle.codec.specs.Conditions.{NotACell, NoneInReach, WrongPadding, fieldRefusals}
+use Rattle.codec.specs.Conditions.{NotACell, NoneInReach, fieldRefusals}
+use Rattle.codec.specs.Reach.{WrongInReach}
 use Rattle.codec.specs.Code.{tagsAt, fieldInReach}
 use Rattle.codec.proofs.theory.CellValues.{received-cells}
 use Rattle.codec.proofs.theory.Accepted.{class-at-below, plan-cells}
@@ -53,7 +54,7 @@ module _ (s : Shape) (accepted : Accepted s) (f : Field) (cells : Cells f (cells
             none .1 (near .0) (near .1) (near .2) (near .3);
       }
 
-  pub padding-decides : fieldInReach s f ≡ true → Decides (paddingOk (layoutOf s) (correctedField s f)) (WrongPadding s f)
+  pub padding-decides : fieldInReach s f ≡ true → Decides (paddingOk (layoutOf s) (correctedField s f)) (WrongInReach s f)
   padding-decides reach =
       record {
         fails = λ e. (

@@ -16,9 +16,9 @@ use Rattle.codec.proofs.theory.CellValues.{cell-most}
 use Rattle.codec.proofs.theory.EncodedField.{encoded-carries}
 use Rattle.codec.proofs.theory.FieldLists.{length-listOf, getD-listOf, getD-listOf-behind, listOf-same}
 use Rattle.codec.proofs.theory.HeldByte.{DataCells, bitsOf, byte-below, byte-bit, byte-same}
-use Rattle.codec.proofs.theorems.Payload.{bitsTell}
 use Rattle.codec.proofs.theory.PayloadBits.{value-bit, value-padding, data-value-most}
 use Rattle.codec.proofs.theory.Ranks.{bytes-most, rank-all, rank-some}
+use Rattle.codec.proofs.theorems.Payload.{bitsTell}
 
 -- every bit of byte r / 8 is made once 8 m data cells are passed, where r is below 8 m
 full : (r q m : ℕ) → r < 8 * m → 8 * m ≤ q → 7 - r % 8 + suc (r % 8) ≡ bitsOf (r / 8) q
@@ -79,16 +79,16 @@ module _ (L : Layout) where
   pub held-carries : (f : Field) → Cells f (L .cells) → PaddingRight L f → Carries L f (heldPayload L f)
   held-carries f c p i l h = go (decLt (rank L i) (8 * payloadBytes L))
     where
-      go : Dec (rank L i < 8 * payloadBytes L) → f i ≡ dataValue L (heldPayload L f) (rank L i)
-      go (yes r) = sym (value-bit L _ (rank L i) r ∙ bits f (data-cells f c) i l h r)
-      go (no r) = let q : 8 * payloadBytes L ≤ rank L i = omega arith in p i l h q ∙ sym (value-padding L _ (rank L i) q)
+      go : Dec (rank L i < 8 * payloadBytes L) → f i ≡ dataValue (payloadBytes L) (heldPayload L f) (rank L i)
+      go (yes r) = sym (value-bit (payloadBytes L) _ (rank L i) r ∙ bits f (data-cells f c) i l h r)
+      go (no r) = let q : 8 * payloadBytes L ≤ rank L i = omega arith in p i l h q ∙ sym (value-padding (payloadBytes L) _ (rank L i) q)
 
   -- a field that carries a payload holds it
   pub carries-held : (f : Field) (p : List ℕ) → Bytes p → length p ≡ payloadBytes L → Carries L f p → heldPayload L f ≡ p
   carries-held f p b l c = bitsTell (heldPayload L f) p (bytes f cells) b (held-length f ∙ sym l) bit
     where
       cells : DataCells L f (L .cells)
-      cells i r h = omega (arith, c i r h, data-value-most L p (rank L i))
+      cells i r h = omega (arith, c i r h, data-value-most (payloadBytes L) p (rank L i))
 
       at : (k : ℕ) → k < 8 * payloadBytes L → (i : ℕ) × (i < L .cells) × (holdsData L i ≡ true) × (rank L i ≡ k)
           → payloadBit (heldPayload L f) k ≡ payloadBit p k
@@ -96,8 +96,8 @@ module _ (L : Layout) where
           ap (payloadBit (heldPayload L f)) (sym (r .3))
           ∙ bits f cells (r .0) (r .1) (r .2) (omega (arith, r .3))
           ∙ c (r .0) (r .1) (r .2)
-          ∙ ap (dataValue L p) (r .3)
-          ∙ value-bit L p k m
+          ∙ ap (dataValue (payloadBytes L) p) (r .3)
+          ∙ value-bit (payloadBytes L) p k m
 
       bit : (k : ℕ) → k < 8 * length (heldPayload L f) → payloadBit (heldPayload L f) k ≡ payloadBit p k
       bit k m =

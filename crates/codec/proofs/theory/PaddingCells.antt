@@ -3,8 +3,8 @@ use Prim.Native.Nat.{ℕ, _-_, _*_}
 use mathlib.Core.Bool.{Bool, true, false, not, _||_, true≢false, false≢true}
 use mathlib.Core.List.{List}
 use mathlib.Core.Path.{_≡_, refl, sym, _∙_}
-use lib.Dec.{eqb}
 use borrow.Author.Tests.{eq-eqb, eqb-true, le-leb, leb-true}
+use lib.Dec.{eqb}
 use Rattle.lattice.specs.Position.{Layout}
 use Rattle.lattice.specs.Check.{holdsData}
 use Rattle.lattice.proofs.theory.Bools.{and-true, and-left, and-right}
@@ -24,7 +24,7 @@ true-when false c p q = absurd (false≢true q)
 
 -- a field that carries a payload has right padding
 pub carries-padding : (L : Layout) (f : Field) (p : List ℕ) → Carries L f p → PaddingRight L f
-carries-padding L f p c i l h r = c i l h ∙ value-padding L p (rank L i) r
+carries-padding L f p c i l h r = c i l h ∙ value-padding (payloadBytes L) p (rank L i) r
 
 module _ (L : Layout) where
   -- the padding at cell i, where it is a padding cell

@@ -15,7 +15,7 @@ use Rattle.codec.specs.Code.{NearestTo}
 use Rattle.codec.specs.Plan.{planBytes}
 use Rattle.codec.specs.Decode.{decodeNumber, decodeCount, decodeLeaves}
 use Rattle.codec.specs.Correct.{correctNumber, correctCount, correctLeaves}
-use Rattle.codec.specs.Reach.{Readable, RightField, WrongFieldNear}
+use Rattle.codec.specs.Reach.{Readable, RightInReach, WrongInReach}
 
 -- Theorem. Of one class, for any layout and any tags that tell its cells: at most one codeword differs in at most one cell.
 -- Positions are such tags, and with them none does where the syndrome is above the class's size.
@@ -37,9 +37,9 @@ OneNearest =
 -- Theorem (demand 2). Decoding gives 0 exactly when there is one with right padding, and then leaves the payload that it carries
 -- and the number of cells where it differs; 6 exactly when there is none; 7 exactly when there is one with wrong padding.
 pub record DecodingMeans (s : Shape) (payload field : List ℕ) : Type 0 where
-  pub success : (decodeNumber s payload field ≡ 0) ↔ RightField s (fieldOf field)
+  pub success : (decodeNumber s payload field ≡ 0) ↔ RightInReach s (fieldOf field)
   pub none : (decodeNumber s payload field ≡ 6) ↔ ((g : Field) → ¬ NearestTo s (fieldOf field) g)
-  pub wrong : (decodeNumber s payload field ≡ 7) ↔ WrongFieldNear s (fieldOf field)
+  pub wrong : (decodeNumber s payload field ≡ 7) ↔ WrongInReach s (fieldOf field)
   pub long : decodeNumber s payload field ≡ 0 → length (decodeLeaves s payload field) ≡ planBytes s
   pub bytes : decodeNumber s payload field ≡ 0 → Bytes (decodeLeaves s payload field)
   pub gives : (g : Field) → NearestTo s (fieldOf field) g → PaddingRight (layoutOf s) g
@@ -53,9 +53,9 @@ DecodeMeaning =
 
 -- Theorem (demand 2). Correcting likewise, leaving that field.
 pub record CorrectingMeans (s : Shape) (field : List ℕ) : Type 0 where
-  pub success : (correctNumber s field ≡ 0) ↔ RightField s (fieldOf field)
+  pub success : (correctNumber s field ≡ 0) ↔ RightInReach s (fieldOf field)
   pub none : (correctNumber s field ≡ 6) ↔ ((g : Field) → ¬ NearestTo s (fieldOf field) g)
-  pub wrong : (correctNumber s field ≡ 7) ↔ WrongFieldNear s (fieldOf field)
+  pub wrong : (correctNumber s field ≡ 7) ↔ WrongInReach s (fieldOf field)
   pub long : correctNumber s field ≡ 0 → length (correctLeaves s field) ≡ cellsOf s
   pub leaves : (g : Field) → NearestTo s (fieldOf field) g → PaddingRight (layoutOf s) g
       → Same (fieldOf (correctLeaves s field)) g (cellsOf s)

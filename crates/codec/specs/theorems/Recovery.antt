@@ -1,40 +1,30 @@
 -- Demand 3: what was written is read and mended again after any damage to one cluster of at most t cells, and the classes are no
 -- more than needed.
-use Prim.Native.Nat.{ℕ, _<_, _≤_}
+use Prim.Native.Nat.{ℕ, _≤_}
 use mathlib.Core.Bool.{Bool, true}
 use mathlib.Core.List.{List}
 use mathlib.Core.Path.{_≡_}
 use lib.ListN.{length}
 use Rattle.lattice.specs.declared.shape.Shape.{Shape}
-use Rattle.lattice.specs.Shape.{Accepted, cellsOf}
-use Rattle.lattice.specs.Cell.{Cell, cellAt}
+use Rattle.lattice.specs.Shape.{Accepted}
+use Rattle.lattice.specs.Cell.{Cell}
 use Rattle.lattice.specs.Cluster.{Cluster, AtMost}
-use Rattle.lattice.specs.Class.{classAt}
 use Rattle.lattice.specs.Labelling.{labels, Separates}
 use Rattle.codec.specs.Payload.{Bytes}
 use Rattle.codec.specs.Plan.{planClasses, planBytes}
 use Rattle.codec.specs.Encode.{encodedField}
-use Rattle.codec.specs.Damage.{damagedField, Recovered}
+use Rattle.codec.specs.Damage.{damagedField, Recovered, OneInEachClass}
 
 -- Theorem. Recovery for any selection with at most one cell in each class.
 abbrev pub RecoveryByClass : Type 0
 RecoveryByClass =
-    (s : Shape)
-    → Accepted s
-    → (p : List ℕ)
-    → length p ≡ planBytes s
-    → Bytes p
-    → (selected : Cell → Bool)
-    → ((i j : ℕ)
-    → i < cellsOf s
-    → j < cellsOf s
-    → selected (cellAt s i) ≡ true
-    → selected (cellAt s j) ≡ true
-    → classAt s i ≡ classAt s j
-    → i ≡ j)
-    → (buffer : List ℕ)
-    → length buffer ≡ planBytes s
-    → Recovered s p (encodedField s p) (damagedField s p selected) buffer
+    (s : Shape) → Accepted s
+    → (p : List ℕ) → length p ≡ planBytes s → Bytes p
+    → (selected : Cell → Bool) → OneInEachClass s selected
+    → (buffer : List ℕ) → length buffer ≡ planBytes s
+    → let F = encodedField s p in
+    let G = damagedField s p selected in
+    Recovered s p F G buffer
 
 -- Theorem (demand 3). For every shape that the plan accepts, every payload of the plan's length, every cluster of the field of at
 -- most t cells and every selection of its cells, none and all included.
@@ -45,7 +35,9 @@ Recovery =
     → (S : Cell → Type 0) → Cluster s S → AtMost (s .strength) S
     → (selected : Cell → Bool) → ((x : Cell) → selected x ≡ true → S x)
     → (buffer : List ℕ) → length buffer ≡ planBytes s
-    → Recovered s p (encodedField s p) (damagedField s p selected) buffer
+    → let F = encodedField s p in
+    let G = damagedField s p selected in
+    Recovered s p F G buffer
 
 -- Theorem (demand 3). On every flat field with t at least 1 and both sides at least t, every labelling in which no cluster of at
 -- most t cells has one label twice has at least as many labels as the plan gives classes.

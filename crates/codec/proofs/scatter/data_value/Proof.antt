@@ -1,6 +1,8 @@
 -- `data_value` meets its contract.
+use mathlib.Core.Path.{sym, _∙_}
+use native.Mathlib.Omega.{arith}
 use borrow.Author.Needs.{needs}
-use Rattle.codec.proofs.scatter.Values.{value-bit, value-padding}
+use Rattle.codec.proofs.theory.PayloadBits.{value-bit, value-padding}
 use Rattle.codec.proofs.scatter.data_value.Statement.{statement}
 use Rattle.codec.proofs.scatter.data_value.Tie as tie
 
@@ -17,10 +19,10 @@ padding-value-requires : tie.Need-padding-value-requires
 padding-value-requires c κs = search needs
 
 returns : tie.Need-returns
-returns c = value-bit _ _ _ (c .before .if1 .taken) (c .payload-bit .ensures)
+returns c = c .payload-bit .ensures ∙ sym (value-bit _ _ _ (omega (arith, c .before .if1 .taken)))
 
 returns-2 : tie.Need-returns-2
-returns-2 c = value-padding _ _ _ (c .before .if1 .left) (c .padding-value .ensures)
+returns-2 c = c .padding-value .ensures ∙ sym (value-padding _ _ _ (omega (arith, c .before .if1 .left)))
 
 pub data-value-spec : {M : Type 1} → statement M
 data-value-spec =
