@@ -41,4 +41,4 @@ pub mod FieldNumber
 pub mod OperationNumbers
 mod FieldMeaning
 pub mod ReadFields
-pub mod MendedField
+pub mod CorrectedField

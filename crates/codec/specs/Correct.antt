@@ -21,6 +21,6 @@ correctNumber s field =
 unfoldable pub correctCount : Shape → List ℕ → ℕ
 correctCount s field = figure (correctNumber s field) (correctedCount s (fieldOf field))
 
--- what correcting leaves in the lent field: the mended field, or beside a refusal its bytes
+-- what correcting leaves in the lent field: the corrected field, or beside a refusal its bytes
 unfoldable pub correctLeaves : Shape → List ℕ → List ℕ
 correctLeaves s field = beside (correctNumber s field) (listOf (correctedField s (fieldOf field)) (cellsOf s)) field

@@ -12,11 +12,11 @@ use Rattle.codec.specs.Encode.{encodedField}
 use Rattle.codec.specs.Decode.{decodeNumber, decodeCount, decodeLeaves}
 use Rattle.codec.specs.Correct.{correctNumber, correctCount, correctLeaves}
 
--- a field with the selected cells turned over
+-- a field with the selected cells flipped
 unfoldable pub damaged : Field → (ℕ → Bool) → Field
 damaged f selected i = cond (selected i) (flip (f i)) (f i)
 
--- F is the field written from p, and G is F with the selected cells turned over
+-- F is the field written from p, and G is F with the selected cells flipped
 abbrev pub damagedField : Shape → List ℕ → (Cell → Bool) → List ℕ
 damagedField s p selected = listOf (damaged (fieldOf (encodedField s p)) (λ i. selected (cellAt s i))) (cellsOf s)
 
@@ -26,7 +26,7 @@ OneInEachClass s selected =
     (i j : ℕ) → i < cellsOf s → j < cellsOf s → selected (cellAt s i) ≡ true → selected (cellAt s j) ≡ true
     → classAt s i ≡ classAt s j → i ≡ j
 
--- from G the payload p and the field F come back: reading G into a payload buffer gives 0 and leaves exactly p; mending G gives 0
+-- from G the payload p and the field F come back: reading G into a payload buffer gives 0 and leaves exactly p; correcting G gives 0
 -- and leaves exactly F; and the count of each is the number of cells where F and G differ
 pub record Recovered (s : Shape) (p F G buffer : List ℕ) : Type 0 where
   pub decoded-number : decodeNumber s buffer G ≡ 0

@@ -13,12 +13,12 @@ use Rattle.codec.specs.Payload.{paddingOk, heldPayload}
 use Rattle.codec.specs.Code.{tagsAt, fieldInReach}
 use Rattle.codec.specs.Plan.{planBytes, planCells}
 
--- the mended field: the cell whose position is the syndrome of its class is turned over
+-- the corrected field: the cell whose position is the syndrome of its class is flipped
 abbrev pub correctedField : Shape → Field → Field
 correctedField s f = corrected (layoutOf s) (tagsAt s) f
 
 -- the tests of the field itself: 5 for what is no cell, 6 for a class with no codeword in reach, 7 for wrong padding after
--- mending
+-- correcting
 unfoldable pub fieldNumber : Shape → Field → ℕ
 fieldNumber s f =
     unless (cellsOk f (cellsOf s)) 5
@@ -34,7 +34,7 @@ decodeNumber s payload field =
     (unless (eqb (length field) (planCells s)) 4
     (fieldNumber s (fieldOf field))))
 
--- the count of cells that mending turns over
+-- the count of cells that correcting flips
 unfoldable pub correctedCount : Shape → Field → ℕ
 correctedCount s f = differences f (correctedField s f) (cellsOf s)
 
@@ -42,7 +42,7 @@ correctedCount s f = differences f (correctedField s f) (cellsOf s)
 unfoldable pub decodeCount : Shape → List ℕ → List ℕ → ℕ
 decodeCount s payload field = figure (decodeNumber s payload field) (correctedCount s (fieldOf field))
 
--- what decoding leaves in the lent payload: the payload that the mended field holds, or beside a refusal its bytes
+-- what decoding leaves in the lent payload: the payload that the corrected field holds, or beside a refusal its bytes
 unfoldable pub decodeLeaves : Shape → List ℕ → List ℕ → List ℕ
 decodeLeaves s payload field =
     beside (decodeNumber s payload field) (heldPayload (layoutOf s) (correctedField s (fieldOf field))) payload

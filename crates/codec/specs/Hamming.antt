@@ -66,6 +66,6 @@ inReach L tag f a = eqb (syndrome L tag f a) 0 || isTag L tag a (syndrome L tag 
 unfoldable pub allInReach : Layout → Tags → ℕ → Field → Bool
 allInReach L tag m f = allBelow (inReach L tag f) m
 
--- the mended field: the cell whose tag is the syndrome of its class is turned over
+-- the corrected field: the cell whose tag is the syndrome of its class is flipped
 unfoldable pub corrected : Layout → Tags → Field → Field
 corrected L tag f i = cond (eqb (syndrome L tag f (L .class i)) (tag i)) (flip (f i)) (f i)

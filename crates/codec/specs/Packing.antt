@@ -34,7 +34,7 @@ pub record BitStored (before after : List ℕ) (k v : ℕ) : Type 0 where
   pub at : (j : ℕ) → j < length before
       → getD after j 0 ≡ cond (eqb (k / 8) j) ((getD before j 0 * 2 + v) % 256) (getD before j 0)
 
--- bit k of a payload is turned over
+-- bit k of a payload is flipped
 pub record BitFlipped (before after : List ℕ) (k : ℕ) : Type 0 where
   pub at : (j : ℕ)
       → j < 8 * length before
@@ -44,13 +44,13 @@ pub record BitFlipped (before after : List ℕ) (k : ℕ) : Type 0 where
 pub record HoldsBits (L : Layout) (f : Field) (l : List ℕ) : Type 0 where
   pub at : (i : ℕ) → i < L .cells → holdsData L i ≡ true → rank L i < 8 * length l → payloadBit l (rank L i) ≡ f i
 
--- f with cell c turned over
-unfoldable pub turnedAt : Field → ℕ → Field
-turnedAt f c i = cond (eqb i c) (flip (f i)) (f i)
+-- f with cell c flipped
+unfoldable pub flippedAt : Field → ℕ → Field
+flippedAt f c i = cond (eqb i c) (flip (f i)) (f i)
 
--- f with the classes below a mended
-unfoldable pub mendedTo : Layout → Field → ℕ → Field
-mendedTo L f a i = cond (ltb (L .class i) a) (corrected L (tagsOf L) f i) (f i)
+-- f with the classes below a corrected
+unfoldable pub correctedTo : Layout → Field → ℕ → Field
+correctedTo L f a i = cond (ltb (L .class i) a) (corrected L (tagsOf L) f i) (f i)
 
 -- for each class below m the list has the cell whose position is the syndrome, or no cell of the field where the syndrome is 0
 pub record Damaged (L : Layout) (m : ℕ) (f : Field) (cells : List ℕ) : Type 0 where

@@ -38,7 +38,7 @@ pub record FieldFits (s : Shape) (field : List ℕ) : Type 0 where
 
 -- a field that passes the tests of its cells and classes: its length is the plan's, it has nothing but cells, and a codeword is
 -- in reach of each class
-pub record Mendable (s : Shape) (field : List ℕ) : Type 0 where
+pub record Correctable (s : Shape) (field : List ℕ) : Type 0 where
   pub fits : FieldFits s field
   pub cells : Received (fieldOf field) (cellsOf s)
   pub reach : fieldInReach s (fieldOf field) ≡ true

@@ -8,17 +8,17 @@ ghost use Rattle.codec.specs.Decode.{correctedField, correctedCount};
 ghost use Rattle.codec.specs.Correct.{correctNumber};
 ghost use Rattle.codec.specs.Answer.{IsCorrected, correctAnswerNumber, correctAnswerCount};
 ghost use Rattle.lattice.specs.Sizes.{HoldsZeros};
-ghost use Rattle.codec.specs.Working.{HoldsSyndromes, Mendable};
+ghost use Rattle.codec.specs.Working.{HoldsSyndromes, Correctable};
+use crate::damage::count_damaged;
+use crate::damage::flip_cells;
 use crate::examine::examine;
-use crate::mend::count_damaged;
-use crate::mend::turn_cells;
 use lattice::capacity::class_sizes;
 use lattice::cell_places::cells_at;
 use lattice::refusal::Refusal;
 use lattice::refusal::Tested;
 use lattice::shape::Shape;
 
-// The number of cells turned over, or the refusal 1, 2, 4, 5, 6 or 7.
+// The number of cells flipped, or the refusal 1, 2, 4, 5, 6 or 7.
 pub enum CorrectAnswer {
     Corrected(usize),
     Refused(Refusal),
@@ -35,7 +35,7 @@ impl CorrectAnswer {
         }
     }
 
-    // The number of cells turned over, 0 beside a refusal.
+    // The number of cells flipped, 0 beside a refusal.
     pub fn count(self) -> usize
         ensures { λ r. ⌜ r ≡ correctAnswerCount self ⌝ }
     {
@@ -46,9 +46,9 @@ impl CorrectAnswer {
     }
 }
 
-// Stores the mended cells; gives the number of cells turned over.
+// Stores the corrected cells; gives the number of cells flipped.
 fn store_corrected(shape: Shape, syndromes: &[u32; Shape::MAX_CLASSES], field: &mut [u8]) -> usize
-    requires { ⌜ Mendable shape (now field) ⌝ }
+    requires { ⌜ Correctable shape (now field) ⌝ }
     requires { ⌜ HoldsSyndromes (layoutOf shape) (fieldOf (now field)) (now syndromes) (cellsOf shape) ⌝ }
     ensures { λ r. ⌜ now (field .exit) ≡ listOf (correctedField shape (fieldOf (now (field .entry)))) (cellsOf shape) ⌝ }
     ensures { λ r. ⌜ r ≡ correctedCount shape (fieldOf (now (field .entry))) ⌝ }
@@ -56,7 +56,7 @@ fn store_corrected(shape: Shape, syndromes: &[u32; Shape::MAX_CLASSES], field: &
     let m = shape.classes();
     let mut damaged = [0u32; Shape::MAX_CLASSES];
     cells_at(shape, syndromes, &mut damaged);
-    turn_cells(m, &damaged, field);
+    flip_cells(m, &damaged, field);
     count_damaged(m, syndromes)
 }
 
@@ -81,7 +81,7 @@ fn correct_tests(shape: Shape, field: &[u8], syndromes: &mut [u32; Shape::MAX_CL
     examine(shape, field, &sizes, syndromes)
 }
 
-// Stores the mended field and gives the number of cells turned over, or gives the refusal 1, 2, 4, 5, 6 or 7.
+// Stores the corrected field and gives the number of cells flipped, or gives the refusal 1, 2, 4, 5, 6 or 7.
 pub fn correct(shape: Shape, field: &mut [u8]) -> CorrectAnswer
     ensures { λ r. ⌜ IsCorrected shape (now (field .entry)) (now (field .exit)) r ⌝ }
 {

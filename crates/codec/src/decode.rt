@@ -12,12 +12,12 @@ ghost use Rattle.codec.specs.Decode.{correctedField, correctedCount, dec
 ghost use Rattle.codec.specs.Answer.{IsDecoded, decodeAnswerNumber, decodeAnswerCount};
 ghost use Rattle.codec.specs.Packing.{HoldsBits};
 ghost use Rattle.lattice.specs.Sizes.{HoldsZeros};
-ghost use Rattle.codec.specs.Working.{HoldsSyndromes, Mendable, Examined};
+ghost use Rattle.codec.specs.Working.{HoldsSyndromes, Correctable, Examined};
+use crate::damage::count_damaged;
+use crate::damage::flip_bits;
 use crate::examine::examine;
 use crate::gather::gather;
 use crate::lengths::length_tests;
-use crate::mend::count_damaged;
-use crate::mend::flip_bits;
 use lattice::cell_places::cells_at;
 use lattice::check_cells::MAX_CHECKS;
 use lattice::check_cells::check_cells;
@@ -25,7 +25,7 @@ use lattice::refusal::Refusal;
 use lattice::refusal::Tested;
 use lattice::shape::Shape;
 
-// The number of cells turned over, or the refusal 1, 2, 3, 4, 5, 6 or 7.
+// The number of cells flipped, or the refusal 1, 2, 3, 4, 5, 6 or 7.
 pub enum DecodeAnswer {
     Decoded(usize),
     Refused(Refusal),
@@ -42,7 +42,7 @@ impl DecodeAnswer {
         }
     }
 
-    // The number of cells turned over, 0 beside a refusal.
+    // The number of cells flipped, 0 beside a refusal.
     pub fn count(self) -> usize
         ensures { λ r. ⌜ r ≡ decodeAnswerCount self ⌝ }
     {
@@ -64,8 +64,8 @@ fn clear(payload: &mut [u8])
     }
 }
 
-// Turns over the bits of the damaged cells; gives the number of cells turned over.
-fn mend_payload(
+// Flips the bits of the damaged cells; gives the number of cells flipped.
+fn correct_payload(
     shape: Shape,
     checks: &[u16; MAX_CHECKS],
     amount: usize,
@@ -75,7 +75,7 @@ fn mend_payload(
     payload: &mut [u8],
 ) -> usize
     requires { ⌜ cells ≡ cellsOf shape ⌝ }
-    requires { ⌜ Mendable shape (now field) ⌝ }
+    requires { ⌜ Correctable shape (now field) ⌝ }
     requires { ⌜ HoldsSyndromes (layoutOf shape) (fieldOf (now field)) (now syndromes) (cellsOf shape) ⌝ }
     requires { ⌜ (amount ≤ maxChecks) × ListsChecks (layoutOf shape) (cellsOf shape) amount (now checks) ⌝ }
     requires { ⌜ HoldsBits (layoutOf shape) (fieldOf (now field)) (now payload) ⌝ }
@@ -89,7 +89,7 @@ fn mend_payload(
     count_damaged(m, syndromes)
 }
 
-// Stores the payload that the mended field holds; gives the number of cells turned over.
+// Stores the payload that the corrected field holds; gives the number of cells flipped.
 fn store_payload(
     shape: Shape,
     field: &[u8],
@@ -97,7 +97,7 @@ fn store_payload(
     syndromes: &[u32; Shape::MAX_CLASSES],
     payload: &mut [u8],
 ) -> usize
-    requires { ⌜ Mendable shape (now field) ⌝ }
+    requires { ⌜ Correctable shape (now field) ⌝ }
     requires { ⌜ Examined shape (now field) (now sizes) (now syndromes) ⌝ }
     requires { ⌜ length (now payload) ≡ payloadBytes (layoutOf shape) ⌝ }
     ensures { λ r. ⌜ now (payload .exit) ≡ heldPayload (layoutOf shape) (correctedField shape (fieldOf (now (field .entry)))) ⌝ }
@@ -109,7 +109,7 @@ fn store_payload(
     let cells = shape.cells();
     clear(payload);
     gather(shape, &checks, amount, cells, field, payload);
-    mend_payload(shape, &checks, amount, cells, field, syndromes, payload)
+    correct_payload(shape, &checks, amount, cells, field, syndromes, payload)
 }
 
 // The tests of decoding in their order, 1 to 7; where they pass, the arrays hold the size and the syndrome of each class.
@@ -132,7 +132,7 @@ fn decode_tests(
     examine(shape, field, sizes, syndromes)
 }
 
-// Stores the payload and gives the number of cells turned over, or gives the refusal 1, 2, 3, 4, 5, 6 or 7.
+// Stores the payload and gives the number of cells flipped, or gives the refusal 1, 2, 3, 4, 5, 6 or 7.
 pub fn decode(shape: Shape, payload: &mut [u8], field: &[u8]) -> DecodeAnswer
     ensures { λ r. ⌜ IsDecoded shape (now (payload .entry)) (now (field .entry)) (now (payload .exit)) r ⌝ }
 {

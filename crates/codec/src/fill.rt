@@ -5,7 +5,7 @@ ghost use lib.ListN.{length};
 ghost use Rattle.lattice.specs.Listing.{maxChecks};
 ghost use Rattle.lattice.specs.Shape.{cellsOf};
 ghost use Rattle.codec.specs.Filling.{RunEnd, ChecksListed, AtPlane, Filled, planeCells, dataBuffer};
-use crate::mend::wide_16;
+use crate::index::wide_16;
 use crate::scatter::scatter_run;
 use lattice::check_cells::MAX_CHECKS;
 use lattice::shape::Shape;

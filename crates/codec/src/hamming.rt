@@ -20,7 +20,7 @@ pub(crate) fn holds_data(sizes: &[u32; Shape::MAX_CLASSES], place: Place) -> boo
     !is_check(sizes[class], place.position)
 }
 
-// The cell turned over.
+// The cell flipped.
 pub(crate) fn flip(value: u8) -> u8
     ensures { λ r. ⌜ r ≡ flip value ⌝ }
 {
@@ -38,7 +38,7 @@ fn syndrome_of(syndromes: &[u32], class: usize) -> u32
     }
 }
 
-// The value of the cell at a place after correction: turned over where the syndrome of its class is its position.
+// The value of the cell at a place after correction: flipped where the syndrome of its class is its position.
 pub(crate) fn corrected_value(syndromes: &[u32; Shape::MAX_CLASSES], place: Place, value: u8) -> u8
     ensures { λ r. ⌜ r ≡ cond (eqb (getD (now (syndromes .entry)) (place .class) 0) (place .position)) (flip value) value ⌝ }
 {

@@ -1,14 +1,15 @@
 // Coding: the plan of a field, and encoding, decoding and correcting it.
 pub mod cell;
 pub mod correct;
+mod damage;
 pub mod decode;
 pub mod encode;
 mod examine;
 mod fill;
 mod gather;
 mod hamming;
+mod index;
 mod lengths;
-mod mend;
 mod payload;
 pub mod plan;
 mod scatter;

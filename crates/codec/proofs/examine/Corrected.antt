@@ -1,4 +1,4 @@
--- The value of a cell of the mended field, from its place.
+-- The value of a cell of the corrected field, from its place.
 use Prim.Native.Nat.{ℕ}
 use mathlib.Core.Bool.{cond}
 use mathlib.Core.List.{List}
@@ -17,12 +17,12 @@ use Rattle.codec.specs.Code.{tagsAt}
 use Rattle.codec.proofs.theory.Tags.{tag-position}
 
 -- with the array of the syndromes
-pub mended-at : (s : Shape) (field syndromes : List ℕ) → HoldsSyndromes (layoutOf s) (fieldOf field) syndromes (cellsOf s)
+pub corrected-at : (s : Shape) (field syndromes : List ℕ) → HoldsSyndromes (layoutOf s) (fieldOf field) syndromes (cellsOf s)
     → (i a p : ℕ) → AtPlace s i a p
     → (v : ℕ) → v ≡ cond (eqb (getD syndromes a 0) p) (flip (getD field i 0)) (getD field i 0)
     → v ≡ correctedField s (fieldOf field) i
 unfolding corrected
-mended-at s field syndromes held i a p place v e =
+corrected-at s field syndromes held i a p place v e =
     e
     ∙ ap₂
     (λ (x q : ℕ). cond (eqb x q) (flip (getD field i 0)) (getD field i 0))

@@ -111,9 +111,9 @@ corner-one i j hi hj si sj same =
     ∙ ap (cellNumber field) (corner-is (cellAt field i) si ∙ sym (corner-is (cellAt field j) sj))
     ∙ numbering .at field j hj .1
 
--- the field written is mended, and is lawful and carries the payload
-pub written-mended : correctNumber field written ≡ 0
-written-mended =
+-- the field written is corrected, and is lawful and carries the payload
+pub written-corrected : correctNumber field written ≡ 0
+written-corrected =
     nothingToCorrect .written field accepted payload payload-long payload-bytes payload payload-long .corrected-number
 
 pub written-lawful : LawfulField field (fieldOf written)

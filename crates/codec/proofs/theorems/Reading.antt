@@ -69,6 +69,6 @@ correctMeaning s field readable =
       wrong = carry _ _ 7 same (m .wrong);
       long = λ e. ap length (leaves e) ∙ length-listOf f (cellsOf s);
       leaves = λ g near padding i h.
-          ap (λ (l : List ℕ). fieldOf l i) (leaves (ok g near padding)) ∙ getD-listOf f (cellsOf s) i h ∙ m .mended g near i h;
+          ap (λ (l : List ℕ). fieldOf l i) (leaves (ok g near padding)) ∙ getD-listOf f (cellsOf s) i h ∙ m .corrected g near i h;
       count = λ g near padding. correct-count s field readable (ok g near padding) ∙ m .count g near;
     }

@@ -50,7 +50,7 @@ module _ (s : Shape) (accepted : Accepted s) (p : List ℕ) (p-long : length p �
   chosen : ℕ → Bool
   chosen i = selected (cellAt s i)
 
-  -- G holds F with the selected cells turned over
+  -- G holds F with the selected cells flipped
   damaged-same : Same (damaged F chosen) (fieldOf G) (cellsOf s)
   unfolding F G chosen damaged
   damaged-same i h =
@@ -89,21 +89,21 @@ module _ (s : Shape) (accepted : Accepted s) (p : List ℕ) (p-long : length p �
   read : decodeNumber s buffer G ≡ 0
   read = decodeMeaning s buffer G readable fits .success .1 (F, nearest, padding)
 
-  mend : correctNumber s G ≡ 0
-  mend = correctMeaning s G readable .success .1 (F, nearest, padding)
+  correct : correctNumber s G ≡ 0
+  correct = correctMeaning s G readable .success .1 (F, nearest, padding)
 
   payload-back : decodeLeaves s buffer G ≡ p
   unfolding F
   payload-back =
       decode-leaves s buffer G readable fits read
-      ∙ held-same (layoutOf s) (correctedField s (fieldOf G)) F (means readable .mended F nearest)
+      ∙ held-same (layoutOf s) (correctedField s (fieldOf G)) F (means readable .corrected F nearest)
       ∙ encoded-held (layoutOf s) p p-bytes (p-long ∙ plan-bytes s accepted)
 
   field-back : correctLeaves s G ≡ encodedField s p
   unfolding F encodedField
   field-back =
-      correct-leaves s G readable mend
-      ∙ listOf-same (correctedField s (fieldOf G)) F (cellsOf s) (means readable .mended F nearest)
+      correct-leaves s G readable correct
+      ∙ listOf-same (correctedField s (fieldOf G)) F (cellsOf s) (means readable .corrected F nearest)
 
   recovered : Recovered s p (encodedField s p) (damagedField s p selected) buffer
   unfolding G
@@ -112,7 +112,7 @@ module _ (s : Shape) (accepted : Accepted s) (p : List ℕ) (p-long : length p �
         decoded-number = read;
         decoded-payload = payload-back;
         decoded-count = decodeMeaning s buffer G readable fits .count F nearest padding ∙ counted;
-        corrected-number = mend;
+        corrected-number = correct;
         corrected-field = field-back;
         corrected-count = correctMeaning s G readable .count F nearest padding ∙ counted;
       }

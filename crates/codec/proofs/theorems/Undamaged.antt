@@ -55,7 +55,7 @@ written s accepted p long bytes buffer fits =
     subst (λ (G : List ℕ). Recovered s p (encodedField s p) G buffer) (unharmed s p)
     (recoveryByClass s accepted p long bytes none (λ i j hi hj si sj same. absurd (true≢false (sym si))) buffer fits)
 
--- a field that is mended was readable
+-- a field that is corrected was readable
 readable : (s : Shape) (field : List ℕ) → correctNumber s field ≡ 0 → Readable s field
 readable s field e =
     let t = correct-taken s field e in
@@ -68,7 +68,7 @@ module _ (s : Shape) (field : List ℕ) (success : correctNumber s field ≡ 0) 
   M : List ℕ
   M = correctLeaves s field
 
-  -- the mended buffer holds the lawful field that was found
+  -- the corrected buffer holds the lawful field that was found
   holds : Same (fieldOf M) (found .0) (cellsOf s)
   unfolding M
   holds = correctMeaning s field (readable s field success) .leaves (found .0) (found .1) (found .2)
@@ -112,8 +112,8 @@ module _ (s : Shape) (field : List ℕ) (success : correctNumber s field ≡ 0) 
     read-back : decodeNumber s buffer field ≡ 0
     read-back = decodeMeaning s buffer field (readable s field success) fits .success .1 found
 
-    mended : Recovered s (decodeLeaves s buffer field) M M buffer
-    mended =
+    again : Recovered s (decodeLeaves s buffer field) M M buffer
+    again =
         let m = decodeMeaning s buffer M M-readable fits in
         record {
           decoded-number = m .success .1 (found .0, M-nearest, found .2);
@@ -123,7 +123,7 @@ module _ (s : Shape) (field : List ℕ) (success : correctNumber s field ≡ 0) 
           corrected-field =
               correct-leaves s M M-readable M-success
               ∙ listOf-same (correctedField s (fieldOf M)) (fieldOf M) (cellsOf s)
-              (λ i h. means M-readable .mended (found .0) M-nearest i h ∙ sym (holds i h))
+              (λ i h. means M-readable .corrected (found .0) M-nearest i h ∙ sym (holds i h))
               ∙ ap (listOf (fieldOf M)) (sym M-long)
               ∙ listOf-fieldOf M;
           corrected-count = correctMeaning s M M-readable .count (found .0) M-nearest (found .2) ∙ count-none;
@@ -135,6 +135,6 @@ unfolding M
 nothingToCorrect =
     record {
       written = written;
-      mended = λ s field e buffer fits. (read-back s field e buffer fits, mended s field e buffer fits);
+      corrected = λ s field e buffer fits. (read-back s field e buffer fits, again s field e buffer fits);
       count = differences-self;
     }

@@ -17,7 +17,7 @@ use Rattle.codec.specs.Hamming.{Tags, Tells, syndrome, Codeword, Lawful,
 use Rattle.codec.proofs.theory.CellValues.{cell-most, most-cell}
 use Rattle.codec.proofs.theory.FieldLists.{cells-same}
 use Rattle.codec.proofs.theory.Xor.{xor-zero, xor-equal}
-use Rattle.codec.proofs.theory.Syndrome.{syndrome-same, near-turned}
+use Rattle.codec.proofs.theory.Syndrome.{syndrome-same, near-flipped}
 
 -- two fields agree on the cells of class a among the first n
 abbrev Agree : Layout → ℕ → Field → Field → ℕ → Type 0
@@ -81,10 +81,10 @@ module _ (L : Layout) (tag : Tags) (f : Field) where
       (and-true (eqb (L .class (r .0)) a) (eqb (tag (r .0)) (syndrome L tag f a)) (eq-eqb (L .class (r .0)) a (r .2))
       (eq-eqb (tag (r .0)) (syndrome L tag f a) (r .3))))
 
-  -- the cell whose tag is the syndrome of its class is turned over, and the others are kept
-  pub corrected-turned : (i : ℕ) → syndrome L tag f (L .class i) ≡ tag i → corrected L tag f i ≡ flip (f i)
+  -- the cell whose tag is the syndrome of its class is flipped, and the others are kept
+  pub corrected-flipped : (i : ℕ) → syndrome L tag f (L .class i) ≡ tag i → corrected L tag f i ≡ flip (f i)
   unfolding corrected
-  corrected-turned i e = rw (eq-eqb (syndrome L tag f (L .class i)) (tag i) e)
+  corrected-flipped i e = rw (eq-eqb (syndrome L tag f (L .class i)) (tag i) e)
 
   pub corrected-kept : (i : ℕ) → syndrome L tag f (L .class i) ≢ tag i → corrected L tag f i ≡ f i
   unfolding corrected
@@ -94,7 +94,7 @@ module _ (L : Layout) (tag : Tags) (f : Field) where
   corrected-cells p i l = go (ℕ-discrete (syndrome L tag f (L .class i)) (tag i))
     where
       go : Dec (syndrome L tag f (L .class i) ≡ tag i) → isCell (corrected L tag f i) ≡ true
-      go (yes e) = most-cell _ (omega (arith, corrected-turned i e))
+      go (yes e) = most-cell _ (omega (arith, corrected-flipped i e))
       go (no e) = rw (corrected-kept i e) (p i l)
 
   -- a cell differs after correction exactly when its tag is the syndrome of its class
@@ -106,10 +106,10 @@ module _ (L : Layout) (tag : Tags) (f : Field) where
       go (no e) = absurd (d (sym (corrected-kept i e)))
 
   pub differs-corrected : (i : ℕ) → f i ≤ 1 → syndrome L tag f (L .class i) ≡ tag i → f i ≢ corrected L tag f i
-  differs-corrected i p e d = omega (arith, corrected-turned i e)
+  differs-corrected i p e d = omega (arith, corrected-flipped i e)
 
 module _ {L : Layout} {tag : Tags} (tells : Tells L tag) (f : Field) where
-  -- at most one cell of each class is turned over
+  -- at most one cell of each class is flipped
   pub corrected-near : (a : ℕ) → Near L f (corrected L tag f) a
   unfolding Near
   corrected-near a i j l m p q d e =
@@ -130,7 +130,7 @@ module _ {L : Layout} {tag : Tags} (tells : Tells L tag) (f : Field) where
       go (inl z) = syndrome-same L tag (corrected L tag f) f a (L .cells) (λ i l c. codeword-kept a z i l c) ∙ z
       go (inr s) =
           let e : syndrome L tag f (L .class (s .0)) ≡ tag (s .0) = ap (syndrome L tag f) (s .2) ∙ sym (s .3) in
-          near-turned L tag f (corrected L tag f) a (s .0) p (corrected-cells L tag f p) (corrected-near a) (s .1) (s .2)
+          near-flipped L tag f (corrected L tag f) a (s .0) p (corrected-cells L tag f p) (corrected-near a) (s .1) (s .2)
           (differs-corrected L tag f (s .0) (cell-most _ (p (s .0) (s .1))) e)
           ∙ xor-equal (syndrome L tag f a) (tag (s .0)) (sym (s .3))
 
@@ -150,7 +150,7 @@ module _ {L : Layout} {tag : Tags} (tells : Tells L tag) (f g : Field) (a : ℕ)
   differ-syndrome : (d : Differ L (L .cells) f g a) → syndrome L tag f a ≡ tag (d .0)
   unfolding Codeword
   differ-syndrome d =
-      xor-zero (syndrome L tag f a) (tag (d .0)) (sym (near-turned L tag f g a (d .0) p q near (d .1) (d .2) (d .3)) ∙ word)
+      xor-zero (syndrome L tag f a) (tag (d .0)) (sym (near-flipped L tag f g a (d .0) p q near (d .1) (d .2) (d .3)) ∙ word)
 
   -- a codeword is in reach of a class only where the test says so
   pub near-reach : inReach L tag f a ≡ true
@@ -179,7 +179,7 @@ module _ {L : Layout} {tag : Tags} (tells : Tells L tag) (f g : Field) (a : ℕ)
               d .3 (subst (λ (k : ℕ). f k ≡ g k) (tells .one i (d .0) l (d .1) (c ∙ sym (d .2)) (sym s ∙ here)) e))
               ∙ e
           go (no e) =
-              let turned = corrected-turned L tag f i (here ∙ ap tag (near (d .0) i (d .1) l (d .2) c (d .3) e)) in
+              let turned = corrected-flipped L tag f i (here ∙ ap tag (near (d .0) i (d .1) l (d .2) c (d .3) e)) in
               omega (arith, turned, cell-most _ (p i l), cell-most _ (q i l))
 
 module _ {L : Layout} {tag : Tags} (tells : Tells L tag) (f : Field) (p : Cells f (L .cells)) where

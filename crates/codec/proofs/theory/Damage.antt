@@ -1,4 +1,4 @@
--- Damage to at most one cell of each class is mended, for any layout of cells in classes.
+-- Damage to at most one cell of each class is corrected, for any layout of cells in classes.
 use Prim.Native.Nat.{ℕ, _<_}
 use mathlib.Core.Bool.{Bool, true, false}
 use mathlib.Core.Logic.{_≢_}
@@ -11,9 +11,9 @@ use Rattle.codec.proofs.theory.CellValues.{most-cell}
 use Rattle.lattice.specs.Position.{Layout}
 
 module _ (f : Field) (selected : ℕ → Bool) where
-  pub damaged-turned : (i : ℕ) → selected i ≡ true → damaged f selected i ≡ flip (f i)
+  pub damaged-flipped : (i : ℕ) → selected i ≡ true → damaged f selected i ≡ flip (f i)
   unfolding damaged
-  damaged-turned i e = rw e
+  damaged-flipped i e = rw e
 
   pub damaged-kept : (i : ℕ) → selected i ≡ false → damaged f selected i ≡ f i
   unfolding damaged
@@ -23,7 +23,7 @@ module _ (f : Field) (selected : ℕ → Bool) where
   damaged-cells n p i l = go (selected i) refl
     where
       go : (b : Bool) → selected i ≡ b → isCell (damaged f selected i) ≡ true
-      go true e = most-cell _ (omega (arith, damaged-turned i e))
+      go true e = most-cell _ (omega (arith, damaged-flipped i e))
       go false e = rw (damaged-kept i e) (p i l)
 
   -- a cell that differs was selected

@@ -1,4 +1,4 @@
--- The damaged cells, one for each class whose syndrome is not 0: turned over class by class they give the mended field, and there
+-- The damaged cells, one for each class whose syndrome is not 0: flipped class by class they give the corrected field, and there
 -- are as many as cells that it differs in.
 use Prim.Native.Nat.{ℕ, zero, suc, _+_, _<_, _≤_}
 use mathlib.Core.Bool.{Bool, true, cond, not}
@@ -25,51 +25,51 @@ use Rattle.codec.specs.Field.{Field, Cells, Same, flip, differences}
 use Rattle.codec.specs.Hamming.{tagsOf, syndrome, corrected}
 use Rattle.codec.specs.Code.{fieldInReach}
 use Rattle.codec.specs.Decode.{correctedField, correctedCount}
-use Rattle.codec.specs.Packing.{turnedAt, mendedTo, Damaged}
+use Rattle.codec.specs.Packing.{flippedAt, correctedTo, Damaged}
 use Rattle.codec.specs.Working.{HoldsSyndromes}
 use Rattle.codec.proofs.theory.Accepted.{class-at-below}
 use Rattle.codec.proofs.theory.CellValues.{cell-most}
-use Rattle.codec.proofs.theory.Correction.{corrected-turned, corrected-kept, differs-corrected}
+use Rattle.codec.proofs.theory.Correction.{corrected-flipped, corrected-kept, differs-corrected}
 use Rattle.codec.proofs.theory.Reach.{all-reach}
 use Rattle.codec.proofs.theory.Tags.{tag-position, tags-tell, reach-size}
 
--- a cell turned over, and the others
-pub turned-own : (f : Field) (c : ℕ) → turnedAt f c c ≡ flip (f c)
-unfolding turnedAt
-turned-own f c = rw (eq-eqb c c refl)
+-- a cell flipped, and the others
+pub flipped-own : (f : Field) (c : ℕ) → flippedAt f c c ≡ flip (f c)
+unfolding flippedAt
+flipped-own f c = rw (eq-eqb c c refl)
 
-pub turned-other : (f : Field) (c i : ℕ) → i ≢ c → turnedAt f c i ≡ f i
-unfolding turnedAt
-turned-other f c i d = rw (ne-eqb i c d)
+pub flipped-other : (f : Field) (c i : ℕ) → i ≢ c → flippedAt f c i ≡ f i
+unfolding flippedAt
+flipped-other f c i d = rw (ne-eqb i c d)
 
-pub turned-same : (f g : Field) (c n : ℕ) → Same f g n → Same (turnedAt f c) (turnedAt g c) n
-unfolding turnedAt
-turned-same f g c n p i l = ap (λ (v : ℕ). cond (eqb i c) (flip v) v) (p i l)
+pub flipped-same : (f g : Field) (c n : ℕ) → Same f g n → Same (flippedAt f c) (flippedAt g c) n
+unfolding flippedAt
+flipped-same f g c n p i l = ap (λ (v : ℕ). cond (eqb i c) (flip v) v) (p i l)
 
 module _ (L : Layout) (f : Field) where
-  -- the classes below a are mended, and the others are not
-  mended-below : (a i : ℕ) → L .class i < a → mendedTo L f a i ≡ corrected L (tagsOf L) f i
-  unfolding mendedTo
-  mended-below a i l = rw (lt-ltb (L .class i) a l)
+  -- the classes below a are corrected, and the others are not
+  corrected-to-below : (a i : ℕ) → L .class i < a → correctedTo L f a i ≡ corrected L (tagsOf L) f i
+  unfolding correctedTo
+  corrected-to-below a i l = rw (lt-ltb (L .class i) a l)
 
-  mended-above : (a i : ℕ) → a ≤ L .class i → mendedTo L f a i ≡ f i
-  unfolding mendedTo
-  mended-above a i l = rw (le-ltb (L .class i) a l)
+  corrected-to-above : (a i : ℕ) → a ≤ L .class i → correctedTo L f a i ≡ f i
+  unfolding correctedTo
+  corrected-to-above a i l = rw (le-ltb (L .class i) a l)
 
-  pub mended-none : (n : ℕ) → Same f (mendedTo L f 0) n
-  mended-none n i l = sym (mended-above 0 i (omega arith))
+  pub corrected-to-none : (n : ℕ) → Same f (correctedTo L f 0) n
+  corrected-to-none n i l = sym (corrected-to-above 0 i (omega arith))
 
-  pub mended-all : (m n : ℕ) → ((i : ℕ) → i < n → L .class i < m) → Same (mendedTo L f m) (corrected L (tagsOf L) f) n
-  mended-all m n below i l = mended-below m i (below i l)
+  pub corrected-to-all : (m n : ℕ) → ((i : ℕ) → i < n → L .class i < m) → Same (correctedTo L f m) (corrected L (tagsOf L) f) n
+  corrected-to-all m n below i l = corrected-to-below m i (below i l)
 
-  -- one class more: its damaged cell is turned over
+  -- one class more: its damaged cell is flipped
   module _ (m : ℕ) (cells : List ℕ) (damaged : Damaged L m f cells) (a : ℕ) (l : a < m) where
     c : ℕ
     c = getD cells a 0
 
-    pub mended-more : Same (turnedAt (mendedTo L f a) (getD cells a 0)) (mendedTo L f (a + 1)) (L .cells)
+    pub corrected-to-more : Same (flippedAt (correctedTo L f a) (getD cells a 0)) (correctedTo L f (a + 1)) (L .cells)
     unfolding c
-    mended-more i p = go (ℕ-discrete i c) (ℕ-discrete (L .class i) a) (decLt (L .class i) a)
+    corrected-to-more i p = go (ℕ-discrete i c) (ℕ-discrete (L .class i) a) (decLt (L .class i) a)
       where
         -- a cell of class a other than the damaged one is kept
         kept : i ≢ c → L .class i ≡ a → corrected L (tagsOf L) f i ≡ f i
@@ -81,27 +81,27 @@ module _ (L : Layout) (f : Field) where
             differ h (no q) = tags-tell L .some i p (sym h ∙ damaged .none a l (omega arith))
 
         go : Dec (i ≡ c) → Dec (L .class i ≡ a) → Dec (L .class i < a)
-            → turnedAt (mendedTo L f a) c i ≡ mendedTo L f (a + 1) i
+            → flippedAt (correctedTo L f a) c i ≡ correctedTo L f (a + 1) i
         go (yes e) own low =
             let inside : c < L .cells = rw (← e) p in
             let class : L .class i ≡ a = ap (L .class) e ∙ damaged .class a l inside in
-            ap (turnedAt (mendedTo L f a) c) e
-            ∙ turned-own (mendedTo L f a) c
-            ∙ ap flip (ap (mendedTo L f a) (sym e) ∙ mended-above a i (omega arith))
-            ∙ sym (corrected-turned L (tagsOf L) f i
+            ap (flippedAt (correctedTo L f a) c) e
+            ∙ flipped-own (correctedTo L f a) c
+            ∙ ap flip (ap (correctedTo L f a) (sym e) ∙ corrected-to-above a i (omega arith))
+            ∙ sym (corrected-flipped L (tagsOf L) f i
             (ap (syndrome L (tagsOf L) f) class ∙ sym (damaged .position a l inside) ∙ ap (tagsOf L) (sym e)))
-            ∙ sym (mended-below (a + 1) i (omega arith))
+            ∙ sym (corrected-to-below (a + 1) i (omega arith))
         go (no d) (yes e) low =
-            turned-other (mendedTo L f a) c i d
-            ∙ mended-above a i (omega arith)
+            flipped-other (correctedTo L f a) c i d
+            ∙ corrected-to-above a i (omega arith)
             ∙ sym (kept d e)
-            ∙ sym (mended-below (a + 1) i (omega arith))
+            ∙ sym (corrected-to-below (a + 1) i (omega arith))
         go (no d) (no e) (yes q) =
-            turned-other (mendedTo L f a) c i d ∙ mended-below a i q ∙ sym (mended-below (a + 1) i (omega arith))
+            flipped-other (correctedTo L f a) c i d ∙ corrected-to-below a i q ∙ sym (corrected-to-below (a + 1) i (omega arith))
         go (no d) (no e) (no q) =
-            turned-other (mendedTo L f a) c i d
-            ∙ mended-above a i (omega arith)
-            ∙ sym (mended-above (a + 1) i (omega (arith, e)))
+            flipped-other (correctedTo L f a) c i d
+            ∙ corrected-to-above a i (omega arith)
+            ∙ sym (corrected-to-above (a + 1) i (omega (arith, e)))
 
 -- of the positions 1 to n, v is one where it is not 0 and not too large, and none where it is too large
 no-position : (v n : ℕ) → n < v → count (λ p. eqb v (p + 1)) n ≡ 0
@@ -131,7 +131,7 @@ module _ (s : Shape) (accepted : Accepted s) (f : Field) (cells : Cells f (cells
       reach-size (layoutOf s) f a
       (all-reach (layoutOf s) (tagsOf (layoutOf s)) (classesOf s) (class-at-below s accepted) f reach a)
 
-  -- as many cells are turned over as syndromes are not 0
+  -- as many cells are flipped as syndromes are not 0
   pub damaged-count : (syndromes : List ℕ) → HoldsSyndromes (layoutOf s) f syndromes (cellsOf s)
       → count (λ a. not (eqb (getD syndromes a 0) 0)) (classesOf s) ≡ correctedCount s f
   unfolding correctedCount differences

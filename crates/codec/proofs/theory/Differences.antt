@@ -41,7 +41,7 @@ pub differences-self : (f : Field) (n : ℕ) → differences f f n ≡ 0
 differences-self f n = differences-zero f f n (λ i l. refl)
 
 module _ {L : Layout} {tag : Tags} (tells : Tells L tag) (f : Field) where
-  -- correction turns over as many cells as the nearest lawful field differs in
+  -- correction flips as many cells as the nearest lawful field differs in
   pub differences-nearest : Cells f (L .cells) → (g : Field) → Nearest L tag f g
       → differences f (corrected L tag f) (L .cells) ≡ differences f g (L .cells)
   differences-nearest p g h =

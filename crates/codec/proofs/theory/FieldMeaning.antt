@@ -1,4 +1,4 @@
--- What the tests of a field of cells mean: the number 0, 6 or 7 by the lawful fields in reach, the mended field, its payload and
+-- What the tests of a field of cells mean: the number 0, 6 or 7 by the lawful fields in reach, the corrected field, its payload and
 -- its count.
 use Prim.Native.Nat.{ℕ}
 use mathlib.Core.Bool.{Bool, true, false, true≢false}
@@ -29,7 +29,7 @@ pub record FieldMeans (s : Shape) (f : Field) : Type 0 where
   pub none : (fieldNumber s f ≡ 6) ↔ ((g : Field) → ¬ NearestTo s f g)
   pub wrong : (fieldNumber s f ≡ 7) ↔ WrongInReach s f
   pub cells : Cells (correctedField s f) (cellsOf s)
-  pub mended : (g : Field) → NearestTo s f g → Same (correctedField s f) g (cellsOf s)
+  pub corrected : (g : Field) → NearestTo s f g → Same (correctedField s f) g (cellsOf s)
   pub carries : (g : Field) → NearestTo s f g → PaddingRight (layoutOf s) g
       → Carries (layoutOf s) g (heldPayload (layoutOf s) (correctedField s f))
   pub count : (g : Field) → NearestTo s f g → correctedCount s f ≡ differences f g (cellsOf s)
@@ -52,47 +52,47 @@ module _ (s : Shape) (accepted : Accepted s) (f : Field) (received : Received f 
   unfolding fieldNumber number-of reach right
   field-number = rw (received-ok f (cellsOf s) received)
 
-  -- the mended field is the nearest one where a codeword is in reach of each class
-  mended-nearest : reach ≡ true → NearestTo s f (correctedField s f)
+  -- the corrected field is the nearest one where a codeword is in reach of each class
+  here-nearest : reach ≡ true → NearestTo s f (correctedField s f)
   unfolding reach
-  mended-nearest =
+  here-nearest =
       reach-nearest (layoutOf s) (tagsAt s) (classesOf s) (class-at-below s accepted) f (tags-tell (layoutOf s)) cells
 
   nearest-reach : (g : Field) → NearestTo s f g → reach ≡ true
   unfolding reach
   nearest-reach = nearest-all (layoutOf s) (tagsAt s) (classesOf s) (class-at-below s accepted) f (tags-tell (layoutOf s)) cells
 
-  -- and any nearest field is the mended one
-  nearest-mended : (g : Field) → NearestTo s f g → Same (correctedField s f) g (cellsOf s)
-  nearest-mended = nearest-corrected (tags-tell (layoutOf s)) f cells
+  -- and any nearest field is the corrected one
+  nearest-here : (g : Field) → NearestTo s f g → Same (correctedField s f) g (cellsOf s)
+  nearest-here = nearest-corrected (tags-tell (layoutOf s)) f cells
 
-  mended-right : right ≡ true → PaddingRight (layoutOf s) (correctedField s f)
+  corrected-right : right ≡ true → PaddingRight (layoutOf s) (correctedField s f)
   unfolding right
-  mended-right = ok-padding (layoutOf s) (correctedField s f)
+  corrected-right = ok-padding (layoutOf s) (correctedField s f)
 
-  mended-wrong : right ≡ false → ¬ PaddingRight (layoutOf s) (correctedField s f)
+  corrected-wrong : right ≡ false → ¬ PaddingRight (layoutOf s) (correctedField s f)
   unfolding right
-  mended-wrong = not-padding (layoutOf s) (correctedField s f)
+  corrected-wrong = not-padding (layoutOf s) (correctedField s f)
 
   nearest-right : (g : Field) → NearestTo s f g → PaddingRight (layoutOf s) g → right ≡ true
   unfolding right
   nearest-right g near padding =
       padding-ok (layoutOf s) (correctedField s f)
-      (padding-right-same (layoutOf s) g (correctedField s f) (λ i h. sym (nearest-mended g near i h)) padding)
+      (padding-right-same (layoutOf s) g (correctedField s f) (λ i h. sym (nearest-here g near i h)) padding)
 
   nearest-wrong : (g : Field) → NearestTo s f g → (¬ PaddingRight (layoutOf s) g) → right ≡ true → ⊥
   nearest-wrong g near wrong e =
-      wrong (padding-right-same (layoutOf s) (correctedField s f) g (nearest-mended g near) (mended-right e))
+      wrong (padding-right-same (layoutOf s) (correctedField s f) g (nearest-here g near) (corrected-right e))
 
-  -- the mended field is a field of cells, and the payload that it holds is carried by the nearest one
-  mended-cells : Cells (correctedField s f) (cellsOf s)
-  mended-cells = corrected-cells (layoutOf s) (tagsAt s) f cells
+  -- the corrected field is a field of cells, and the payload that it holds is carried by the nearest one
+  cells-corrected : Cells (correctedField s f) (cellsOf s)
+  cells-corrected = corrected-cells (layoutOf s) (tagsAt s) f cells
 
   nearest-carries : (g : Field) → NearestTo s f g → PaddingRight (layoutOf s) g
       → Carries (layoutOf s) g (heldPayload (layoutOf s) (correctedField s f))
   nearest-carries g near padding =
-      carries-same (layoutOf s) (correctedField s f) g _ (nearest-mended g near)
-      (held-carries (layoutOf s) (correctedField s f) mended-cells (mended-right (nearest-right g near padding)))
+      carries-same (layoutOf s) (correctedField s f) g _ (nearest-here g near)
+      (held-carries (layoutOf s) (correctedField s f) cells-corrected (corrected-right (nearest-right g near padding)))
 
   number-is : (a b : Bool) → reach ≡ a → right ≡ b → fieldNumber s f ≡ unless a 6 (unless b 7 0)
   unfolding number-of
@@ -103,7 +103,7 @@ module _ (s : Shape) (accepted : Accepted s) (f : Field) (received : Received f 
   number-success = (λ e. to reach right refl refl e, from)
     where
       to : (a b : Bool) → reach ≡ a → right ≡ b → fieldNumber s f ≡ 0 → RightInReach s f
-      to true true p q e = (correctedField s f, mended-nearest p, mended-right q)
+      to true true p q e = (correctedField s f, here-nearest p, corrected-right q)
       to true false p q e = absurd (omega (arith, number-is true false p q))
       to false b p q e = absurd (omega (arith, number-is false b p q))
 
@@ -120,7 +120,7 @@ module _ (s : Shape) (accepted : Accepted s) (f : Field) (received : Received f 
       to false b p q e = λ g near. true≢false (sym (nearest-reach g near) ∙ p)
 
       from : ((g : Field) → ¬ NearestTo s f g) → (a b : Bool) → reach ≡ a → right ≡ b → fieldNumber s f ≡ 6
-      from none true b p q = absurd (none (correctedField s f) (mended-nearest p))
+      from none true b p q = absurd (none (correctedField s f) (here-nearest p))
       from none false b p q = number-is false b p q
 
   -- 7 exactly when one has wrong padding
@@ -129,7 +129,7 @@ module _ (s : Shape) (accepted : Accepted s) (f : Field) (received : Received f 
     where
       to : (a b : Bool) → reach ≡ a → right ≡ b → fieldNumber s f ≡ 7 → WrongInReach s f
       to true true p q e = absurd (omega (arith, number-is true true p q))
-      to true false p q e = (correctedField s f, mended-nearest p, mended-wrong q)
+      to true false p q e = (correctedField s f, here-nearest p, corrected-wrong q)
       to false b p q e = absurd (omega (arith, number-is false b p q))
 
       from : WrongInReach s f → (b : Bool) → right ≡ b → fieldNumber s f ≡ 7
@@ -147,8 +147,8 @@ module _ (s : Shape) (accepted : Accepted s) (f : Field) (received : Received f 
         success = number-success;
         none = number-none;
         wrong = number-wrong;
-        cells = mended-cells;
-        mended = nearest-mended;
+        cells = cells-corrected;
+        corrected = nearest-here;
         carries = nearest-carries;
         count = count-nearest;
       }

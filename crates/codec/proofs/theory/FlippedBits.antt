@@ -1,4 +1,4 @@
--- A bit of a payload turned over, and the data cell that it is the bit of.
+-- A bit of a payload flipped, and the data cell that it is the bit of.
 use Prim.Native.Nat.{ℕ, zero, suc, _-_, _*_, _/_, _%_, _^_, _<_, _≤_}
 use mathlib.Core.Bool.{Bool, true, false, cond, true≢false}
 use mathlib.Core.List.{List}
@@ -18,10 +18,10 @@ use Rattle.lattice.specs.Listing.{checksTo, ListsChecks}
 use Rattle.lattice.proofs.theory.Runs.{check-at}
 use Rattle.codec.specs.Field.{Field, Cells, Same, flip}
 use Rattle.codec.specs.Payload.{Bytes, payloadBytes, rank, payloadBit, heldPayload}
-use Rattle.codec.specs.Packing.{BitFlipped, HoldsBits, turnedAt}
+use Rattle.codec.specs.Packing.{BitFlipped, HoldsBits, flippedAt}
 use Rattle.codec.proofs.theory.BinaryDigits.{xor-bit, xor-bit-left, power-bit, power-bit-other}
 use Rattle.codec.proofs.theorems.Payload.{bitsTell}
-use Rattle.codec.proofs.theory.DamagedCells.{turned-own, turned-other}
+use Rattle.codec.proofs.theory.DamagedCells.{flipped-own, flipped-other}
 use Rattle.codec.proofs.theory.Gathered.{rank-checks}
 use Rattle.codec.proofs.theory.HeldPayload.{held-length, held-bytes, held-bit}
 use Rattle.codec.proofs.theory.Ranks.{bytes-most, rank-rises, rank-some}
@@ -33,7 +33,7 @@ digit-flips zero l = refl
 digit-flips (suc zero) l = refl
 digit-flips (suc (suc d)) l = absurd (omega arith)
 
--- one bit of a byte turned over
+-- one bit of a byte flipped
 byte-flips : (x e : ℕ) → bitXor x (2 ^ e) / 2 ^ e % 2 ≡ flip (x / 2 ^ e % 2)
 byte-flips x e =
     xor-bit x (2 ^ e) e ∙ ap (bitXor (x / 2 ^ e % 2)) (power-bit e) ∙ digit-flips (x / 2 ^ e % 2) (omega arith)
@@ -78,10 +78,10 @@ module _ (L : Layout) where
   pub bits-same : (f g : Field) (l : List ℕ) → Same f g (L .cells) → HoldsBits L f l → HoldsBits L g l
   bits-same f g l s h = record { at = λ i p q r. h .at i p q r ∙ s i p }
 
-  -- the bit of a data cell is turned over with it; a check has none
-  pub bits-turned : (f : Field) (l after : List ℕ) (c : ℕ) → c < L .cells → holdsData L c ≡ true → length after ≡ length l
-      → BitFlipped l after (rank L c) → HoldsBits L f l → HoldsBits L (turnedAt f c) after
-  bits-turned f l after c p held long flipped h = record { at = λ i q d r. go i q d (omega arith) (ℕ-discrete i c) }
+  -- the bit of a data cell is flipped with it; a check has none
+  pub bits-flipped : (f : Field) (l after : List ℕ) (c : ℕ) → c < L .cells → holdsData L c ≡ true → length after ≡ length l
+      → BitFlipped l after (rank L c) → HoldsBits L f l → HoldsBits L (flippedAt f c) after
+  bits-flipped f l after c p held long flipped h = record { at = λ i q d r. go i q d (omega arith) (ℕ-discrete i c) }
     where
       differ : (i : ℕ) → i < L .cells → holdsData L i ≡ true → i ≢ c → rank L i ≢ rank L c
       differ i q d n e = low (decLt i c)
@@ -95,29 +95,29 @@ module _ (L : Layout) where
               above (no y) = absurd (n (omega arith))
 
       go : (i : ℕ) → i < L .cells → holdsData L i ≡ true → rank L i < 8 * length l → Dec (i ≡ c)
-          → payloadBit after (rank L i) ≡ turnedAt f c i
+          → payloadBit after (rank L i) ≡ flippedAt f c i
       go i q d r (yes e) =
           flipped .at (rank L i) r
           ∙ rw (eq-eqb (rank L i) (rank L c) (ap (rank L) e)) (ap flip (h .at i q d r))
-          ∙ sym (ap (turnedAt f c) e ∙ turned-own f c ∙ ap (λ (x : ℕ). flip (f x)) (sym e))
+          ∙ sym (ap (flippedAt f c) e ∙ flipped-own f c ∙ ap (λ (x : ℕ). flip (f x)) (sym e))
       go i q d r (no n) =
           flipped .at (rank L i) r
           ∙ rw (ne-eqb (rank L i) (rank L c) (differ i q d n)) (h .at i q d r)
-          ∙ sym (turned-other f c i n)
+          ∙ sym (flipped-other f c i n)
 
-  pub bits-check : (f : Field) (l : List ℕ) (c : ℕ) → holdsData L c ≡ false → HoldsBits L f l → HoldsBits L (turnedAt f c) l
+  pub bits-check : (f : Field) (l : List ℕ) (c : ℕ) → holdsData L c ≡ false → HoldsBits L f l → HoldsBits L (flippedAt f c) l
   bits-check f l c held h =
       record {
-        at = λ i p d r. h .at i p d r ∙ sym (turned-other f c i (λ (e : i ≡ c). true≢false (sym d ∙ ap (holdsData L) e ∙ held)));
+        at = λ i p d r. h .at i p d r ∙ sym (flipped-other f c i (λ (e : i ≡ c). true≢false (sym d ∙ ap (holdsData L) e ∙ held)));
       }
 
-  pub bits-outside : (f : Field) (l : List ℕ) (c : ℕ) → L .cells ≤ c → HoldsBits L f l → HoldsBits L (turnedAt f c) l
+  pub bits-outside : (f : Field) (l : List ℕ) (c : ℕ) → L .cells ≤ c → HoldsBits L f l → HoldsBits L (flippedAt f c) l
   bits-outside f l c out h =
-      record { at = λ i p d r. h .at i p d r ∙ sym (turned-other f c i (λ (e : i ≡ c). omega arith)) }
+      record { at = λ i p d r. h .at i p d r ∙ sym (flipped-other f c i (λ (e : i ≡ c). omega arith)) }
 
   -- by the list of the check cells: a listed cell has no bit, and the bit of another is its number less the checks before it
   module _ (f : Field) (l : List ℕ) (amount : ℕ) (checks : List ℕ) (k : ℕ) (lists : ListsChecks L (L .cells) amount checks) where
-    pub bits-listed : k < amount → (c : ℕ) → getD checks k 0 ≡ c → HoldsBits L f l → HoldsBits L (turnedAt f c) l
+    pub bits-listed : k < amount → (c : ℕ) → getD checks k 0 ≡ c → HoldsBits L f l → HoldsBits L (flippedAt f c) l
     bits-listed p c e h = bits-check f l c (ap (holdsData L) (sym e) ∙ lists .at k p .check) h
 
     pub bits-unlisted : (c : ℕ)
@@ -128,14 +128,14 @@ module _ (L : Layout) where
         → length after ≡ length l
         → BitFlipped l after (c - k)
         → HoldsBits L f l
-        → HoldsBits L (turnedAt f c) after
+        → HoldsBits L (flippedAt f c) after
     bits-unlisted c p e other after long flipped h = go (holdsData L c) refl
       where
         ranked : c - k ≡ rank L c
         ranked = omega (arith, rank-checks L c)
 
-        go : (b : Bool) → holdsData L c ≡ b → HoldsBits L (turnedAt f c) after
-        go true held = bits-turned f l after c p held long (subst (BitFlipped l after) ranked flipped) h
+        go : (b : Bool) → holdsData L c ≡ b → HoldsBits L (flippedAt f c) after
+        go true held = bits-flipped f l after c p held long (subst (BitFlipped l after) ranked flipped) h
         go false held =
             let at = check-at L (L .cells) amount checks lists (le-refl _) k c p (sym e) held in absurd (other (at .0) (at .1))
 

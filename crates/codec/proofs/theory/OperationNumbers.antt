@@ -21,7 +21,7 @@ use Rattle.codec.specs.Encode.{encodeNumber}
 use Rattle.codec.specs.Decode.{fieldNumber, decodeNumber}
 use Rattle.codec.specs.Correct.{correctNumber}
 use Rattle.lattice.specs.Sizes.{HoldsSizes}
-use Rattle.codec.specs.Working.{lengthNumber, Mendable}
+use Rattle.codec.specs.Working.{lengthNumber, Correctable}
 use Rattle.codec.proofs.theory.Accepted.{plan-bytes, plan-cells}
 use Rattle.codec.proofs.theory.FieldNumber.{zero-cells, zero-reach}
 
@@ -77,7 +77,7 @@ module _ (s : Shape) (payload field : List ℕ) where
 
 -- what a field that is not refused tells
 taken : (s : Shape) (field : List ℕ) → Accepted s
-    → unless (eqb (length field) (planCells s)) 4 (fieldNumber s (fieldOf field)) ≡ 0 → Mendable s field
+    → unless (eqb (length field) (planCells s)) 4 (fieldNumber s (fieldOf field)) ≡ 0 → Correctable s field
 taken s field a e =
     let f = unless-zero (eqb (length field) (planCells s)) 3 _ e in
     record {
@@ -87,7 +87,7 @@ taken s field a e =
     }
 
 pub decode-taken : (s : Shape) (payload field : List ℕ) → decodeNumber s payload field ≡ 0
-    → Mendable s field × (length payload ≡ payloadBytes (layoutOf s))
+    → Correctable s field × (length payload ≡ payloadBytes (layoutOf s))
 unfolding decodeNumber
 decode-taken s payload field e =
     let a = or-else-zero (shapeNumber s) _ e in
@@ -104,6 +104,6 @@ module _ (s : Shape) (field : List ℕ) where
   unfolding correctNumber
   correct-length a d = rw (a, ne-eqb (length field) (planCells s) d)
 
-  pub correct-taken : correctNumber s field ≡ 0 → Mendable s field
+  pub correct-taken : correctNumber s field ≡ 0 → Correctable s field
   unfolding correctNumber
   correct-taken e = let a = or-else-zero (shapeNumber s) _ e in taken s field (a .0) (a .1)

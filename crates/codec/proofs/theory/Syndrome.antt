@@ -135,10 +135,10 @@ module _ (L : Layout) (tag : Tags) where
       ∙ xor-exchange (syndromeTo L tag f a n) (syndromeTo L tag g a n) (term L tag f a n) (term L tag g a n)
 
   -- fields that differ in one cell of the class have syndromes that differ by its tag
-  pub syndrome-turned : (f g : Field) (a i n : ℕ) → Cells f n → Cells g n → i < n → L .class i ≡ a → f i ≢ g i
+  pub syndrome-flipped : (f g : Field) (a i n : ℕ) → Cells f n → Cells g n → i < n → L .class i ≡ a → f i ≢ g i
       → ((j : ℕ) → j < n → L .class j ≡ a → f j ≢ g j → j ≡ i)
       → syndromeTo L tag g a n ≡ bitXor (syndromeTo L tag f a n) (tag i)
-  syndrome-turned f g a i n p q l c d only =
+  syndrome-flipped f g a i n p q l c d only =
       sym (xor-cancel-left (syndromeTo L tag f a n) (syndromeTo L tag g a n))
       ∙ ap (λ (x : ℕ). bitXor (syndromeTo L tag f a n) x) (sym (syndrome-sum f g a n p q) ∙ one)
     where
@@ -154,8 +154,8 @@ module _ (L : Layout) (tag : Tags) where
           (sum-one (f i) (g i) (cell-most _ (p i l)) (cell-most _ (q i l)) d)
           (λ j m e o. only j m e (one-sum (f j) (g j) o))
 
-  pub near-turned : (f g : Field) (a i : ℕ) → Cells f (L .cells) → Cells g (L .cells) → Near L f g a
+  pub near-flipped : (f g : Field) (a i : ℕ) → Cells f (L .cells) → Cells g (L .cells) → Near L f g a
       → i < L .cells → L .class i ≡ a → f i ≢ g i → syndrome L tag g a ≡ bitXor (syndrome L tag f a) (tag i)
   unfolding Near
-  near-turned f g a i p q near l c d =
-      syndrome-turned f g a i (L .cells) p q l c d (λ j m e o. near j i m l e c o d)
+  near-flipped f g a i p q near l c d =
+      syndrome-flipped f g a i (L .cells) p q l c d (λ j m e o. near j i m l e c o d)

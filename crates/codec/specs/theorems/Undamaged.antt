@@ -14,12 +14,12 @@ use Rattle.codec.specs.Correct.{correctNumber, correctLeaves}
 use Rattle.codec.specs.Damage.{Recovered}
 
 -- Theorem. A field that is not damaged comes back as it is, and no cell differs from itself: one that was written, with its
--- payload, and one that was mended, with the payload that is read from what it was before.
+-- payload, and one that was corrected, with the payload that is read from what it was before.
 pub record NothingToCorrect : Type 0 where
   pub written : (s : Shape) → Accepted s → (p : List ℕ) → length p ≡ planBytes s → Bytes p
       → (buffer : List ℕ) → length buffer ≡ planBytes s
       → Recovered s p (encodedField s p) (encodedField s p) buffer
-  pub mended : (s : Shape) (field : List ℕ)
+  pub corrected : (s : Shape) (field : List ℕ)
       → correctNumber s field ≡ 0
       → (buffer : List ℕ)
       → length buffer ≡ planBytes s

@@ -1,4 +1,4 @@
--- `correct` meets its contract: a refusal settles the answer, and else the mended field is stored.
+-- `correct` meets its contract: a refusal settles the answer, and else the corrected field is stored.
 use Prim.Native.Nat.{ℕ}
 use mathlib.Core.Path.{_≡_, sym, ap}
 use native.Mathlib.Omega.{arith}

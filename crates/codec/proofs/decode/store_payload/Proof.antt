@@ -8,7 +8,7 @@ use Rattle.codec.specs.Code.{tagsAt}
 use Rattle.codec.proofs.theory.CellValues.{received-cells}
 use Rattle.codec.proofs.theory.Correction.{corrected-cells}
 use Rattle.codec.proofs.theory.FlippedBits.{bits-all}
-use Rattle.codec.proofs.theory.MendedField.{field-cells, gathered-bits}
+use Rattle.codec.proofs.theory.CorrectedField.{field-cells, gathered-bits}
 use Rattle.codec.proofs.decode.store_payload.Statement.{statement}
 use Rattle.codec.proofs.decode.store_payload.Tie as tie
 
@@ -42,8 +42,8 @@ gather-requires c κs =
       ),
     )
 
-mend-payload-requires : tie.Need-mend-payload-requires
-mend-payload-requires c κs =
+correct-payload-requires : tie.Need-correct-payload-requires
+correct-payload-requires c κs =
     let gather = c .before .before .before .before .gather in
     let cleared = c .before .before .before .before .before .before .before .before .before in
     let counted = cleared .before .before in
@@ -71,7 +71,7 @@ returns c =
     let e =
     c .before .before .before .before .before .before .before .before .before .before .before .before .before
     .before .before .before .before .before .before .before in
-    let made = c .before .before .mend-payload in
+    let made = c .before .before .correct-payload in
     let long =
     made .kept .1 .1 .1 .1 .1 .1 .0
     ∙ c .before .before .before .before .before .before .before .gather .kept .1 .1 .1 .1 .1 .0
@@ -92,6 +92,6 @@ store-payload-spec =
     cells-requires
     clear-requires
     gather-requires
-    mend-payload-requires
+    correct-payload-requires
     same-length
     returns)

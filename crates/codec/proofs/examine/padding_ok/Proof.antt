@@ -12,7 +12,7 @@ use Rattle.lattice.proofs.theory.ClassAt.{at-cells}
 use Rattle.codec.specs.Decode.{correctedField}
 use Rattle.codec.specs.Field.{fieldOf}
 use Rattle.lattice.specs.Sizes.{HoldsRest, AtCellBack, AtPlace}
-use Rattle.codec.proofs.examine.Corrected.{mended-at}
+use Rattle.codec.proofs.examine.Corrected.{corrected-at}
 use Rattle.codec.proofs.examine.Data.{data-at}
 use Rattle.codec.proofs.examine.Padding.{PassedFrom, padding-start, padding-passes, left-some, padding-fails, padding-more}
 use Rattle.codec.proofs.theory.WorkArrays.{cell-limit, zeros}
@@ -81,7 +81,7 @@ value : (c : tie.After-corrected-value Inv-loop μ-loop)
     ≡ correctedField (entry turn .args .shape) (fieldOf (entry turn .args .field .now)) (turn .loop .i - 1)
 value c =
     let start = entry (c .before .before .before .before .before .before) in
-    mended-at
+    corrected-at
     _
     (start .args .field .now)
     _

@@ -1,4 +1,4 @@
--- `corrected_value` meets its contract: by the test, the cell is turned over or kept.
+-- `corrected_value` meets its contract: by the test, the cell is flipped or kept.
 use mathlib.Core.Path.{sym, refl, _∙_}
 use borrow.Author.Needs.{needs}
 use borrow.Author.Tests.{eq-eqb, ne-eqb}

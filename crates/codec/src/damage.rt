@@ -1,4 +1,4 @@
-// The damaged cells turned over, class by class: in the field, or in the payload that was gathered from it.
+// The damaged cells flipped, class by class: in the field, or in the payload that was gathered from it.
 ghost use mathlib.Core.Bool.{true, false, cond, not};
 ghost use mathlib.Core.Path.{_≡_};
 ghost use Prim.Native.Nat.{_+_, _<_, _≤_};
@@ -9,8 +9,10 @@ ghost use Rattle.lattice.specs.Position.{Layout};
 ghost use Rattle.lattice.specs.Counting.{count};
 ghost use Rattle.lattice.specs.Listing.{maxChecks, checksTo, ListsChecks};
 ghost use Rattle.codec.specs.Field.{Field, fieldOf, Same};
-ghost use Rattle.codec.specs.Packing.{BitFlipped, HoldsBits, turnedAt, mendedTo, Damaged};
+ghost use Rattle.codec.specs.Packing.{BitFlipped, HoldsBits, flippedAt, correctedTo, Damaged};
 use crate::hamming::flip;
+use crate::index::wide_16;
+use crate::index::wide_32;
 use lattice::check_cells::MAX_CHECKS;
 use lattice::shape::Shape;
 
@@ -36,23 +38,9 @@ pub(crate) fn count_damaged(m: usize, syndromes: &[u32; Shape::MAX_CLASSES]) -> 
     n
 }
 
-// A number of 32 bits from a list, as an index.
-fn wide_32(x: u32) -> usize
-    ensures { λ r. ⌜ r ≡ x ⌝ }
-{
-    x as usize
-}
-
-// A number of 16 bits from a list, as an index.
-pub(crate) fn wide_16(x: u16) -> usize
-    ensures { λ r. ⌜ r ≡ x ⌝ }
-{
-    x as usize
-}
-
-// Turns over a cell of the field; a number that is no cell's leaves it.
-fn turn_cell(field: &mut [u8], cell: usize)
-    ensures { λ _. ⌜ Same (fieldOf (now (field .exit))) (turnedAt (fieldOf (now (field .entry))) cell)
+// Flips a cell of the field; a number that is no cell's leaves it.
+fn flip_cell(field: &mut [u8], cell: usize)
+    ensures { λ _. ⌜ Same (fieldOf (now (field .exit))) (flippedAt (fieldOf (now (field .entry))) cell)
         (length (now (field .entry))) ⌝ }
 {
     if cell < field.len() {
@@ -60,18 +48,18 @@ fn turn_cell(field: &mut [u8], cell: usize)
     }
 }
 
-// Turns over the damaged cell of each class below m.
-pub(crate) fn turn_cells(m: usize, damaged: &[u32; Shape::MAX_CLASSES], field: &mut [u8])
+// Flips the damaged cell of each class below m.
+pub(crate) fn flip_cells(m: usize, damaged: &[u32; Shape::MAX_CLASSES], field: &mut [u8])
     requires { ⌜ m ≤ maxClasses ⌝ }
     ensures { λ _. ⌜ ((L : Layout)
         → L .cells ≡ length (now (field .entry))
         → Damaged L m (fieldOf (now (field .entry))) (now (damaged .entry))
-        → Same (fieldOf (now (field .exit))) (mendedTo L (fieldOf (now (field .entry))) m)
+        → Same (fieldOf (now (field .exit))) (correctedTo L (fieldOf (now (field .entry))) m)
         (length (now (field .entry)))) ⌝ }
 {
     let mut a = 0;
     while a < m {
-        turn_cell(field, wide_32(damaged[a]));
+        flip_cell(field, wide_32(damaged[a]));
         a += 1;
     }
 }
@@ -110,7 +98,7 @@ fn is_at(checks: &[u16; MAX_CHECKS], amount: usize, k: usize, cell: usize) -> bo
     wide_16(checks[k]) == cell
 }
 
-// Turns over bit k of the payload; a number that is no bit's leaves it.
+// Flips bit k of the payload; a number that is no bit's leaves it.
 fn flip_bit(payload: &mut [u8], k: usize)
     ensures { λ _. ⌜ BitFlipped (now (payload .entry)) (now (payload .exit)) k ⌝ }
 {
@@ -120,7 +108,7 @@ fn flip_bit(payload: &mut [u8], k: usize)
     }
 }
 
-// Turns over the bit of a cell that holds one; a check and a number that is no cell's leave the payload.
+// Flips the bit of a cell that holds one; a check and a number that is no cell's leave the payload.
 fn flip_at(checks: &[u16; MAX_CHECKS], amount: usize, cells: usize, cell: usize, payload: &mut [u8])
     requires { ⌜ amount ≤ maxChecks ⌝ }
     ensures { λ _. ⌜ ((L : Layout)
@@ -128,7 +116,7 @@ fn flip_at(checks: &[u16; MAX_CHECKS], amount: usize, cells: usize, cell: usize,
         → ListsChecks L (L .cells) amount (now (checks .entry))
         → (f : Field)
         → HoldsBits L f (now (payload .entry))
-        → HoldsBits L (turnedAt f cell) (now (payload .exit))) ⌝ }
+        → HoldsBits L (flippedAt f cell) (now (payload .exit))) ⌝ }
 {
     if cells <= cell {
         return;
@@ -142,7 +130,7 @@ fn flip_at(checks: &[u16; MAX_CHECKS], amount: usize, cells: usize, cell: usize,
     }
 }
 
-// Turns over the bits of the damaged cells of the classes below m.
+// Flips the bits of the damaged cells of the classes below m.
 pub(crate) fn flip_bits(
     checks: &[u16; MAX_CHECKS],
     amount: usize,
@@ -158,7 +146,7 @@ pub(crate) fn flip_bits(
         → (f : Field)
         → Damaged L m f (now (damaged .entry))
         → HoldsBits L f (now (payload .entry))
-        → HoldsBits L (mendedTo L f m) (now (payload .exit))) ⌝ }
+        → HoldsBits L (correctedTo L f m) (now (payload .exit))) ⌝ }
 {
     let mut a = 0;
     while a < m {

@@ -4,8 +4,8 @@ use mathlib.Core.Path.{sym, _∙_}
 use native.Mathlib.Omega.{arith}
 use borrow.Author.Needs.{needs}
 use borrow.Author.Tests.{eqb-true, eqb-false}
-use Rattle.codec.proofs.mend.is_at.Statement.{statement}
-use Rattle.codec.proofs.mend.is_at.Tie as tie
+use Rattle.codec.proofs.damage.is_at.Statement.{statement}
+use Rattle.codec.proofs.damage.is_at.Tie as tie
 
 returns : tie.Need-returns
 returns c = (λ e. absurd (true≢false (sym e)), λ e l. absurd (omega arith))

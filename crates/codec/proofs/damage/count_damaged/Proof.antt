@@ -9,8 +9,8 @@ use lib.ListN.{getD}
 use borrow.Author.Needs.{needs}
 use Rattle.lattice.specs.Counting.{count}
 use Rattle.lattice.proofs.theory.Counting.{count-step, count-most}
-use Rattle.codec.proofs.mend.count_damaged.Statement.{statement}
-use Rattle.codec.proofs.mend.count_damaged.Tie as tie
+use Rattle.codec.proofs.damage.count_damaged.Statement.{statement}
+use Rattle.codec.proofs.damage.count_damaged.Tie as tie
 
 abbrev Inv-loop : tie.InvT-loop
 Inv-loop m syndromes n₀ a₀ n a = (a ≤ m) × (n ≡ count (λ a. not (eqb (getD syndromes a 0) 0)) a)

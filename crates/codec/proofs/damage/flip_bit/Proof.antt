@@ -1,8 +1,8 @@
 -- `flip_bit` meets its contract.
 use borrow.Author.Needs.{needs}
 use Rattle.codec.proofs.theory.FlippedBits.{bit-flipped, bit-kept}
-use Rattle.codec.proofs.mend.flip_bit.Statement.{statement}
-use Rattle.codec.proofs.mend.flip_bit.Tie as tie
+use Rattle.codec.proofs.damage.flip_bit.Statement.{statement}
+use Rattle.codec.proofs.damage.flip_bit.Tie as tie
 
 slice-read-payload : tie.Need-slice-read-payload
 slice-read-payload c = search needs

@@ -6,8 +6,8 @@ use borrow.Author.Needs.{needs}
 use Rattle.lattice.specs.Position.{Layout}
 use Rattle.lattice.specs.Listing.{checksTo, ListsChecks}
 use Rattle.lattice.proofs.theory.Runs.{checks-mono, listed-before, listed-behind}
-use Rattle.codec.proofs.mend.checks_before.Statement.{statement}
-use Rattle.codec.proofs.mend.checks_before.Tie as tie
+use Rattle.codec.proofs.damage.checks_before.Statement.{statement}
+use Rattle.codec.proofs.damage.checks_before.Tie as tie
 
 abbrev Inv-loop : tie.InvT-loop
 Inv-loop checks amount cell low₀ high₀ low high =

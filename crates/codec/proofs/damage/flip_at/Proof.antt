@@ -3,8 +3,8 @@ use native.Mathlib.Omega.{arith}
 use borrow.Author.Needs.{needs}
 use Rattle.codec.proofs.theory.FlippedBits.{bits-outside, bits-listed, bits-unlisted}
 use Rattle.lattice.proofs.theory.Runs.{checks-most}
-use Rattle.codec.proofs.mend.flip_at.Statement.{statement}
-use Rattle.codec.proofs.mend.flip_at.Tie as tie
+use Rattle.codec.proofs.damage.flip_at.Statement.{statement}
+use Rattle.codec.proofs.damage.flip_at.Tie as tie
 
 returns : tie.Need-returns
 returns c = λ L same lists f holds. bits-outside L f _ _ (omega arith) holds

@@ -2,8 +2,8 @@
 use mathlib.Core.Path.{refl}
 use native.Mathlib.Omega.{arith}
 use borrow.Author.Needs.{needs}
-use Rattle.codec.proofs.mend.count_if.Statement.{statement}
-use Rattle.codec.proofs.mend.count_if.Tie as tie
+use Rattle.codec.proofs.damage.count_if.Statement.{statement}
+use Rattle.codec.proofs.damage.count_if.Tie as tie
 
 add-result : tie.Need-add-result
 add-result c = search needs

@@ -1,4 +1,4 @@
--- A field that passes the tests, mended: the damaged cell of each class is turned over.
+-- A field that passes the tests, corrected: the damaged cell of each class is flipped.
 use Prim.Native.Nat.{ℕ, _<_, _≤_}
 use mathlib.Core.Bool.{not}
 use mathlib.Core.List.{List}
@@ -20,11 +20,11 @@ use Rattle.lattice.proofs.theory.ClassBelow.{classes-limit}
 use Rattle.codec.specs.Field.{Field, fieldOf, listOf, Cells, Same}
 use Rattle.codec.specs.Decode.{correctedField, correctedCount}
 use Rattle.codec.specs.Payload.{payloadBytes, rank, heldByte, heldPayload}
-use Rattle.codec.specs.Packing.{HoldsBytes, HoldsBits, mendedTo, Damaged}
-use Rattle.codec.specs.Working.{HoldsSyndromes, Mendable}
+use Rattle.codec.specs.Packing.{HoldsBytes, HoldsBits, correctedTo, Damaged}
+use Rattle.codec.specs.Working.{HoldsSyndromes, Correctable}
 use Rattle.codec.proofs.theory.Accepted.{class-at-below}
 use Rattle.codec.proofs.theory.CellValues.{cell-most, received-cells}
-use Rattle.codec.proofs.theory.DamagedCells.{mended-all, damaged-count, damaged-are}
+use Rattle.codec.proofs.theory.DamagedCells.{corrected-to-all, damaged-count, damaged-are}
 use Rattle.codec.proofs.theory.FieldLists.{list-field}
 use Rattle.codec.proofs.theory.HeldByte.{bitsOf, byte-below}
 use Rattle.codec.proofs.theory.HeldPayload.{held-length, held-bit}
@@ -38,38 +38,38 @@ module _ (s : Shape) (accepted : Accepted s) (m : ℕ) (given : m ≡ figure (sh
   classes-few = rw classes-given (classes-limit s accepted)
 
 -- a field that passes has nothing but cells
-pub field-cells : (s : Shape) (field : List ℕ) → Mendable s field → Cells (fieldOf field) (length field)
-field-cells s field mendable i l = received-cells _ _ (mendable .cells) i (rw (mendable .fits .long) at l)
+pub field-cells : (s : Shape) (field : List ℕ) → Correctable s field → Cells (fieldOf field) (length field)
+field-cells s field correctable i l = received-cells _ _ (correctable .cells) i (rw (correctable .fits .long) at l)
 
-module _ (s : Shape) (field syndromes : List ℕ) (mendable : Mendable s field)
+module _ (s : Shape) (field syndromes : List ℕ) (correctable : Correctable s field)
     (held : HoldsSyndromes (layoutOf s) (fieldOf field) syndromes (cellsOf s)) (m : ℕ) (own : m ≡ classesOf s) where
   pub all-damaged : (damaged : List ℕ) → CellsAt (layoutOf s) (classesOf s) syndromes damaged
       → Damaged (layoutOf s) m (fieldOf field) damaged
   all-damaged damaged at =
       subst (λ (k : ℕ). Damaged (layoutOf s) k (fieldOf field) damaged) (sym own)
-      (damaged-are s (mendable .fits .accepted) (fieldOf field) (received-cells _ _ (mendable .cells)) (mendable .reach) syndromes
+      (damaged-are s (correctable .fits .accepted) (fieldOf field) (received-cells _ _ (correctable .cells)) (correctable .reach) syndromes
       damaged held at)
 
-  pub all-mended : Same (mendedTo (layoutOf s) (fieldOf field) m) (correctedField s (fieldOf field)) (cellsOf s)
-  all-mended =
-      mended-all (layoutOf s) (fieldOf field) m (cellsOf s)
-      (λ i l. rw own (class-at-below s (mendable .fits .accepted) i l))
+  pub all-corrected : Same (correctedTo (layoutOf s) (fieldOf field) m) (correctedField s (fieldOf field)) (cellsOf s)
+  all-corrected =
+      corrected-to-all (layoutOf s) (fieldOf field) m (cellsOf s)
+      (λ i l. rw own (class-at-below s (correctable .fits .accepted) i l))
 
-  -- the mended cells are the mended field
-  pub mended-cells : (last : List ℕ) → length last ≡ length field
-      → Same (fieldOf last) (mendedTo (layoutOf s) (fieldOf field) m) (length field)
+  -- the corrected cells are the corrected field
+  pub cells-corrected : (last : List ℕ) → length last ≡ length field
+      → Same (fieldOf last) (correctedTo (layoutOf s) (fieldOf field) m) (length field)
       → last ≡ listOf (correctedField s (fieldOf field)) (cellsOf s)
-  mended-cells last long same =
-      list-field last (correctedField s (fieldOf field)) (cellsOf s) (long ∙ mendable .fits .long)
-      (λ i l. same i (rw (mendable .fits .long) l) ∙ all-mended i l)
+  cells-corrected last long same =
+      list-field last (correctedField s (fieldOf field)) (cellsOf s) (long ∙ correctable .fits .long)
+      (λ i l. same i (rw (correctable .fits .long) l) ∙ all-corrected i l)
 
-  -- the syndromes that are not 0 are as many as the cells turned over
-  pub mended-count : (r : ℕ) → r ≡ count (λ a. not (eqb (getD syndromes a 0) 0)) m → r ≡ correctedCount s (fieldOf field)
-  mended-count r e =
+  -- the syndromes that are not 0 are as many as the cells flipped
+  pub damaged-counted : (r : ℕ) → r ≡ count (λ a. not (eqb (getD syndromes a 0) 0)) m → r ≡ correctedCount s (fieldOf field)
+  damaged-counted r e =
       e
       ∙ ap (count (λ a. not (eqb (getD syndromes a 0) 0))) own
-      ∙ damaged-count s (mendable .fits .accepted) (fieldOf field) (received-cells _ _ (mendable .cells))
-      (mendable .reach) syndromes held
+      ∙ damaged-count s (correctable .fits .accepted) (fieldOf field) (received-cells _ _ (correctable .cells))
+      (correctable .reach) syndromes held
 
 -- the payload of the right length that was gathered from a field has the bits of its data cells
 pub gathered-bits : (L : Layout) (f : Field) (l : List ℕ)

@@ -1,10 +1,10 @@
--- `mend_payload` meets its contract.
+-- `correct_payload` meets its contract.
 use mathlib.Core.Path.{sym}
 use borrow.Author.Needs.{needs}
 use Rattle.codec.proofs.theory.FlippedBits.{bits-same}
-use Rattle.codec.proofs.theory.MendedField.{classes-given, classes-few, all-damaged, all-mended, mended-count}
-use Rattle.codec.proofs.decode.mend_payload.Statement.{statement}
-use Rattle.codec.proofs.decode.mend_payload.Tie as tie
+use Rattle.codec.proofs.theory.CorrectedField.{classes-given, classes-few, all-damaged, all-corrected, damaged-counted}
+use Rattle.codec.proofs.decode.correct_payload.Statement.{statement}
+use Rattle.codec.proofs.decode.correct_payload.Tie as tie
 
 classes-requires : tie.Need-classes-requires
 classes-requires c κs = tt
@@ -37,14 +37,14 @@ returns c =
     let damaged =
     all-damaged _ (e .args .field .now) _ (e .pre .1 .0) (e .pre .1 .1 .0) _ own _
     (c .before .before .before .before .before .before .cells-at .ensures .0 ok) in (
-      bits-same _ _ _ _ (all-mended _ (e .args .field .now) _ (e .pre .1 .0) (e .pre .1 .1 .0) _ own)
+      bits-same _ _ _ _ (all-corrected _ (e .args .field .now) _ (e .pre .1 .0) (e .pre .1 .1 .0) _ own)
           (c .before .before .before .flip-bits .ensures _ (sym (e .pre .0)) (e .pre .1 .1 .1 .0 .1) _ damaged
           (e .pre .1 .1 .1 .1)),
-      mended-count _ (e .args .field .now) _ (e .pre .1 .0) (e .pre .1 .1 .0) _ own _ (c .count-damaged .ensures),
+      damaged-counted _ (e .args .field .now) _ (e .pre .1 .0) (e .pre .1 .1 .0) _ own _ (c .count-damaged .ensures),
     )
 
-pub mend-payload-spec : {M : Type 1} → statement M
-mend-payload-spec =
+pub correct-payload-spec : {M : Type 1} → statement M
+correct-payload-spec =
     tie.close
     (tie.spec
     classes-requires

@@ -1,4 +1,4 @@
--- `turn_cells` meets its contract. The loop's invariant: the classes below a are mended.
+-- `flip_cells` meets its contract. The loop's invariant: the classes below a are corrected.
 use Prim.Native.Nat.{ℕ, _-_, _≤_, zero-le}
 use mathlib.Core.Path.{_≡_, refl, ap, _∙_}
 use native.Mathlib.Nat.{le-antisymm}
@@ -7,22 +7,22 @@ use lib.ListN.{length}
 use borrow.Author.Needs.{needs}
 use Rattle.lattice.specs.Position.{Layout}
 use Rattle.codec.specs.Field.{fieldOf, Same}
-use Rattle.codec.specs.Packing.{turnedAt, mendedTo, Damaged}
-use Rattle.codec.proofs.theory.DamagedCells.{turned-same, mended-none, mended-more}
-use Rattle.codec.proofs.mend.turn_cells.Statement.{statement}
-use Rattle.codec.proofs.mend.turn_cells.Tie as tie
+use Rattle.codec.specs.Packing.{flippedAt, correctedTo, Damaged}
+use Rattle.codec.proofs.theory.DamagedCells.{flipped-same, corrected-to-none, corrected-to-more}
+use Rattle.codec.proofs.damage.flip_cells.Statement.{statement}
+use Rattle.codec.proofs.damage.flip_cells.Tie as tie
 
 abbrev Inv-loop : tie.InvT-loop
 Inv-loop m damaged field₀ a₀ field a =
     (a ≤ m) × (length field ≡ length field₀)
     × ((L : Layout) → L .cells ≡ length field₀ → Damaged L m (fieldOf field₀) damaged
-    → Same (fieldOf field) (mendedTo L (fieldOf field₀) a) (length field₀))
+    → Same (fieldOf field) (correctedTo L (fieldOf field₀) a) (length field₀))
 
 abbrev μ-loop : tie.MeasureT-loop
 μ-loop m damaged field₀ a₀ field a = m - a
 
 loop-holds : tie.Need-loop-holds Inv-loop μ-loop
-loop-holds c = (zero-le, refl, λ L same damaged. mended-none L _ _)
+loop-holds c = (zero-le, refl, λ L same damaged. corrected-to-none L _ _)
 
 mul-wide-32 : tie.Need-mul-wide-32 Inv-loop μ-loop
 mul-wide-32 c = search needs
@@ -33,8 +33,8 @@ element-copy-out-wide-32 c = search needs
 wide-32-requires : tie.Need-wide-32-requires Inv-loop μ-loop
 wide-32-requires c κs = tt
 
-turn-cell-requires : tie.Need-turn-cell-requires Inv-loop μ-loop
-turn-cell-requires c κs = search needs
+flip-cell-requires : tie.Need-flip-cell-requires Inv-loop μ-loop
+flip-cell-requires c κs = search needs
 
 add-a : tie.Need-add-a Inv-loop μ-loop
 add-a c = search needs
@@ -45,13 +45,13 @@ loop-less c = omega arith
 loop-again : tie.Need-loop-again Inv-loop μ-loop
 loop-again c =
     let turn = c .before .before .before .before .before .before .before .loop in
-    let one = c .before .before .turn-cell in (
+    let one = c .before .before .flip-cell in (
       omega arith,
       one .kept .0 ∙ turn .inv .1,
       λ L same damaged i l. one .ensures i (omega (arith, turn .inv .1))
-          ∙ ap (λ (x : ℕ). turnedAt (fieldOf (turn .field)) x i) (c .before .before .before .wide-32 .ensures)
-          ∙ turned-same _ _ _ _ (turn .inv .2 L same damaged) i l
-          ∙ mended-more L _ _ _ damaged (turn .a)
+          ∙ ap (λ (x : ℕ). flippedAt (fieldOf (turn .field)) x i) (c .before .before .before .wide-32 .ensures)
+          ∙ flipped-same _ _ _ _ (turn .inv .2 L same damaged) i l
+          ∙ corrected-to-more L _ _ _ damaged (turn .a)
           (c .before .before .before .before .before .before .loop-test .taken) i (omega arith),
     )
 
@@ -63,10 +63,10 @@ returns c =
     let turn = c .before .loop in
     let f = fieldOf (c .before .before .before .args .field .now) in
     λ L same damaged i l.
-    turn .inv .2 L same damaged i l ∙ ap (λ (a : ℕ). mendedTo L f a i) (le-antisymm (turn .inv .0) (c .loop-test .left))
+    turn .inv .2 L same damaged i l ∙ ap (λ (a : ℕ). correctedTo L f a i) (le-antisymm (turn .inv .0) (c .loop-test .left))
 
-pub turn-cells-spec : {M : Type 1} → statement M
-turn-cells-spec =
+pub flip-cells-spec : {M : Type 1} → statement M
+flip-cells-spec =
     tie.close
     (tie.spec
     Inv-loop
@@ -75,7 +75,7 @@ turn-cells-spec =
     mul-wide-32
     element-copy-out-wide-32
     wide-32-requires
-    turn-cell-requires
+    flip-cell-requires
     add-a
     loop-less
     loop-again

@@ -1,0 +1,2 @@
+-- What flipping the damaged cells uses alone.
+mod FlippedCells

@@ -1,2 +1,0 @@
--- What mending uses alone.
-mod TurnedCells
