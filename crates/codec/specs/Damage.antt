@@ -26,7 +26,8 @@ OneInEachClass s selected =
     (i j : ℕ) → i < cellsOf s → j < cellsOf s → selected (cellAt s i) ≡ true → selected (cellAt s j) ≡ true
     → classAt s i ≡ classAt s j → i ≡ j
 
--- from G the payload p and the field F come back: reading G into a payload buffer gives 0 and leaves exactly p; correcting G gives 0
+-- from G the payload p and the field F come back: reading G into a payload buffer gives 0 and leaves exactly p; correcting G
+-- gives 0
 -- and leaves exactly F; and the count of each is the number of cells where F and G differ
 pub record Recovered (s : Shape) (p F G buffer : List ℕ) : Type 0 where
   pub decoded-number : decodeNumber s buffer G ≡ 0

@@ -43,7 +43,8 @@ dataField L p i = cond (holdsData L i) (dataValue (payloadBytes L) p (rank L i))
 -- the field written from a payload: the check cell at position 2^j holds bit j of the syndrome of its class's data
 unfoldable pub encoded : Layout → List ℕ → Field
 encoded L p i =
-    cond (holdsData L i) (dataValue (payloadBytes L) p (rank L i)) (syndrome L (tagsOf L) (dataField L p) (L .class i) / position L i % 2)
+    cond (holdsData L i) (dataValue (payloadBytes L) p (rank L i))
+    (syndrome L (tagsOf L) (dataField L p) (L .class i) / position L i % 2)
 
 -- the field has the payload's bits and the padding in the cells that hold no check
 abbrev pub Carries : Layout → Field → List ℕ → Type 0

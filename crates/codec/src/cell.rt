@@ -12,7 +12,7 @@ pub fn is_received(value: u8) -> bool
 }
 
 // The cell with a byte number.
-pub(crate) fn cell_at(field: &[u8], i: usize) -> u8
+pub(crate) fn cell_value(field: &[u8], i: usize) -> u8
     requires { ⌜ i < length (now field) ⌝ }
     ensures { λ r. ⌜ r ≡ fieldOf (now (field .entry)) i ⌝ }
 {

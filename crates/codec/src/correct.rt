@@ -1,13 +1,13 @@
-// Correcting, the papers' mending.
+// Correcting: the tests, and the damaged cells flipped.
 ghost use mathlib.Core.Path.{_≡_};
 ghost use Rattle.lattice.specs.Refusal.{testedNumber, NoOutside};
 ghost use Rattle.lattice.specs.Shape.{cellsOf};
 ghost use Rattle.lattice.specs.Class.{layoutOf};
+ghost use Rattle.lattice.specs.Sizes.{HoldsZeros};
 ghost use Rattle.codec.specs.Field.{fieldOf, listOf};
 ghost use Rattle.codec.specs.Decode.{correctedField, correctedCount};
 ghost use Rattle.codec.specs.Correct.{correctNumber};
 ghost use Rattle.codec.specs.Answer.{IsCorrected, correctAnswerNumber, correctAnswerCount};
-ghost use Rattle.lattice.specs.Sizes.{HoldsZeros};
 ghost use Rattle.codec.specs.Working.{HoldsSyndromes, Correctable};
 use crate::damage::count_damaged;
 use crate::damage::flip_cells;

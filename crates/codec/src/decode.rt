@@ -1,4 +1,4 @@
-// Decoding, the papers' reading.
+// Decoding: the tests, the payload gathered from the field, and the bits of its damaged cells flipped.
 ghost use mathlib.Core.Path.{_≡_};
 ghost use Prim.Native.Nat.{ℕ, _≤_};
 ghost use lib.ListN.{getD, length};
@@ -6,12 +6,12 @@ ghost use Rattle.lattice.specs.Refusal.{testedNumber, NoOutside};
 ghost use Rattle.lattice.specs.Shape.{cellsOf};
 ghost use Rattle.lattice.specs.Class.{layoutOf};
 ghost use Rattle.lattice.specs.Listing.{maxChecks, ListsChecks};
+ghost use Rattle.lattice.specs.Sizes.{HoldsZeros};
 ghost use Rattle.codec.specs.Field.{fieldOf};
 ghost use Rattle.codec.specs.Payload.{payloadBytes, heldPayload};
 ghost use Rattle.codec.specs.Decode.{correctedField, correctedCount, decodeNumber};
 ghost use Rattle.codec.specs.Answer.{IsDecoded, decodeAnswerNumber, decodeAnswerCount};
 ghost use Rattle.codec.specs.Packing.{HoldsBits};
-ghost use Rattle.lattice.specs.Sizes.{HoldsZeros};
 ghost use Rattle.codec.specs.Working.{HoldsSyndromes, Correctable, Examined};
 use crate::damage::count_damaged;
 use crate::damage::flip_bits;

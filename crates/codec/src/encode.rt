@@ -1,14 +1,14 @@
-// Encoding, the papers' writing: the data cells are filled, and then the checks are set from the syndromes of the data.
+// Encoding: the data cells are filled, and then the checks are set from the syndromes of the data.
 ghost use mathlib.Core.Path.{_≡_};
 ghost use Prim.Native.Nat.{ℕ, _/_, _<_, _≤_};
 ghost use lib.ListN.{getD, length};
 ghost use Rattle.lattice.specs.Shape.{maxClasses, cellsOf};
 ghost use Rattle.lattice.specs.Class.{layoutOf};
 ghost use Rattle.lattice.specs.Listing.{maxChecks};
+ghost use Rattle.lattice.specs.Sizes.{HoldsZeros};
 ghost use Rattle.codec.specs.Field.{fieldOf, Cells};
 ghost use Rattle.codec.specs.Encode.{encodedField};
 ghost use Rattle.codec.specs.Answer.{IsEncoded, encodeAnswerNumber};
-ghost use Rattle.lattice.specs.Sizes.{HoldsZeros};
 ghost use Rattle.codec.specs.Working.{HoldsSyndromes, PayloadFits, FieldFits};
 ghost use Rattle.codec.specs.Filling.{ChecksPut, bitAt};
 use crate::fill::fill_planes;

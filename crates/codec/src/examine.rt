@@ -8,12 +8,12 @@ ghost use Rattle.lattice.specs.Refusal.{testedNumber};
 ghost use Rattle.lattice.specs.Shape.{maxClasses, cellsOf};
 ghost use Rattle.lattice.specs.Class.{layoutOf};
 ghost use Rattle.lattice.specs.Counting.{allBelow};
+ghost use Rattle.lattice.specs.Sizes.{HoldsZeros, HoldsSizes};
 ghost use Rattle.codec.specs.Field.{fieldOf, cellsOk};
 ghost use Rattle.codec.specs.Payload.{paddingOk};
 ghost use Rattle.codec.specs.Decode.{correctedField, fieldNumber};
-ghost use Rattle.lattice.specs.Sizes.{HoldsZeros, HoldsSizes};
 ghost use Rattle.codec.specs.Working.{FieldFits, Examined, rightAt};
-use crate::cell::cell_at;
+use crate::cell::cell_value;
 use crate::cell::is_received;
 use crate::hamming::corrected_value;
 use crate::hamming::holds_data;
@@ -40,7 +40,7 @@ fn cells_ok(field: &[u8], n: usize) -> bool
     let mut most = 0;
     let mut i = 0;
     while i < n {
-        most = greater(most, cell_at(field, i));
+        most = greater(most, cell_value(field, i));
         i += 1;
     }
     is_received(most)
@@ -103,7 +103,7 @@ fn padding_ok(
         i -= 1;
         let place = place_back(&mut behind, sizes, shape, placement, i as u32);
         let is_data = holds_data(sizes, place);
-        let value = corrected_value(syndromes, place, cell_at(field, i));
+        let value = corrected_value(syndromes, place, cell_value(field, i));
         if !is_right(is_data, unseen - 1, value) {
             return false;
         }

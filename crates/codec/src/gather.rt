@@ -10,7 +10,7 @@ ghost use Rattle.lattice.specs.Listing.{maxChecks, ListsChecks, Run};
 ghost use Rattle.codec.specs.Field.{fieldOf, Cells};
 ghost use Rattle.codec.specs.Packing.{BeginsByte, fourAt, eightAt, HoldsBytes, BitStored};
 ghost use Rattle.codec.specs.Working.{FieldFits};
-use crate::cell::cell_at;
+use crate::cell::cell_value;
 use lattice::check_cells::MAX_CHECKS;
 use lattice::shape::Shape;
 
@@ -33,10 +33,10 @@ fn four(field: &[u8], i: usize) -> u32
     requires { ⌜ Cells (fieldOf (now field)) (length (now field)) ⌝ }
     ensures { λ r. ⌜ r ≡ fourAt (fieldOf (now (field .entry))) i ⌝ }
 {
-    let first = cell_at(field, i) as u32;
-    let second = cell_at(field, i + 1) as u32;
-    let third = cell_at(field, i + 2) as u32;
-    let fourth = cell_at(field, i + 3) as u32;
+    let first = cell_value(field, i) as u32;
+    let second = cell_value(field, i + 1) as u32;
+    let third = cell_value(field, i + 2) as u32;
+    let fourth = cell_value(field, i + 3) as u32;
     first * 8 + second * 4 + third * 2 + fourth
 }
 
@@ -75,7 +75,7 @@ fn gather_some(field: &[u8], payload: &mut [u8], k: usize, i: usize, end: usize)
         payload[j] = eight(field, i);
         return i + 8;
     }
-    store_bit(payload, rank, cell_at(field, i));
+    store_bit(payload, rank, cell_value(field, i));
     i + 1
 }
 

@@ -7,11 +7,11 @@ ghost use Rattle.lattice.specs.Shape.{maxCells, maxClasses, Accepted, cellsOf};
 ghost use Rattle.lattice.specs.Class.{classesOf, layoutOf};
 ghost use Rattle.lattice.specs.Position.{Layout};
 ghost use Rattle.lattice.specs.Lines.{passOf, OfShape, Room, AtLine, Ready};
-ghost use Rattle.codec.specs.Field.{fieldOf, Cells};
 ghost use Rattle.lattice.specs.Sizes.{HoldsZeros};
+ghost use Rattle.codec.specs.Field.{fieldOf, Cells};
 ghost use Rattle.codec.specs.Working.{HoldsSyndromes};
 ghost use Rattle.codec.specs.Lines.{LineTaken, Taken, folded};
-use crate::cell::cell_at;
+use crate::cell::cell_value;
 use lattice::line::Line;
 use lattice::line::Pass;
 use lattice::line::next_place;
@@ -26,7 +26,7 @@ fn take_line(t: &mut [u16], e: &[u16], field: &[u8], start: usize, n: usize, w: 
 {
     let mut x = 0;
     while x < w {
-        t[start + x] = t[start + x] ^ (e[start + x] * cell_at(field, n + x) as u16);
+        t[start + x] = t[start + x] ^ (e[start + x] * cell_value(field, n + x) as u16);
         x += 1;
     }
 }
@@ -150,7 +150,7 @@ fn one_syndrome(n: usize, field: &[u8], syndromes: &mut [u32])
     let mut sum: u32 = 0;
     let mut i = 0;
     while i < n {
-        sum = sum ^ ((i as u32 + 1) * cell_at(field, i) as u32);
+        sum = sum ^ ((i as u32 + 1) * cell_value(field, i) as u32);
         i += 1;
     }
     syndromes[0] = sum;

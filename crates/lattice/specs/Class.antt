@@ -1,4 +1,7 @@
 -- The interleaving class of a cell, and its refusals.
+-- For example, in a flat field at t = 4, where m is 8 and b is 5, row 0 has the classes 0, 1, 2, 3, ..; row 1 begins with
+-- (0 − 5 × 1) mod 8 = 3 and goes on with 4, 5, 6, ..; and row 2 begins with (0 − 5 × 2) mod 8 = 6 and goes on with 7, 0, 1, ..
+-- The cells of row 0 and row 1 that have the class 3 are three columns and one row apart: 4 in all.
 use Prim.Native.Nat.{ℕ, _+_, _-_, _*_, _%_, _≤_}
 use mathlib.Core.Bool.{Bool, _&&_}
 use mathlib.Core.List.{List, [], _∷_, _++_}

@@ -1,4 +1,7 @@
 -- The order in which the distance test tries difference triples (row, plane, column): rising by row, then plane, then column.
+-- For example, at t = 3 the triples of an absolute sum of 1 or 2 whose first number that is not 0 is positive, twelve in all:
+-- (0, 0, 1), (0, 0, 2), (0, 1, −1), (0, 1, 0), (0, 1, 1), (0, 2, 0),
+-- (1, −1, 0), (1, 0, −1), (1, 0, 0), (1, 0, 1), (1, 1, 0), (2, 0, 0).
 use Prim.Native.Nat.{ℕ, zero, suc, _+_, _-_}
 use mathlib.Core.List.{List, [], _∷_, _++_, map}
 use mathlib.Core.Logic.{_⊎_}

@@ -1,4 +1,4 @@
--- Positions in a class, check cells and the capacity, for any layout of cells in classes.
+-- Layouts of cells in classes: the sizes of the classes, and the positions of the cells in them.
 use Prim.Native.Nat.{ℕ, _+_}
 use lib.Dec.{eqb}
 use Rattle.lattice.specs.Counting.{count}

@@ -1,8 +1,8 @@
 // The capacity of a field: the sizes of its classes, and the cells of each that hold no check.
 ghost use mathlib.Core.Path.{_≡_};
+ghost use mathlib.Core.Logic.{_≢_};
 ghost use Prim.Native.Nat.{ℕ, _+_, _<_, _≤_};
 ghost use lib.ListN.{getD};
-ghost use mathlib.Core.Logic.{_≢_};
 ghost use Rattle.lattice.specs.Refusal.{figure};
 ghost use Rattle.lattice.specs.Shape.{maxClasses, shapeNumber, Accepted, cellsOf};
 ghost use Rattle.lattice.specs.Class.{layoutOf};

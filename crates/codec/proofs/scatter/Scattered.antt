@@ -107,7 +107,9 @@ module _ (payload : List ℕ) (at k i : ℕ) where
       own : (x : ℕ) → i ≤ x → x < i + 1 → getD (set l (i - at) v) (x - at) 0 ≡ dataValue (length payload) payload (x - k)
       own x a b =
           let q : x ≡ i = omega arith in
-          stored l (i - at) v (x - at) room (ap (λ (y : ℕ). y - at) q) ∙ e ∙ ap (λ (y : ℕ). dataValue (length payload) payload (y - k)) (sym q)
+          stored l (i - at) v (x - at) room (ap (λ (y : ℕ). y - at) q)
+          ∙ e
+          ∙ ap (λ (y : ℕ). dataValue (length payload) payload (y - k)) (sym q)
 
       others : (y : ℕ) → (at + y < i) ⊎ (i + 1 ≤ at + y) → getD (set l (i - at) v) y 0 ≡ getD l y 0
       others y o = getD-set-other l (i - at) y v 0 (⊎-elim (λ s q. omega arith) (λ s q. omega arith) o)

@@ -47,8 +47,8 @@ module _ (s : Shape) (field syndromes : List ℕ) (correctable : Correctable s f
       → Damaged (layoutOf s) m (fieldOf field) damaged
   all-damaged damaged at =
       subst (λ (k : ℕ). Damaged (layoutOf s) k (fieldOf field) damaged) (sym own)
-      (damaged-are s (correctable .fits .accepted) (fieldOf field) (received-cells _ _ (correctable .cells)) (correctable .reach) syndromes
-      damaged held at)
+      (damaged-are s (correctable .fits .accepted) (fieldOf field) (received-cells _ _ (correctable .cells))
+      (correctable .reach) syndromes damaged held at)
 
   pub all-corrected : Same (correctedTo (layoutOf s) (fieldOf field) m) (correctedField s (fieldOf field)) (cellsOf s)
   all-corrected =

@@ -18,7 +18,9 @@ module _ (L : Layout) (p : List ℕ) where
   -- the cells of the field written are 0 or 1
   pub encoded-cells : (m : ℕ) → Cells (encoded L p) m
   unfolding encoded
-  encoded-cells m i l = cond-cell (holdsData L i) _ _ (most-cell _ (data-value-most (payloadBytes L) p (rank L i))) (most-cell _ (omega arith))
+  encoded-cells m i l =
+      cond-cell (holdsData L i) _ _ (most-cell _ (data-value-most (payloadBytes L) p (rank L i)))
+      (most-cell _ (omega arith))
 
   -- the value of a cell of the field written
   pub encoded-data : (i : ℕ) → holdsData L i ≡ true → encoded L p i ≡ dataValue (payloadBytes L) p (rank L i)

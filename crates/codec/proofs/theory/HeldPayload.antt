@@ -81,7 +81,9 @@ module _ (L : Layout) where
     where
       go : Dec (rank L i < 8 * payloadBytes L) → f i ≡ dataValue (payloadBytes L) (heldPayload L f) (rank L i)
       go (yes r) = sym (value-bit (payloadBytes L) _ (rank L i) r ∙ bits f (data-cells f c) i l h r)
-      go (no r) = let q : 8 * payloadBytes L ≤ rank L i = omega arith in p i l h q ∙ sym (value-padding (payloadBytes L) _ (rank L i) q)
+      go (no r) =
+          let q : 8 * payloadBytes L ≤ rank L i = omega arith in
+          p i l h q ∙ sym (value-padding (payloadBytes L) _ (rank L i) q)
 
   -- a field that carries a payload holds it
   pub carries-held : (f : Field) (p : List ℕ) → Bytes p → length p ≡ payloadBytes L → Carries L f p → heldPayload L f ≡ p

@@ -40,7 +40,8 @@ listed-none s sizes counts cells places zeros =
 module _ (s : Shape) (ok : Accepted s) (pass : Pass) (same : pass ≡ passOf s) where
   -- the list after every line is that of the field
   pub listed-all : (amount : ℕ) (sizes counts cells places : List ℕ)
-      → ListedTo (layoutOf s) (pass .lines * s .columns) amount sizes counts cells places → HoldsSizes (layoutOf s) sizes (cellsOf s)
+      → ListedTo (layoutOf s) (pass .lines * s .columns) amount sizes counts cells places
+      → HoldsSizes (layoutOf s) sizes (cellsOf s)
       → ListsChecks (layoutOf s) (cellsOf s) amount cells × HoldsPlaces (layoutOf s) amount cells places
   listed-all amount sizes counts cells places held right =
       let lines = lines-are s ok pass same in

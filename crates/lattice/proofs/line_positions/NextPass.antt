@@ -19,8 +19,8 @@ use Rattle.lattice.proofs.theory.Remainder.{minus-below}
 use Rattle.lattice.proofs.theory.Starts.{minus-mod, start-row, start-turns}
 
 -- what is stored in the list by a step
-abbrev pub Stored : ℕ → ℕ → ℕ → ℕ → List ℕ → List ℕ → List ℕ → Type 0
-Stored m start back next e p f =
+abbrev pub PositionsStored : ℕ → ℕ → ℕ → ℕ → List ℕ → List ℕ → List ℕ → Type 0
+PositionsStored m start back next e p f =
     next ≤ m → length e + m ≤ length p → (y : ℕ) → y < length e
     → getD f y 0 ≡ (getD e y 0 + getD p (y + (m - next)) 0 + (65536 - round start back)) % 65536
 
@@ -77,7 +77,7 @@ module _ (s : Shape) (a : Accepted s) (pass : Pass) (same : pass ≡ passOf s) (
       (begins : next .start ≡ minusMod (x .start) back (settingsOf s .m))
       (gain : Gains (pass .classes) (pass .columns + back) (length p) p) (reach : length e + pass .classes ≤ length p)
       (short : length e ≤ 4096)
-      (stored : Stored (pass .classes) (x .start) back (next .start) e p f) where
+      (stored : PositionsStored (pass .classes) (x .start) back (next .start) e p f) where
     stepped : AtLine s (l + 1) next f
     stepped =
         at-step s a l x e at back p f (rw (m-is, w-is) at gain) (rw m-is at less) (rw m-is at reach) (rw m-is at two)
@@ -92,10 +92,14 @@ module _ (s : Shape) (a : Accepted s) (pass : Pass) (same : pass ≡ passOf s) (
         next long is begins
 
   module _ (p q : List ℕ) (ready : Ready pass (length e) p q) where
-    pub row-step : 0 < x .left → Stored (pass .classes) (x .start) (pass .row) (next .start) e p f → AtLine s (l + 1) next f
+    pub row-step : 0 < x .left
+        → PositionsStored (pass .classes) (x .start) (pass .row) (next .start) e p f
+        → AtLine s (l + 1) next f
     row-step more =
         stepped (pass .row) p (pass-row s a pass same) (row-begins more) (ready .row) (ready .row-long) (ready .short)
 
-    pub plane-step : x .left ≤ 0 → Stored (pass .classes) (x .start) (pass .plane) (next .start) e q f → AtLine s (l + 1) next f
+    pub plane-step : x .left ≤ 0
+        → PositionsStored (pass .classes) (x .start) (pass .plane) (next .start) e q f
+        → AtLine s (l + 1) next f
     plane-step none =
         stepped (pass .plane) q (pass-plane s a pass same) (plane-begins none) (ready .plane) (ready .plane-long) (ready .short)

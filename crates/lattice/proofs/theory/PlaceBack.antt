@@ -21,7 +21,10 @@ rest-none s behind n p e =
     record { at = λ a l. omega (arith, p .at a l, ap (sizeTo (layoutOf s) a) e) }
 
 -- one cell more adds 1 to the entry of its class
-rest-more : (L : Layout) (xs ys : List ℕ) (n k : ℕ) → HoldsRest L xs (n + 1) → k ≡ L .class n → EntryStored xs ys k (getD xs k 0 + 1)
+rest-more : (L : Layout) (xs ys : List ℕ) (n k : ℕ)
+    → HoldsRest L xs (n + 1)
+    → k ≡ L .class n
+    → EntryStored xs ys k (getD xs k 0 + 1)
     → HoldsRest L ys n
 rest-more L xs ys n k rest own st = record { at = λ a l. go a l (ℕ-discrete a k) }
   where

@@ -15,8 +15,8 @@ abbrev μ-loop : tie.MeasureT-loop
 loop-holds : tie.Need-loop-holds Inv-loop μ-loop
 loop-holds c = (zero-le, tells-none _)
 
-cell-at-requires : tie.Need-cell-at-requires Inv-loop μ-loop
-cell-at-requires c κs = omega arith
+cell-value-requires : tie.Need-cell-value-requires Inv-loop μ-loop
+cell-value-requires c κs = omega arith
 
 greater-requires : tie.Need-greater-requires Inv-loop μ-loop
 greater-requires c κs = tt
@@ -30,7 +30,7 @@ loop-less c = omega arith
 loop-again : tie.Need-loop-again Inv-loop μ-loop
 loop-again c =
     let turn = c .before .before .before .loop in
-    (omega arith, tells-more _ _ _ _ _ (turn .inv .1) (c .before .cell-at .ensures) (c .greater .ensures))
+    (omega arith, tells-more _ _ _ _ _ (turn .inv .1) (c .before .cell-value .ensures) (c .greater .ensures))
 
 is-received-requires : tie.Need-is-received-requires Inv-loop μ-loop
 is-received-requires c κs = tt
@@ -47,7 +47,7 @@ cells-ok-spec =
     Inv-loop
     μ-loop
     loop-holds
-    cell-at-requires
+    cell-value-requires
     greater-requires
     add-i
     loop-less

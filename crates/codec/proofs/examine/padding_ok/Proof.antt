@@ -89,7 +89,7 @@ value c =
     _ _ _
     (place (c .before .before .before))
     _
-    (rw (c .before .cell-at .ensures) at (c .corrected-value .ensures))
+    (rw (c .before .cell-value .ensures) at (c .corrected-value .ensures))
 
 placement-requires : tie.Need-placement-requires Inv-loop μ-loop
 placement-requires c κs = tt
@@ -127,8 +127,8 @@ place-back-requires c κs = tt
 holds-data-requires : tie.Need-holds-data-requires Inv-loop μ-loop
 holds-data-requires c κs = place c .below
 
-cell-at-requires : tie.Need-cell-at-requires Inv-loop μ-loop
-cell-at-requires c κs =
+cell-value-requires : tie.Need-cell-value-requires Inv-loop μ-loop
+cell-value-requires c κs =
     let turn = c .before .before .before in
     rw (entry (turn .before) .pre .0 .long) (cell turn .below)
 
@@ -195,7 +195,7 @@ padding-ok-spec =
     cast-place-back
     place-back-requires
     holds-data-requires
-    cell-at-requires
+    cell-value-requires
     corrected-value-requires
     sub-is-right
     is-right-requires

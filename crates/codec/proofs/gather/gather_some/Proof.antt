@@ -36,8 +36,8 @@ returns c =
       λ L run holds. rw (c .eight .ensures) (gathered-byte L _ _ _ holds _ _ run _ (e .pre .1) (e .pre .0 .2) begins),
     )
 
-cell-at-requires : tie.Need-cell-at-requires
-cell-at-requires c κs = search needs
+cell-value-requires : tie.Need-cell-value-requires
+cell-value-requires c κs = search needs
 
 store-bit-requires : tie.Need-store-bit-requires
 store-bit-requires c κs = search needs
@@ -54,7 +54,7 @@ returns-2 c =
     let e = c .before .before .before .before .before .before .before .before .before in (
       (omega arith, omega arith),
       λ L run holds. gathered-cell L _ _ _ holds _ _ run _ (e .pre .0 .1) (store-bit .kept .0)
-          (rw (c .before .before .before .cell-at .ensures) at (store-bit .ensures)),
+          (rw (c .before .before .before .cell-value .ensures) at (store-bit .ensures)),
     )
 
 pub gather-some-spec : {M : Type 1} → statement M
@@ -69,7 +69,7 @@ gather-some-spec =
     add-result
     same-length
     returns
-    cell-at-requires
+    cell-value-requires
     store-bit-requires
     add-result-2
     same-length-2

@@ -20,11 +20,11 @@ abbrev μ-loop : tie.MeasureT-loop
 μ-loop n field syndromes sum₀ i₀ sum i = n - i
 
 -- the cell of a turn
-value : (c : tie.After-cell-at Inv-loop μ-loop) → c .cell-at .result ≤ 1
+value : (c : tie.After-cell-value Inv-loop μ-loop) → c .cell-value .result ≤ 1
 value c =
     let e = c .before .before .before .before .before in
     let most = cell-most _ (e .pre .1 .0 (c .before .before .loop .i) (c .before .loop-test .taken)) in
-    omega (arith, c .cell-at .ensures, most)
+    omega (arith, c .cell-value .ensures, most)
 
 loop-holds : tie.Need-loop-holds Inv-loop μ-loop
 loop-holds c = (zero-le, λ L alone. refl)
@@ -35,15 +35,15 @@ cast-sum c = search needs
 add-sum : tie.Need-add-sum Inv-loop μ-loop
 add-sum c = search needs
 
-cell-at-requires : tie.Need-cell-at-requires Inv-loop μ-loop
-cell-at-requires c κs = search needs
+cell-value-requires : tie.Need-cell-value-requires Inv-loop μ-loop
+cell-value-requires c κs = search needs
 
 cast-sum-2 : tie.Need-cast-sum-2 Inv-loop μ-loop
 cast-sum-2 c = omega (arith, value c)
 
 mul-sum : tie.Need-mul-sum Inv-loop μ-loop
 mul-sum c =
-    omega (arith, once-below (c .before .before .loop .i + 1) (c .cell-at .result) 4294967296 (omega arith) (value c))
+    omega (arith, once-below (c .before .before .loop .i + 1) (c .cell-value .result) 4294967296 (omega arith) (value c))
 
 add-i : tie.Need-add-i Inv-loop μ-loop
 add-i c = search needs
@@ -55,8 +55,8 @@ loop-again : tie.Need-loop-again Inv-loop μ-loop
 loop-again c =
     let turn = c .before .before .loop in (
       omega arith,
-      λ L alone. one-more L _ alone _ (turn .i) (turn .sum) (c .cell-at .result) (c .before .loop-test .taken)
-          (turn .inv .1 L alone) (c .cell-at .ensures) (value c),
+      λ L alone. one-more L _ alone _ (turn .i) (turn .sum) (c .cell-value .result) (c .before .loop-test .taken)
+          (turn .inv .1 L alone) (c .cell-value .ensures) (value c),
     )
 
 slice-write-syndromes : tie.Need-slice-write-syndromes Inv-loop μ-loop
@@ -83,7 +83,7 @@ one-syndrome-spec =
     loop-holds
     cast-sum
     add-sum
-    cell-at-requires
+    cell-value-requires
     cast-sum-2
     mul-sum
     add-i

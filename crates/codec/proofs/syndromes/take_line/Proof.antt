@@ -20,11 +20,11 @@ abbrev μ-loop : tie.MeasureT-loop
 μ-loop t₀ e field start n w x₀ t x = w - x
 
 -- the cell of a turn
-value : (c : tie.After-cell-at Inv-loop μ-loop) → c .cell-at .result ≤ 1
+value : (c : tie.After-cell-value Inv-loop μ-loop) → c .cell-value .result ≤ 1
 value c =
     let e = c .before .before .before .before .before .before .before .before in
     let most = cell-most _ (e .pre .1 (e .args .n + c .before .before .before .before .loop .x) (omega arith)) in
-    omega (arith, c .cell-at .ensures, most)
+    omega (arith, c .cell-value .ensures, most)
 
 loop-holds : tie.Need-loop-holds Inv-loop μ-loop
 loop-holds c = (zero-le, refl, line-none _ _ _ _ _)
@@ -47,11 +47,11 @@ mul-t-2 c = search needs
 shared-slice-read-t : tie.Need-shared-slice-read-t Inv-loop μ-loop
 shared-slice-read-t c = search needs
 
-add-cell-at : tie.Need-add-cell-at Inv-loop μ-loop
-add-cell-at c = search needs
+add-cell-value : tie.Need-add-cell-value Inv-loop μ-loop
+add-cell-value c = search needs
 
-cell-at-requires : tie.Need-cell-at-requires Inv-loop μ-loop
-cell-at-requires c κs = search needs
+cell-value-requires : tie.Need-cell-value-requires Inv-loop μ-loop
+cell-value-requires c κs = search needs
 
 cast-t : tie.Need-cast-t Inv-loop μ-loop
 cast-t c = omega (arith, value c)
@@ -61,7 +61,7 @@ mul-t-3 c =
     let e = c .before .before .before .before .before .before .before .before in
     let at = e .args .start + c .before .before .before .before .loop .x in
     let below = c .before .shared-slice-known3 .given at in
-    omega (arith, once-below (getD (e .args .e .now) at 0) (c .cell-at .result) 65536 (omega (arith, below)) (value c))
+    omega (arith, once-below (getD (e .args .e .now) at 0) (c .cell-value .result) 65536 (omega (arith, below)) (value c))
 
 add-t-3 : tie.Need-add-t-3 Inv-loop μ-loop
 add-t-3 c = search needs
@@ -86,7 +86,7 @@ loop-again c =
       omega arith,
       simp length-set (turn .inv .1),
       line-more _ _ _ _ (e .args .e .now) (e .args .t .now) (turn .t) _ (turn .inv .2) (omega arith)
-          (ap (λ (v : ℕ). bitXor (getD (turn .t) at 0) (getD (e .args .e .now) at 0 * v)) (c .cell-at .ensures)),
+          (ap (λ (v : ℕ). bitXor (getD (turn .t) at 0) (getD (e .args .e .now) at 0 * v)) (c .cell-value .ensures)),
     )
 
 same-length : tie.Need-same-length Inv-loop μ-loop
@@ -113,8 +113,8 @@ take-line-spec =
     add-t-2
     mul-t-2
     shared-slice-read-t
-    add-cell-at
-    cell-at-requires
+    add-cell-value
+    cell-value-requires
     cast-t
     mul-t-3
     add-t-3
