@@ -26,7 +26,7 @@ use Rattle.codec.proofs.theory.PayloadBits.{data-value-most}
 use Rattle.codec.proofs.theory.Syndrome.{syndrome-same}
 
 -- the lists of the checks and their places, as they are made from the sizes of the classes
-abbrev pub ListsGiven : Shape → List ℕ → List ℕ → List ℕ → ℕ → Type 0
+abbrev ListsGiven : Shape → List ℕ → List ℕ → List ℕ → ℕ → Type 0
 ListsGiven s sizes checks places amount =
     (Accepted s → HoldsSizes (layoutOf s) sizes (cellsOf s)
     → ListsChecks (layoutOf s) (cellsOf s) amount checks × HoldsPlaces (layoutOf s) amount checks places)

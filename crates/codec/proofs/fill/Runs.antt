@@ -56,13 +56,13 @@ module _ (L : Layout) (p : List ℕ) where
       let number : x - k ≡ rank L x = omega arith in
       rw held (ap₂ (λ (m r : ℕ). cond (ltb r (8 * m)) (payloadBit p r) (padding (r - 8 * m))) long number)
 
-  pub data-zero : (x : ℕ) → holdsData L x ≡ false → dataField L p x ≡ 0
+  data-zero : (x : ℕ) → holdsData L x ≡ false → dataField L p x ≡ 0
   unfolding dataField
   data-zero x held = rw held
 
   module _ (xs ys : List ℕ) (at i : ℕ) (put : DataPut L p xs ys at i) where
     -- a run more
-    pub data-run : (zs : List ℕ) (k e : ℕ) → length p ≡ payloadBytes L → Run L k i e → ValuesPut p ys zs at k i e
+    data-run : (zs : List ℕ) (k e : ℕ) → length p ≡ payloadBytes L → Run L k i e → ValuesPut p ys zs at k i e
         → DataPut L p xs zs at e
     data-run zs k e long run values =
         record {
@@ -78,7 +78,7 @@ module _ (L : Layout) (p : List ℕ) where
             ∙ data-value long x k (run .free x m b) (run-rank L k i e run x m (omega arith))
 
     -- a check more
-    pub data-check : at ≤ i → i - at < length ys → holdsData L i ≡ false → DataPut L p xs (set ys (i - at) 0) at (i + 1)
+    data-check : at ≤ i → i - at < length ys → holdsData L i ≡ false → DataPut L p xs (set ys (i - at) 0) at (i + 1)
     data-check m room held =
         record {
           own = λ x a b. own x a b (decLt x i);

@@ -26,17 +26,17 @@ use Rattle.codec.proofs.theory.Tags.{tag-position}
 use Rattle.codec.proofs.theory.Xor.{xor-assoc, xor-exchange}
 
 -- sums of exclusive ors
-pub xor-same : (f g : ℕ → ℕ) (n : ℕ) → ((i : ℕ) → i < n → f i ≡ g i) → xorBelow f n ≡ xorBelow g n
+xor-same : (f g : ℕ → ℕ) (n : ℕ) → ((i : ℕ) → i < n → f i ≡ g i) → xorBelow f n ≡ xorBelow g n
 xor-same f g zero p = refl
 xor-same f g (suc n) p = ap₂ bitXor (xor-same f g n (λ i l. p i (omega arith))) (p n (le-refl _))
 
-pub xor-both : (f g : ℕ → ℕ) (n : ℕ) → xorBelow (λ i. bitXor (f i) (g i)) n ≡ bitXor (xorBelow f n) (xorBelow g n)
+xor-both : (f g : ℕ → ℕ) (n : ℕ) → xorBelow (λ i. bitXor (f i) (g i)) n ≡ bitXor (xorBelow f n) (xorBelow g n)
 xor-both f g zero = refl
 xor-both f g (suc n) =
     ap (λ (x : ℕ). bitXor x (bitXor (f n) (g n))) (xor-both f g n)
     ∙ xor-exchange (xorBelow f n) (xorBelow g n) (f n) (g n)
 
-pub xor-from : (g : ℕ → ℕ) (j w : ℕ) → xorBelow g (j + w) ≡ bitXor (xorBelow g j) (xorBelow (λ x. g (j + x)) w)
+xor-from : (g : ℕ → ℕ) (j w : ℕ) → xorBelow g (j + w) ≡ bitXor (xorBelow g j) (xorBelow (λ x. g (j + x)) w)
 xor-from g j zero = ap (xorBelow g) (add-zero j) ∙ sym (xor-zero-r (xorBelow g j))
 xor-from g j (suc w) =
     simp
@@ -84,11 +84,11 @@ regroup p q h c =
     ∙ sym (xor-assoc (bitXor p q) c h)
 
 module _ (f : Field) (start n w : ℕ) (e before after : List ℕ) (taken : LineTaken f start n w e before after) (m a : ℕ) where
-  abbrev pub added : ℕ → ℕ
+  abbrev added : ℕ → ℕ
   added x = cond (eqb ((start + x) % m) a) (getD e (start + x) 0 * f (n + x)) 0
 
   -- a line that is taken in adds its products to the folds
-  pub fold-line : (rest : ℕ)
+  fold-line : (rest : ℕ)
       → folded m a (start + w + rest) after ≡ bitXor (folded m a (start + w + rest) before) (xorBelow added w)
   fold-line rest =
       fold-parts m a start w rest after

@@ -26,13 +26,13 @@ module _ (L : Layout) where
   abbrev pub dataPart : Field → Field
   dataPart f i = cond (holdsData L i) (f i) 0
 
-  abbrev pub checkPart : Field → Field
+  abbrev checkPart : Field → Field
   checkPart f i = cond (holdsData L i) 0 (f i)
 
-  pub data-cells : (f : Field) (m : ℕ) → Cells f m → Cells (dataPart f) m
+  data-cells : (f : Field) (m : ℕ) → Cells f m → Cells (dataPart f) m
   data-cells f m c i l = cond-cell (holdsData L i) _ _ (c i l) zero-cell
 
-  pub check-cells : (f : Field) (m : ℕ) → Cells f m → Cells (checkPart f) m
+  check-cells : (f : Field) (m : ℕ) → Cells f m → Cells (checkPart f) m
   check-cells f m c i l = cond-cell (holdsData L i) _ _ zero-cell (c i l)
 
   -- the field is the sum of the two
@@ -40,7 +40,7 @@ module _ (L : Layout) where
   part-sum true v = xor-zero-r v
   part-sum false v = refl
 
-  pub syndrome-parts : (f : Field) (a m : ℕ) → Cells f m
+  syndrome-parts : (f : Field) (a m : ℕ) → Cells f m
       → syndromeTo L (tagsOf L) f a m
       ≡ bitXor (syndromeTo L (tagsOf L) (dataPart f) a m) (syndromeTo L (tagsOf L) (checkPart f) a m)
   syndrome-parts f a m c =
@@ -48,7 +48,7 @@ module _ (L : Layout) where
       ∙ syndrome-sum L (tagsOf L) (dataPart f) (checkPart f) a m (data-cells f m c) (check-cells f m c)
 
   -- no cell but a check is 1 among the first m cells of class a
-  abbrev pub ChecksOnly : Field → ℕ → ℕ → Type 0
+  abbrev ChecksOnly : Field → ℕ → ℕ → Type 0
   ChecksOnly f a m = (i : ℕ) → i < m → L .class i ≡ a → holdsData L i ≡ true → f i ≡ 0
 
   module _ (f : Field) (a : ℕ) where
@@ -104,7 +104,7 @@ module _ (L : Layout) where
         go (no p) q b h = ap (λ (x : ℕ). x / 2 ^ k % 2) (other-suc m (λ r. absurd (p r)))
 
     -- so each bit of the syndrome of the checks is the check cell at its position
-    pub check-bit : (m j k : ℕ) → ChecksOnly f a m → f j ≤ 1 → j < m → L .class j ≡ a → 2 ^ k ≡ position L j
+    check-bit : (m j k : ℕ) → ChecksOnly f a m → f j ≤ 1 → j < m → L .class j ≡ a → 2 ^ k ≡ position L j
         → syndromeTo L (tagsOf L) f a m / 2 ^ k % 2 ≡ f j
     check-bit zero j k o c l p e = absurd (not-suc-le-zero l)
     check-bit (suc m) j k o c l p e =

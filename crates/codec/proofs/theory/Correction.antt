@@ -98,7 +98,7 @@ module _ (L : Layout) (tag : Tags) (f : Field) where
       go (no e) = rw (corrected-kept i e) (p i l)
 
   -- a cell differs after correction exactly when its tag is the syndrome of its class
-  pub corrected-differs : (i : ℕ) → f i ≢ corrected L tag f i → syndrome L tag f (L .class i) ≡ tag i
+  corrected-differs : (i : ℕ) → f i ≢ corrected L tag f i → syndrome L tag f (L .class i) ≡ tag i
   corrected-differs i d = go (ℕ-discrete (syndrome L tag f (L .class i)) (tag i))
     where
       go : Dec (syndrome L tag f (L .class i) ≡ tag i) → syndrome L tag f (L .class i) ≡ tag i
@@ -117,7 +117,7 @@ module _ {L : Layout} {tag : Tags} (tells : Tells L tag) (f : Field) where
       (sym (corrected-differs L tag f i d) ∙ ap (syndrome L tag f) (p ∙ sym q) ∙ corrected-differs L tag f j e)
 
   -- a class that is a codeword is kept
-  pub codeword-kept : (a : ℕ) → Codeword L tag f a → (i : ℕ) → i < L .cells → L .class i ≡ a → corrected L tag f i ≡ f i
+  codeword-kept : (a : ℕ) → Codeword L tag f a → (i : ℕ) → i < L .cells → L .class i ≡ a → corrected L tag f i ≡ f i
   unfolding Codeword
   codeword-kept a z i l p = corrected-kept L tag f i (λ e. tells .some i l (sym e ∙ ap (syndrome L tag f) p ∙ z))
 
@@ -134,7 +134,7 @@ module _ {L : Layout} {tag : Tags} (tells : Tells L tag) (f : Field) where
           (differs-corrected L tag f (s .0) (cell-most _ (p (s .0) (s .1))) e)
           ∙ xor-equal (syndrome L tag f a) (tag (s .0)) (sym (s .3))
 
-  pub corrected-lawful : Cells f (L .cells) → ((a : ℕ) → inReach L tag f a ≡ true) → Lawful L tag (corrected L tag f)
+  corrected-lawful : Cells f (L .cells) → ((a : ℕ) → inReach L tag f a ≡ true) → Lawful L tag (corrected L tag f)
   corrected-lawful p r = record { cells = corrected-cells L tag f p; classes = λ a. corrected-codeword p a (r a) }
 
   pub corrected-nearest : Cells f (L .cells) → ((a : ℕ) → inReach L tag f a ≡ true) → Nearest L tag f (corrected L tag f)
@@ -197,7 +197,7 @@ module _ {L : Layout} {tag : Tags} (tells : Tells L tag) (f : Field) (p : Cells 
   nearest-reach g h a = near-reach tells f g a p (h .lawful .cells) (h .near a) (h .lawful .classes a)
 
 -- a lawful field is its own nearest
-pub near-self : (L : Layout) (f : Field) (a : ℕ) → Near L f f a
+near-self : (L : Layout) (f : Field) (a : ℕ) → Near L f f a
 unfolding Near
 near-self L f a i j l m c d e k = absurd (e refl)
 
@@ -206,7 +206,7 @@ lawful-nearest {L = L} f h = record { lawful = h; near = near-self L f }
 
 -- fields that agree on the cells are lawful alike
 module _ (L : Layout) (tag : Tags) (f g : Field) (s : Same f g (L .cells)) where
-  pub codeword-same : (a : ℕ) → Codeword L tag f a → Codeword L tag g a
+  codeword-same : (a : ℕ) → Codeword L tag f a → Codeword L tag g a
   unfolding Codeword
   codeword-same a z = sym (syndrome-same L tag f g a (L .cells) (λ i l c. s i l)) ∙ z
 
@@ -214,7 +214,7 @@ module _ (L : Layout) (tag : Tags) (f g : Field) (s : Same f g (L .cells)) where
   lawful-same h = record { cells = cells-same f g (L .cells) s (h .cells); classes = λ a. codeword-same a (h .classes a) }
 
 -- and have the same fields near them
-pub near-same : (L : Layout) (f g h k : Field) → Same f g (L .cells) → Same h k (L .cells) → (a : ℕ) → Near L f h a → Near L g k a
+near-same : (L : Layout) (f g h k : Field) → Same f g (L .cells) → Same h k (L .cells) → (a : ℕ) → Near L f h a → Near L g k a
 unfolding Near
 near-same L f g h k s t a p i j l m c d x y =
     p i j l m c d (λ z. x (sym (s i l) ∙ z ∙ t i l)) (λ z. y (sym (s j m) ∙ z ∙ t j m))

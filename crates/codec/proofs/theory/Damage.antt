@@ -11,11 +11,11 @@ use Rattle.codec.proofs.theory.CellValues.{most-cell}
 use Rattle.lattice.specs.Position.{Layout}
 
 module _ (f : Field) (selected : ℕ → Bool) where
-  pub damaged-flipped : (i : ℕ) → selected i ≡ true → damaged f selected i ≡ flip (f i)
+  damaged-flipped : (i : ℕ) → selected i ≡ true → damaged f selected i ≡ flip (f i)
   unfolding damaged
   damaged-flipped i e = rw e
 
-  pub damaged-kept : (i : ℕ) → selected i ≡ false → damaged f selected i ≡ f i
+  damaged-kept : (i : ℕ) → selected i ≡ false → damaged f selected i ≡ f i
   unfolding damaged
   damaged-kept i e = rw e
 
@@ -27,7 +27,7 @@ module _ (f : Field) (selected : ℕ → Bool) where
       go false e = rw (damaged-kept i e) (p i l)
 
   -- a cell that differs was selected
-  pub damaged-selected : (i : ℕ) → damaged f selected i ≢ f i → selected i ≡ true
+  damaged-selected : (i : ℕ) → damaged f selected i ≢ f i → selected i ≡ true
   damaged-selected i d = go (selected i) refl
     where
       go : (b : Bool) → selected i ≡ b → selected i ≡ true
@@ -40,7 +40,7 @@ OneEach L selected =
     (i j : ℕ) → i < L .cells → j < L .cells → selected i ≡ true → selected j ≡ true → L .class i ≡ L .class j → i ≡ j
 
 module _ (L : Layout) (tag : Tags) (f : Field) (selected : ℕ → Bool) (one : OneEach L selected) where
-  pub damaged-near : (a : ℕ) → Near L (damaged f selected) f a
+  damaged-near : (a : ℕ) → Near L (damaged f selected) f a
   unfolding Near
   damaged-near a i j l m c d x y =
       one i j l m (damaged-selected f selected i x) (damaged-selected f selected j y) (c ∙ sym d)

@@ -3,18 +3,13 @@ use Prim.Native.Nat.{ℕ}
 use mathlib.Core.Bool.{not}
 use mathlib.Core.Path.{_≡_, refl, sym, ap, ap₂, _∙_}
 use native.Mathlib.Decide.{ℕ-discrete}
-use lib.Dec.{eqb}
 use borrow.Author.Tests.{eq-eqb, ne-eqb}
+use lib.Dec.{eqb}
+use Rattle.lattice.specs.Position.{Layout}
 use Rattle.lattice.proofs.theory.Counting.{count-same, count-none}
 use Rattle.codec.specs.Field.{Field, Cells, Same, differences}
 use Rattle.codec.specs.Hamming.{Tags, Tells, Nearest, corrected}
 use Rattle.codec.proofs.theory.Correction.{nearest-corrected}
-use Rattle.lattice.specs.Position.{Layout}
-
--- no cells, no differences
-pub differences-none : (f g : Field) → differences f g 0 ≡ 0
-unfolding differences
-differences-none f g = refl
 
 -- the number of differences depends on the cells alone, and not on the fields' order
 pub differences-same : (f g h k : Field) (n : ℕ) → Same f g n → Same h k n → differences f h n ≡ differences g k n

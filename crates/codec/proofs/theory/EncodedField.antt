@@ -23,7 +23,7 @@ module _ (L : Layout) (p : List ℕ) where
       (most-cell _ (omega arith))
 
   -- the value of a cell of the field written
-  pub encoded-data : (i : ℕ) → holdsData L i ≡ true → encoded L p i ≡ dataValue (payloadBytes L) p (rank L i)
+  encoded-data : (i : ℕ) → holdsData L i ≡ true → encoded L p i ≡ dataValue (payloadBytes L) p (rank L i)
   unfolding encoded
   encoded-data i e = rw e
 
@@ -42,7 +42,7 @@ module _ (L : Layout) (p : List ℕ) where
       twice false v w z = refl
 
   -- every class of the field written is a codeword
-  pub encoded-codeword : (a : ℕ) → Codeword L (tagsOf L) (encoded L p) a
+  encoded-codeword : (a : ℕ) → Codeword L (tagsOf L) (encoded L p) a
   encoded-codeword a =
       checks-codeword
       L
@@ -65,7 +65,7 @@ module _ (L : Layout) (p : List ℕ) where
   encoded-carries i l e = encoded-data i e
 
 -- two lawful fields that agree on the data cells are the same
-pub lawful-unique : (L : Layout) (f g : Field) → Lawful L (tagsOf L) f → Lawful L (tagsOf L) g
+lawful-unique : (L : Layout) (f g : Field) → Lawful L (tagsOf L) f → Lawful L (tagsOf L) g
     → ((i : ℕ) → i < L .cells → holdsData L i ≡ true → f i ≡ g i) → Same f g (L .cells)
 lawful-unique L f g u v e i l = go (holdsData L i) refl
   where

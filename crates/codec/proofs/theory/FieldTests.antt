@@ -33,7 +33,7 @@ pub equal-decides : (a b : ℕ) → Decides (eqb a b) (a ≢ b)
 equal-decides a b = record { fails = eqb-false a b; passes = λ e other. other (eqb-true a b e) }
 
 -- the test of the cells of a field of the plan's length
-pub cells-decide : (s : Shape) (field : List ℕ) → length field ≡ cellsOf s
+cells-decide : (s : Shape) (field : List ℕ) → length field ≡ cellsOf s
     → Decides (cellsOk (fieldOf field) (cellsOf s)) (NotACell (fieldOf field) (length field))
 cells-decide s field long =
     record {

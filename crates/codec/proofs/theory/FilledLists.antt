@@ -6,10 +6,10 @@ use native.Mathlib.Decide.{decLt}
 use native.Mathlib.Nat.{add-zero, add-suc, le-of-eq}
 use native.Mathlib.Numerals.{add-one}
 use native.Mathlib.Omega.{arith}
-use lib.ListN.{length, getD, set, take, drop, length-append, length-drop, drop-of-length-le, List·getD-append}
-use lib.Seq.{drop-cons, set-at, take-at, drop-at, drop-drop, getD-append-add, getD-drop, ext-getD}
 use borrow.Rule.Slice.PartAt.{part-to-end}
 use borrow.Rule.Slice.PartMut.{putMid}
+use lib.ListN.{length, getD, set, take, drop, length-append, length-drop, drop-of-length-le, List·getD-append}
+use lib.Seq.{drop-cons, set-at, take-at, drop-at, drop-drop, getD-append-add, getD-drop, ext-getD}
 use Rattle.codec.specs.Field.{Field, listOf}
 use Rattle.codec.proofs.theory.FieldLists.{length-listOf, getD-listOf}
 
@@ -44,14 +44,6 @@ filled-cells f xs n ys long l own others =
         ∙ getD-drop n xs (j - n) 0
         ∙ ap (λ (k : ℕ). getD xs k 0) back)
 
--- the next cell is as it was
-pub filled-next : (f : Field) (xs : List ℕ) (n : ℕ) (ys : List ℕ) → ys ≡ listOf f n ++ drop n xs → getD ys n 0 ≡ getD xs n 0
-filled-next f xs n ys p =
-    ap₂ (λ (l : List ℕ) (k : ℕ). getD l k 0) p (sym (add-zero n) ∙ ap (λ (k : ℕ). k + 0) (sym (length-listOf f n)))
-    ∙ getD-append-add (listOf f n) (drop n xs) 0 0
-    ∙ getD-drop n xs 0 0
-    ∙ ap (λ (k : ℕ). getD xs k 0) (add-zero n)
-
 pub length-filled : (f : Field) (xs : List ℕ) (n : ℕ) (ys : List ℕ)
     → n ≤ length xs
     → ys ≡ listOf f n ++ drop n xs
@@ -62,7 +54,7 @@ length-filled f xs n ys l p =
     ∙ omega (arith, length-listOf f n, length-drop n xs)
 
 -- the cells of a field from cell k on, behind those before it
-pub listOf-join : (f g : Field) (k n : ℕ) → ((j : ℕ) → g j ≡ f (k + j)) → listOf f k ++ listOf g n ≡ listOf f (k + n)
+listOf-join : (f g : Field) (k n : ℕ) → ((j : ℕ) → g j ≡ f (k + j)) → listOf f k ++ listOf g n ≡ listOf f (k + n)
 listOf-join f g k zero p = append-nil (listOf f k) ∙ ap (listOf f) (sym (add-zero k))
 listOf-join f g k (suc n) p =
     sym (append-assoc (listOf f k) (listOf g n) (g n ∷ []))

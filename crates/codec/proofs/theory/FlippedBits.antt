@@ -79,7 +79,7 @@ module _ (L : Layout) where
   bits-same f g l s h = record { at = λ i p q r. h .at i p q r ∙ s i p }
 
   -- the bit of a data cell is flipped with it; a check has none
-  pub bits-flipped : (f : Field) (l after : List ℕ) (c : ℕ) → c < L .cells → holdsData L c ≡ true → length after ≡ length l
+  bits-flipped : (f : Field) (l after : List ℕ) (c : ℕ) → c < L .cells → holdsData L c ≡ true → length after ≡ length l
       → BitFlipped l after (rank L c) → HoldsBits L f l → HoldsBits L (flippedAt f c) after
   bits-flipped f l after c p held long flipped h = record { at = λ i q d r. go i q d (omega arith) (ℕ-discrete i c) }
     where
@@ -105,7 +105,7 @@ module _ (L : Layout) where
           ∙ rw (ne-eqb (rank L i) (rank L c) (differ i q d n)) (h .at i q d r)
           ∙ sym (flipped-other f c i n)
 
-  pub bits-check : (f : Field) (l : List ℕ) (c : ℕ) → holdsData L c ≡ false → HoldsBits L f l → HoldsBits L (flippedAt f c) l
+  bits-check : (f : Field) (l : List ℕ) (c : ℕ) → holdsData L c ≡ false → HoldsBits L f l → HoldsBits L (flippedAt f c) l
   bits-check f l c held h =
       record {
         at = λ i p d r. h .at i p d r ∙ sym (flipped-other f c i (λ (e : i ≡ c). true≢false (sym d ∙ ap (holdsData L) e ∙ held)));

@@ -30,7 +30,7 @@ module _ (L : Layout) where
   unfolding heldPayload
   held-length f = length-listOf _ (payloadBytes L)
 
-  pub held-byte : (f : Field) (j : ℕ) → j < payloadBytes L → getD (heldPayload L f) j 0 ≡ heldByte L f j (L .cells)
+  held-byte : (f : Field) (j : ℕ) → j < payloadBytes L → getD (heldPayload L f) j 0 ≡ heldByte L f j (L .cells)
   unfolding heldPayload
   held-byte f j l = getD-listOf (λ j. heldByte L f j (L .cells)) (payloadBytes L) j l
 
@@ -39,7 +39,7 @@ module _ (L : Layout) where
   held-behind f j l = getD-listOf-behind _ (payloadBytes L) j l
 
   -- fields that agree on the data cells hold one payload
-  pub held-data : (f g : Field) → ((i : ℕ) → i < L .cells → holdsData L i ≡ true → f i ≡ g i) → heldPayload L f ≡ heldPayload L g
+  held-data : (f g : Field) → ((i : ℕ) → i < L .cells → holdsData L i ≡ true → f i ≡ g i) → heldPayload L f ≡ heldPayload L g
   unfolding heldPayload
   held-data f g s = listOf-same _ _ (payloadBytes L) (λ j l. byte-same L f g j (L .cells) s)
 

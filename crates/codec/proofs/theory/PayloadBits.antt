@@ -8,11 +8,11 @@ use borrow.Author.Tests.{lt-ltb, le-ltb}
 use lib.Dec.{ltb}
 use Rattle.codec.specs.Payload.{payloadBit, padding, dataValue}
 
-pub payload-bit-most : (p : List ℕ) (k : ℕ) → payloadBit p k ≤ 1
+payload-bit-most : (p : List ℕ) (k : ℕ) → payloadBit p k ≤ 1
 unfolding payloadBit
 payload-bit-most p k = omega arith
 
-pub padding-most : (j : ℕ) → padding j ≤ 1
+padding-most : (j : ℕ) → padding j ≤ 1
 unfolding padding
 padding-most j = zero-le
 

@@ -13,7 +13,7 @@ use Rattle.lattice.proofs.theorems.Capacity.{checksAreBitLength}
 use Rattle.lattice.proofs.theory.Positions.{position-some}
 
 -- the numbers that pass the test are 2 to the power of some k
-pub power-iff : (p : ℕ) → (isPower p ≡ true) ↔ ((k : ℕ) × (2 ^ k ≡ p))
+power-iff : (p : ℕ) → (isPower p ≡ true) ↔ ((k : ℕ) × (2 ^ k ≡ p))
 power-iff p = (exponent p, λ r. subst (λ (q : ℕ). isPower q ≡ true) (r .1) (power (r .0)))
 
 -- a class of n cells has checks at 2^0 .. 2^(c − 1), where c is `checks n`: n is below 2^c
@@ -21,7 +21,7 @@ pub below-checks : (n : ℕ) → n < 2 ^ checks n
 below-checks zero = pow-pos (checks 0)
 below-checks (suc n) = checksAreBitLength .some (suc n) (omega arith) .2
 
-pub check-fits : (n k : ℕ) → k < checks n → 2 ^ k ≤ n
+check-fits : (n k : ℕ) → k < checks n → 2 ^ k ≤ n
 check-fits zero k l = absurd (omega (arith, checksAreBitLength .none))
 check-fits (suc n) k l =
     let h = checksAreBitLength .some (suc n) (omega arith) in

@@ -25,11 +25,11 @@ module _ (L : Layout) where
   rank-zero = refl
 
   -- the rank goes up by one behind each data cell, and stays behind a check
-  pub rank-data : (i : ℕ) → holdsData L i ≡ true → rank L (i + 1) ≡ rank L i + 1
+  rank-data : (i : ℕ) → holdsData L i ≡ true → rank L (i + 1) ≡ rank L i + 1
   unfolding rank
   rank-data i e = count-yes (holdsData L) i e
 
-  pub rank-check : (i : ℕ) → holdsData L i ≡ false → rank L (i + 1) ≡ rank L i
+  rank-check : (i : ℕ) → holdsData L i ≡ false → rank L (i + 1) ≡ rank L i
   unfolding rank
   rank-check i e = count-no (holdsData L) i e
 

@@ -19,7 +19,7 @@ module _ {L : Layout} {tag : Tags} (tells : Tells L tag) (f : Field) (p : Cells 
   some-reach a e =
       (corrected L tag f, corrected-cells L tag f p, corrected-near tells f a, corrected-codeword tells f p a e)
 
-  pub none-reach : (a : ℕ) → inReach L tag f a ≡ false → (g : Field) → Cells g (L .cells) → Near L f g a → Codeword L tag g a → ⊥
+  none-reach : (a : ℕ) → inReach L tag f a ≡ false → (g : Field) → Cells g (L .cells) → Near L f g a → Codeword L tag g a → ⊥
   none-reach a e g q near word = true≢false (sym (near-reach tells f g a p q near word) ∙ e)
 
 -- the test of all classes below m passes exactly where that of each class does
@@ -33,12 +33,12 @@ module _ (L : Layout) (tag : Tags) (m : ℕ) (below : (i : ℕ) → i < L .cells
       go (no l) =
           means-reach L tag f a (inl (syndrome-empty L tag f a (L .cells) (λ i k c o. omega (arith, below i k))))
 
-  pub reach-all : ((a : ℕ) → inReach L tag f a ≡ true) → allInReach L tag m f ≡ true
+  reach-all : ((a : ℕ) → inReach L tag f a ≡ true) → allInReach L tag m f ≡ true
   unfolding allInReach
   reach-all p = all-below (inReach L tag f) m (λ a l. p a)
 
   -- where it fails, some class fails
-  pub not-all-reach : allInReach L tag m f ≡ false → (a : ℕ) × (a < m) × (inReach L tag f a ≡ false)
+  not-all-reach : allInReach L tag m f ≡ false → (a : ℕ) × (a < m) × (inReach L tag f a ≡ false)
   unfolding allInReach
   not-all-reach e = some-fails (inReach L tag f) m e
 

@@ -92,7 +92,7 @@ module _ (L : Layout) (tag : Tags) where
       ap₂ bitXor (syndrome-empty f a n (λ i l. p i (omega arith))) (term-other f a n (p n (le-refl _)))
 
   -- a class with one 1 cell has that cell's tag
-  pub syndrome-one : (f : Field) (a i n : ℕ) → i < n → L .class i ≡ a → f i ≡ 1
+  syndrome-one : (f : Field) (a i n : ℕ) → i < n → L .class i ≡ a → f i ≡ 1
       → ((j : ℕ) → j < n → L .class j ≡ a → f j ≡ 1 → j ≡ i) → syndromeTo L tag f a n ≡ tag i
   syndrome-one f a i zero l p q only = absurd (not-suc-le-zero l)
   syndrome-one f a i (suc n) l p q only =
@@ -135,7 +135,7 @@ module _ (L : Layout) (tag : Tags) where
       ∙ xor-exchange (syndromeTo L tag f a n) (syndromeTo L tag g a n) (term L tag f a n) (term L tag g a n)
 
   -- fields that differ in one cell of the class have syndromes that differ by its tag
-  pub syndrome-flipped : (f g : Field) (a i n : ℕ) → Cells f n → Cells g n → i < n → L .class i ≡ a → f i ≢ g i
+  syndrome-flipped : (f g : Field) (a i n : ℕ) → Cells f n → Cells g n → i < n → L .class i ≡ a → f i ≢ g i
       → ((j : ℕ) → j < n → L .class j ≡ a → f j ≢ g j → j ≡ i)
       → syndromeTo L tag g a n ≡ bitXor (syndromeTo L tag f a n) (tag i)
   syndrome-flipped f g a i n p q l c d only =

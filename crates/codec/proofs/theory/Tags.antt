@@ -39,7 +39,7 @@ module _ (L : Layout) where
         go (inl z) = omega arith
         go (inr r) = omega (arith, tag-most a (r .0) (r .1) (r .2), r .3)
 
-    pub size-reach : syndrome L (tagsOf L) f a ≤ size L a → inReach L (tagsOf L) f a ≡ true
+    size-reach : syndrome L (tagsOf L) f a ≤ size L a → inReach L (tagsOf L) f a ≡ true
     size-reach h = means-reach L (tagsOf L) f a (go (ℕ-discrete (syndrome L (tagsOf L) f a) 0))
       where
         go : Dec (syndrome L (tagsOf L) f a ≡ 0) → Reached L (tagsOf L) a (syndrome L (tagsOf L) f a)

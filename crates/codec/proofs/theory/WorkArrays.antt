@@ -10,7 +10,7 @@ use Rattle.lattice.proofs.theory.Limits.{legal}
 
 -- the cells of an accepted shape are at most 65,536
 module _ (s : Shape) (n : ℕ) (e : n ≡ cellsOf s) (i : ℕ) (l : i < n) where
-  pub cell-below : i < cellsOf s
+  cell-below : i < cellsOf s
   cell-below = rw (← e) l
 
   pub cell-limit : Accepted s → i < maxCells

@@ -36,7 +36,7 @@ among-row m x w near = go (decLt x (w % m))
         rw (le-ltb x (w % m) above) (omega (arith, all, among-before m x (w % m) rest near above))
 
 -- x is the first place with its remainder, and j rounds later j have been passed
-pub among-own : (m x j : ℕ) → x < m → among m x (x + j * m) ≡ j
+among-own : (m x j : ℕ) → x < m → among m x (x + j * m) ≡ j
 among-own m x j near =
     omega (
       arith,

@@ -30,7 +30,7 @@ power-above (suc j) = go (decLt j 6) (decLt j 7) (power-above j)
     go (no l) (no r) before = let h : 7 ≤ j = omega arith in omega (arith, pow-mono h)
 
 -- a class's checks, by its size
-pub checks-below : (k : ℕ) → 128 * checks k ≤ 896 + k
+checks-below : (k : ℕ) → 128 * checks k ≤ 896 + k
 unfolding checks
 checks-below zero = omega arith
 checks-below (suc k) =
@@ -43,20 +43,20 @@ twice false = refl
 
 module _ (L : Layout) (m n : ℕ) (below : (i : ℕ) → i < n → L .class i < m) where
   -- the checks of the first n cells, class by class
-  pub checks-by-class : checksTo L n ≡ sumBelow (λ a. checks (sizeTo L a n)) m
+  checks-by-class : checksTo L n ≡ sumBelow (λ a. checks (sizeTo L a n)) m
   unfolding checksTo holdsData checks isCheck
   checks-by-class =
       count-same _ _ n (λ i l. sym (twice (isCheck (size L (L .class i)) (position L i))))
       ∙ sym (by-class L (λ a p. isCheck (size L a) p) m n below)
 
   -- the first n cells are those of the classes
-  pub cells-by-class : sumBelow (λ a. sizeTo L a n) m ≡ n
+  cells-by-class : sumBelow (λ a. sizeTo L a n) m ≡ n
   cells-by-class =
       sum-same _ _ m (λ a l. sym (count-all (λ p. true) (sizeTo L a n) (λ i r. refl)))
       ∙ by-class L (λ a p. true) m n below
       ∙ count-all (λ i. true) n (λ i l. refl)
 
-  pub checks-few-in : 128 * checksTo L n ≤ 896 * m + n
+  checks-few-in : 128 * checksTo L n ≤ 896 * m + n
   checks-few-in = omega (arith, checks-by-class, cells-by-class, go m)
     where
       go : (k : ℕ) → 128 * sumBelow (λ a. checks (sizeTo L a n)) k ≤ 896 * k + sumBelow (λ a. sizeTo L a n) k

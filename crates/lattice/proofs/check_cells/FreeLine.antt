@@ -60,7 +60,7 @@ ahead-after m start w (suc n) gains counts counts' some gain own more none a k l
 module _ (L : Layout) (m start n w : ℕ) (some : 0 < m) (first : start < m)
     (line : (x : ℕ) → x < w → L .class (n + x) ≡ (start + x) % m) where
   -- a class gains what the stretch has of its remainder
-  pub line-gain : (a : ℕ) → a < m → sizeTo L a (n + w) ≡ sizeTo L a n + among m (a + (m - start)) w
+  line-gain : (a : ℕ) → a < m → sizeTo L a (n + w) ≡ sizeTo L a n + among m (a + (m - start)) w
   line-gain a l =
       let there : a + (m - start) + start ≡ a + m = omega arith in
       let own : a % m + 0 ≡ a = add-zero (a % m) ∙ mod-eq-of-lt l in
@@ -73,7 +73,7 @@ module _ (L : Layout) (m start n w : ℕ) (some : 0 < m) (first : start < m)
       )
 
   -- a number that is no class below m gains nothing
-  pub line-outside : (a : ℕ) → m ≤ a → sizeTo L a (n + w) ≡ sizeTo L a n
+  line-outside : (a : ℕ) → m ≤ a → sizeTo L a (n + w) ≡ sizeTo L a n
   unfolding sizeTo
   line-outside a l =
       omega (
@@ -84,7 +84,7 @@ module _ (L : Layout) (m start n w : ℕ) (some : 0 < m) (first : start < m)
       )
 
   -- the counts after the line, by the list of gains
-  pub line-counts : (gains counts counts' : List ℕ) → Gains m w (2 * m) gains → HoldsSizes L counts n
+  line-counts : (gains counts counts' : List ℕ) → Gains m w (2 * m) gains → HoldsSizes L counts n
       → ((a : ℕ) → a < m → getD counts' a 0 ≡ getD counts a 0 + getD gains (a + (m - start)) 0)
       → ((a : ℕ) → m ≤ a → getD counts' a 0 ≡ getD counts a 0) → HoldsSizes L counts' (n + w)
   unfolding Gains
@@ -96,7 +96,7 @@ module _ (L : Layout) (m start n w : ℕ) (some : 0 < m) (first : start < m)
       go a l (no p) = omega (arith, others a (omega arith), counted .at a l, line-outside a (omega arith))
 
   -- where no power of two is near the counts, no cell of the line holds a check
-  pub line-free : (counts : List ℕ) → m ≤ maxClasses → HoldsSizes L counts n → NoPowerNear m (w / m + 1) counts
+  line-free : (counts : List ℕ) → m ≤ maxClasses → HoldsSizes L counts n → NoPowerNear m (w / m + 1) counts
       → (x : ℕ) → x < w → holdsData L (n + x) ≡ true
   unfolding holdsData isCheck position
   line-free counts few counted none x l =

@@ -56,7 +56,7 @@ module _ (s : Shape) (ok : Accepted s) (pass : Pass) (same : pass ≡ passOf s) 
     begins = ap (λ (w : ℕ). l * w) (sym (columns-are s ok pass same))
 
     -- the cells of the line are the field's
-    pub line-inside : l * pass .columns + pass .columns ≤ cellsOf s
+    line-inside : l * pass .columns + pass .columns ≤ cellsOf s
     line-inside =
         omega (arith, begins, columns-are s ok pass same, line-room s l (omega (arith, lines-are s ok pass same)))
 

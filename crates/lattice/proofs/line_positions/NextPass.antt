@@ -19,7 +19,7 @@ use Rattle.lattice.proofs.theory.Remainder.{minus-below}
 use Rattle.lattice.proofs.theory.Starts.{minus-mod, start-row, start-turns}
 
 -- what is stored in the list by a step
-abbrev pub PositionsStored : ℕ → ℕ → ℕ → ℕ → List ℕ → List ℕ → List ℕ → Type 0
+abbrev PositionsStored : ℕ → ℕ → ℕ → ℕ → List ℕ → List ℕ → List ℕ → Type 0
 PositionsStored m start back next e p f =
     next ≤ m → length e + m ≤ length p → (y : ℕ) → y < length e
     → getD f y 0 ≡ (getD e y 0 + getD p (y + (m - next)) 0 + (65536 - round start back)) % 65536

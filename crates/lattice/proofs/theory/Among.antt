@@ -1,17 +1,17 @@
 -- How many of the places below n have the remainder of y: laws with no division.
-use Prim.Native.Nat.{ℕ, zero, suc, _+_, _-_, _*_, _%_, _<_, _≤_}
+use Prim.Native.Nat.{ℕ, zero, suc, _+_, _*_, _%_, _<_, _≤_}
 use mathlib.Core.Bool.{Bool, cond}
 use mathlib.Core.Path.{_≡_, refl, sym, ap, _∙_}
 use native.Mathlib.Decide.{ℕ-discrete}
 use native.Mathlib.Nat.{add-comm, add-mod-right, mod-eq-of-lt, mod-mod, mod-lt, le-refl}
 use native.Mathlib.Numerals.{unary-clauses}
 use native.Mathlib.Omega.{arith}
-use lib.Dec.{eqb}
 use borrow.Author.Tests.{eq-eqb, ne-eqb}
+use lib.Dec.{eqb}
 use Rattle.lattice.specs.Counting.{count}
+use Rattle.lattice.specs.Lines.{among}
 use Rattle.lattice.proofs.theory.Counting.{count-same, count-none, count-mono}
 use Rattle.lattice.proofs.theory.Remainder.{add-same, cancel-same}
-use Rattle.lattice.specs.Lines.{among}
 
 -- two tests of equality that mean the same
 pub same-test : (a b c d : ℕ) → (a ≡ b → c ≡ d) → (c ≡ d → a ≡ b) → eqb a b ≡ eqb c d
@@ -35,7 +35,7 @@ module _ (m : ℕ) where
   among-none y = refl
 
   -- the place itself matters only by its remainder
-  pub among-same : (y z n : ℕ) → y % m ≡ z % m → among m y n ≡ among m z n
+  among-same : (y z n : ℕ) → y % m ≡ z % m → among m y n ≡ among m z n
   unfolding among
   among-same y z n e = ap (λ (r : ℕ). count (λ x. eqb (x % m) r) n) e
 

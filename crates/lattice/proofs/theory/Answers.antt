@@ -62,7 +62,7 @@ pub kept-reason : {t : Tested} {r : Refusal} (q : Refusal) → t ≡ test.Refuse
 kept-reason q p other e = other (p ∙ ap test.Refused e)
 
 -- an earlier refusal stands, and where there is none the later tests give the number
-pub earlier : (n later : ℕ) → (n ≡ 0 → ⊥) → orElse n later ≡ n
+earlier : (n later : ℕ) → (n ≡ 0 → ⊥) → orElse n later ≡ n
 earlier zero later some = absurd (some refl)
 earlier (suc k) later some = refl
 

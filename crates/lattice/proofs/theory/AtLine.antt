@@ -69,7 +69,7 @@ module _ (s : Shape) (a : Accepted s) (two : 2 ≤ settingsOf s .m) where
       count-none (λ i. eqb (classAt s i) c) n
       (λ i r. ne-eqb (classAt s i) c (λ (q : classAt s i ≡ c). omega (arith, class-below s a (cellAt s i))))
 
-  pub few-cells : (c l : ℕ) → l < s .rows * s .planes → sizeTo (layoutOf s) c (l * s .columns + s .columns) ≤ 61000
+  few-cells : (c l : ℕ) → l < s .rows * s .planes → sizeTo (layoutOf s) c (l * s .columns + s .columns) ≤ 61000
   few-cells c l p = go (decLt c (settingsOf s .m))
     where
       g : Legal s
@@ -109,14 +109,14 @@ line-room s l p =
     )
 
 -- what is stored in 16 bits is the sum, where it stays there
-pub within-bits : (v r : ℕ) → r ≤ v → v < 65536 → r ≤ 1 → (v + (65536 - r)) % 65536 + r ≡ v
+within-bits : (v r : ℕ) → r ≤ v → v < 65536 → r ≤ 1 → (v + (65536 - r)) % 65536 + r ≡ v
 within-bits v r low high one = omega arith
 
 module _ (s : Shape) (a : Accepted s) (l : ℕ) (x : Line) (e : List ℕ) (at : AtLine s l x e) where
   some : 0 < settingsOf s .m
   some = settings-some s a
 
-  pub at-below : x .start < settingsOf s .m
+  at-below : x .start < settingsOf s .m
   at-below = rw (at .line .start) (start-below (settingsOf s) (s .rows) some l)
 
   pub at-room : x .start + s .columns ≤ length e

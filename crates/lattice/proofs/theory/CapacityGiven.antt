@@ -27,7 +27,7 @@ classes-given s = go (ℕ-discrete (shapeNumber s) 0)
     go (no r) = rw (beside-other (shapeNumber s) (classesOf s) 0 r) zero-le
 
 -- where the table has the sizes of m classes, and every cell is of one of them, their data cells add up to the capacity
-pub capacity-held : (L : Layout) (m : ℕ) (xs : List ℕ) → ((i : ℕ) → i < L .cells → L .class i < m)
+capacity-held : (L : Layout) (m : ℕ) (xs : List ℕ) → ((i : ℕ) → i < L .cells → L .class i < m)
     → ((a : ℕ) → a < m → getD xs a 0 ≡ size L a) → dataIn xs m ≡ capacity L
 unfolding dataIn
 capacity-held L m xs below p = sum-same _ _ m (λ a l. ap dataCells (p a l)) ∙ sym (capacity-by-class L m below)

@@ -14,7 +14,7 @@ use Rattle.lattice.proofs.theory.Answers.{beside-zero}
 use Rattle.lattice.proofs.theory.SettingsLaws.{given-accepted}
 
 -- the cell with a byte number, from its line: the row and the plane together
-pub cell-at : (s : Shape) (i line row plane column : ℕ) → line ≡ i / s .columns → row ≡ line % s .rows → plane ≡ line / s .rows
+cell-at : (s : Shape) (i line row plane column : ℕ) → line ≡ i / s .columns → row ≡ line % s .rows → plane ≡ line / s .rows
     → column ≡ i % s .columns → cell row plane column ≡ cellAt s i
 unfolding cellAt
 cell-at s i line row plane column l r p c = rw (r, p, c, l)

@@ -21,7 +21,7 @@ unfolding classWith minusMod
 class-none k x e = simp (e, mod-zero, zero-sub, add-zero)
 
 -- with m of at least 1 the class is below m
-pub class-with-below : (k : Settings) (x : Cell) → 1 ≤ k .m → classWith k x < k .m
+class-with-below : (k : Settings) (x : Cell) → 1 ≤ k .m → classWith k x < k .m
 unfolding classWith minusMod
 class-with-below k x p = mod-lt _ p
 

@@ -6,8 +6,8 @@ use mathlib.Core.Path.{_≡_, refl, sym, ap, ap₂, subst, _∙_}
 use native.Mathlib.Nat.{le-refl, le-of-suc-le-suc, eq-or-lt-of-le, not-suc-le-zero}
 use native.Mathlib.Numerals.{add-one}
 use native.Mathlib.Omega.{arith}
-use lib.Dec.{eqb}
 use borrow.Author.Tests.{eq-eqb, ne-eqb}
+use lib.Dec.{eqb}
 use Rattle.lattice.specs.Counting.{count, sumBelow}
 
 -- the last number below n + 1 is n
@@ -88,7 +88,7 @@ count-reach f (suc n) p l = go (f n) refl (count-reach f n p)
     go false e below = later (below (omega (arith, ap bit e)))
 
 -- sums
-pub sum-step : (f : ℕ → ℕ) (n : ℕ) → sumBelow f (n + 1) ≡ f n + sumBelow f n
+sum-step : (f : ℕ → ℕ) (n : ℕ) → sumBelow f (n + 1) ≡ f n + sumBelow f n
 sum-step f n = rw (add-one n)
 
 -- a running sum with its next term
@@ -106,10 +106,6 @@ sum-none f (suc n) p = omega (arith, p n (le-refl _), sum-none f n (λ i l. p i 
 pub sum-add : (f g : ℕ → ℕ) (n : ℕ) → sumBelow (λ i. f i + g i) n ≡ sumBelow f n + sumBelow g n
 sum-add f g zero = refl
 sum-add f g (suc n) = omega (arith, sum-add f g n)
-
-pub sum-mono : (f g : ℕ → ℕ) (n : ℕ) → ((i : ℕ) → i < n → f i ≤ g i) → sumBelow f n ≤ sumBelow g n
-sum-mono f g zero p = zero-le
-sum-mono f g (suc n) p = omega (arith, p n (le-refl _), sum-mono f g n (λ i l. p i (omega arith)))
 
 -- a sum with one term
 term-here : (g : ℕ → ℕ) (c i : ℕ) → c ≡ i → cond (eqb c i) (g i) 0 ≡ g c

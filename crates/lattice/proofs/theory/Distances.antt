@@ -59,10 +59,6 @@ distance-self x = omega (arith, apart-self (x .row), apart-self (x .plane), apar
 pub distance-eq : {x y : Cell} → x ≡ y → distance x y ≡ 0
 distance-eq {x} {y} e = ap (distance x) (sym e) ∙ distance-self x
 
-pub distance-sym : (x y : Cell) → distance x y ≡ distance y x
-unfolding distance
-distance-sym x y = omega (arith, apart-sym (x .row) (y .row), apart-sym (x .plane) (y .plane), apart-sym (x .column) (y .column))
-
 pub distance-triangle : (x y z : Cell) → distance x z ≤ distance x y + distance y z
 unfolding distance
 distance-triangle x y z =
@@ -73,7 +69,7 @@ distance-triangle x y z =
       apart-triangle (x .column) (y .column) (z .column),
     )
 
-pub cell-path : (x y : Cell) → x .row ≡ y .row → x .plane ≡ y .plane → x .column ≡ y .column → x ≡ y
+cell-path : (x y : Cell) → x .row ≡ y .row → x .plane ≡ y .plane → x .column ≡ y .column → x ≡ y
 cell-path x y r p c = λ i. record { row = r i; plane = p i; column = c i }
 
 pub joined-sym : {x y : Cell} → Joined x y → Joined y x

@@ -23,7 +23,7 @@ module _ (m : ℕ) where
   among-step y n = count-step (λ z. eqb (z % m) (y % m)) n
 
   -- the places from s on with the remainder of a, and the places back from a with the remainder of s
-  pub among-back : (a s x : ℕ) → x ≤ a + 1 + m
+  among-back : (a s x : ℕ) → x ≤ a + 1 + m
       → among m a (s + x) + among m s (a + 1 + m - x) ≡ among m a s + among m s (a + 1 + m)
   among-back a s zero l =
       let left : s + 0 ≡ s = omega arith in

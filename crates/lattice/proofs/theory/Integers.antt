@@ -24,7 +24,7 @@ cond-ind true x y P f g = f tt
 cond-ind false x y P f g = g tt
 
 -- a − b is the integer z with a + down z = b + up z
-pub sub-parts : (a b : ℕ) → a + down (subℕ a b) ≡ b + up (subℕ a b)
+sub-parts : (a b : ℕ) → a + down (subℕ a b) ≡ b + up (subℕ a b)
 sub-parts a b =
     cond-ind (ltb a b) (negsuc (b - suc a)) (pos (a - b)) (λ z. a + down z ≡ b + up z)
     (λ t. let h : a < b = ltb→lt a b t in omega arith)
@@ -89,7 +89,7 @@ mul-parts (negsuc m) (pos n) = omega (arith, up-neg (pos (suc m * n)), down-neg 
 mul-parts (negsuc m) (negsuc n) = omega arith
 
 -- (a − b)(c − d) = (ac + bd) − (ad + bc)
-pub sub-mul : (a b c d : ℕ) → subℕ a b *ℤ subℕ c d ≡ subℕ (a * c + b * d) (a * d + b * c)
+sub-mul : (a b c d : ℕ) → subℕ a b *ℤ subℕ c d ≡ subℕ (a * c + b * d) (a * d + b * c)
 sub-mul a b c d =
     sym
     (sub-is (a * c + b * d) (a * d + b * c) (z *ℤ w)
@@ -137,10 +137,10 @@ natAbs-mul (negsuc m) (pos n) = natAbs-neg (pos (suc m * n))
 natAbs-mul (negsuc m) (negsuc n) = refl
 
 -- adding x keeps the remainder by m exactly when m divides x
-pub mod-more : (m a x : ℕ) → x % m ≡ 0 → (a + x) % m ≡ a % m
+mod-more : (m a x : ℕ) → x % m ≡ 0 → (a + x) % m ≡ a % m
 mod-more m a x e = sym (add-mod-mod a x m) ∙ ap (λ y. (a + y) % m) e ∙ ap (λ y. y % m) (add-zero a)
 
-pub mod-less : (m a x : ℕ) → (a + x) % m ≡ a % m → x % m ≡ 0
+mod-less : (m a x : ℕ) → (a + x) % m ≡ a % m → x % m ≡ 0
 mod-less m a x e = ap (λ y. y % m) quotients ∙ mul-mod-right m ((a + x) / m - a / m)
   where
     quotients : x ≡ m * ((a + x) / m - a / m)
@@ -166,7 +166,7 @@ divides-sub m a b = rw natAbs-sub (go (decLe a b))
         )
 
 -- z is a multiple of m exactly when m divides its absolute value
-pub multiple-divides : (m : ℕ) (z : ℤ) → Multiple m z ↔ (natAbs z % m ≡ 0)
+multiple-divides : (m : ℕ) (z : ℤ) → Multiple m z ↔ (natAbs z % m ≡ 0)
 multiple-divides m z = (
   (λ d. ap (λ y. natAbs y % m) (d .1)
       ∙ ap (λ y. y % m) (natAbs-mul (d .0) (pos m))

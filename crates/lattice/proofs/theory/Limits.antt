@@ -80,11 +80,11 @@ module _ (s : Shape) where
   unfolding shapeNumber
   number-accepted p q = rw (p, q)
 
-  pub size-held : Accepted s → sizeOk (s .columns) (s .rows) (s .planes) ≡ true
+  size-held : Accepted s → sizeOk (s .columns) (s .rows) (s .planes) ≡ true
   unfolding shapeNumber
   size-held p = unless-zero (sizeOk (s .columns) (s .rows) (s .planes)) 0 _ p .0
 
-  pub strength-held : Accepted s → strengthOk (s .planes) (s .strength) ≡ true
+  strength-held : Accepted s → strengthOk (s .planes) (s .strength) ≡ true
   unfolding shapeNumber
   strength-held p =
       unless-zero (strengthOk (s .planes) (s .strength)) 1 0 (unless-zero (sizeOk (s .columns) (s .rows) (s .planes)) 0 _ p .1) .0
@@ -137,7 +137,7 @@ legal s p =
 
 module _ (s : Shape) (p : Accepted s) where
   -- an accepted flat strength is at most 32, and an accepted stack strength at most 8
-  pub strength-flat : s .planes ≡ 1 → s .strength ≤ maxFlatStrength
+  strength-flat : s .planes ≡ 1 → s .strength ≤ maxFlatStrength
   strength-flat e = rw (max-flat (s .planes) e) at (legal s p .strength-high)
 
   pub strength-stack : (s .planes ≡ 1 → ⊥) → s .strength ≤ maxStackStrength

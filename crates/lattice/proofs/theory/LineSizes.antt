@@ -1,13 +1,13 @@
 -- Sizes of classes and positions by lines, for any layout by lines.
-use Prim.Native.Nat.{ℕ, _+_, _-_, _%_, _<_, _≤_}
+use Prim.Native.Nat.{ℕ, _+_, _%_, _<_, _≤_}
 use mathlib.Core.List.{List}
 use mathlib.Core.Path.{_≡_, ap, _∙_}
 use native.Mathlib.Omega.{arith}
 use lib.Dec.{eqb}
 use lib.ListN.{getD}
 use Rattle.lattice.specs.Position.{Layout, sizeTo, position}
-use Rattle.lattice.proofs.theory.Counting.{count-same}
 use Rattle.lattice.specs.Lines.{HasPeriod, among, Positions}
+use Rattle.lattice.proofs.theory.Counting.{count-same}
 use Rattle.lattice.proofs.theory.Among.{same-test, count-from}
 
 -- a line of w cells that begins at cell n, at `start` in the table and with the offset `off`

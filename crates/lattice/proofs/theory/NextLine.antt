@@ -18,15 +18,15 @@ use Rattle.lattice.proofs.theory.SettingsLaws.{classes-some}
 use Rattle.lattice.proofs.theory.Starts.{minus-mod, row-next, plane-row, start-below, start-first, start-row, start-turns}
 
 -- the first line
-pub line-first : (k : Settings) (h : ℕ) → 0 < k .m → IsLine k h 0 (record { left = h - 1; start = 0 })
+line-first : (k : Settings) (h : ℕ) → 0 < k .m → IsLine k h 0 (record { left = h - 1; start = 0 })
 line-first k h some = record { left = omega (arith, zero-mod h); start = sym (start-first k h some) }
 
 module _ (k : Settings) (h l : ℕ) (x : Line) (some : 0 < k .m) (some-row : 0 < h) (is : IsLine k h l x) where
-  pub line-below : x .start < k .m
+  line-below : x .start < k .m
   line-below = omega (arith, is .start, start-below k h some l)
 
   -- where rows are left, the next begins b places back
-  pub line-on : 0 < x .left → (r : ℕ) → r ≡ minusMod (x .start) (k .b % k .m) (k .m)
+  line-on : 0 < x .left → (r : ℕ) → r ≡ minusMod (x .start) (k .b % k .m) (k .m)
       → IsLine k h (l + 1) (record { left = x .left - 1; start = r })
   line-on more r n =
       let in-plane : l % h + 1 < h = omega (arith, is .left) in
@@ -40,7 +40,7 @@ module _ (k : Settings) (h l : ℕ) (x : Line) (some : 0 < k .m) (some-row : 0 <
       }
 
   -- and else it is the next plane's first
-  pub line-over : x .left ≤ 0 → (r : ℕ) → r ≡ minusMod (x .start) (minusMod (k .c) (k .b * (h - 1)) (k .m)) (k .m)
+  line-over : x .left ≤ 0 → (r : ℕ) → r ≡ minusMod (x .start) (minusMod (k .c) (k .b * (h - 1)) (k .m)) (k .m)
       → IsLine k h (l + 1) (record { left = h - 1; start = r })
   line-over none r n =
       let turn = minusMod (k .c) (k .b * (h - 1)) (k .m) in

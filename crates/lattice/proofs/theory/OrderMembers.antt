@@ -42,7 +42,7 @@ abbrev pub columnBlock : ℤ → ℤ → ℤ → List Triple
 columnBlock r p z = triple r p z ∷ []
 
 -- the triples of one plane: its columns run from −w to w
-pub from-plane : (x : Triple) (r p : ℤ) (w : ℕ) → List·Memᴰ x (columnsAt r p (span w))
+from-plane : (x : Triple) (r p : ℤ) (w : ℕ) → List·Memᴰ x (columnsAt r p (span w))
     → (x .row ≡ r) × (x .plane ≡ p) × (natAbs (x .column) ≤ w)
 from-plane x r p w m =
     let b = from-blocks (columnsAt r p) refl (columnBlock r p) (λ z zs. refl) x (negℤ (pos w)) (w + w + 1) m in
@@ -52,7 +52,7 @@ from-plane x r p w m =
       omega (arith, ap (λ (x : Triple). natAbs (x .column)) e, span-within w (b .0) (b .1)),
     )
 
-pub to-plane : (x : Triple) (r p : ℤ) (w : ℕ)
+to-plane : (x : Triple) (r p : ℤ) (w : ℕ)
     → x .row ≡ r
     → x .plane ≡ p
     → natAbs (x .column) ≤ w
@@ -77,14 +77,14 @@ to-planes x r low n m i h e f g =
     (to-plane x r (low +ℤ pos i) (n - natAbs (low +ℤ pos i)) e f (omega (arith, g, ap natAbs f)))
 
 -- the triples of one row: plane and column have an absolute sum of at most w
-pub from-row : (x : Triple) (r : ℤ) (w : ℕ)
+from-row : (x : Triple) (r : ℤ) (w : ℕ)
     → List·Memᴰ x (planesAt r w (span w))
     → (x .row ≡ r) × (natAbs (x .plane) + natAbs (x .column) ≤ w)
 from-row x r w k =
     let b = from-planes x r (negℤ (pos w)) w (w + w + 1) k in
     (b .2, omega (arith, b .4, ap natAbs (b .3), span-within w (b .0) (b .1)))
 
-pub to-row : (x : Triple) (r : ℤ) (w : ℕ)
+to-row : (x : Triple) (r : ℤ) (w : ℕ)
     → x .row ≡ r
     → natAbs (x .plane) + natAbs (x .column) ≤ w
     → List·Memᴰ x (planesAt r w (span w))

@@ -22,7 +22,7 @@ use Rattle.lattice.proofs.theory.Remainder.{minus-below}
 use Rattle.lattice.proofs.theory.SettingsLaws.{classes-some}
 
 -- x is in a range
-pub in-range : (low high x : ℕ) → low ≤ x → x ≤ high → inRange low high x ≡ true
+in-range : (low high x : ℕ) → low ≤ x → x ≤ high → inRange low high x ≡ true
 in-range low high x p q = range-above low high x p ∙ le-leb x high q
 
 -- a test that fails does not hold

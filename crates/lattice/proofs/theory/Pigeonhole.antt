@@ -15,7 +15,7 @@ use Rattle.lattice.proofs.theory.Distinct.{Distinct}
 use Rattle.lattice.specs.Labelling.{takes, differentValues}
 
 -- each entry of xs is a value of g at some entry of l
-abbrev pub Covered : {A : Type 0} → (A → ℕ) → List A → List ℕ → Type 0
+abbrev Covered : {A : Type 0} → (A → ℕ) → List A → List ℕ → Type 0
 Covered {A} g l xs = (x : ℕ) → List·Memᴰ x xs → (c : A) × List·Memᴰ c l × (x ≡ g c)
 
 module _ {A : Type 0} (g : A → ℕ) where
@@ -44,7 +44,7 @@ module _ {A : Type 0} (g : A → ℕ) where
       go rest (inr k′) = List·Memᴰ·tail (rest k′ h)
 
   -- Pairwise different numbers, each a value of g at some entry of a list, are at most as many as the list's entries.
-  pub covered-length : (xs : List ℕ) (l : List A) → Distinct xs → Covered g l xs → length xs ≤ length l
+  covered-length : (xs : List ℕ) (l : List A) → Distinct xs → Covered g l xs → length xs ≤ length l
   covered-length [] l d h = omega arith
   covered-length (x ∷ xs) l d h =
       let first = h x (List·Memᴰ·head refl) in

@@ -1,6 +1,6 @@
 -- Points of the endless stack by the parts of their coordinates: when two are one, how far they are apart, and the cells of a
 -- field among them.
-use Prim.Native.Nat.{ℕ, _+_, _-_}
+use Prim.Native.Nat.{ℕ, _+_}
 use mathlib.Core.Path.{_≡_, sym, _∙_, ap, ap₂}
 use native.Mathlib.Omega.{arith}
 use lib.IntN.{ℤ, pos, subℕ, natAbs, _-ℤ_}

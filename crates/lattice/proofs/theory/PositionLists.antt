@@ -21,7 +21,7 @@ use Rattle.lattice.proofs.theory.LineSizes.{line-size, line-next}
 use Rattle.lattice.proofs.theory.Starts.{back-above, back-below}
 
 -- a list that repeats itself after m places, with d more each time, is known from its first m places
-pub repeats-is : (m d wide : ℕ) (e : List ℕ) (f : ℕ → ℕ) → 0 < m → Repeats m d wide e → ((y : ℕ) → y < m → getD e y 0 ≡ f y)
+repeats-is : (m d wide : ℕ) (e : List ℕ) (f : ℕ → ℕ) → 0 < m → Repeats m d wide e → ((y : ℕ) → y < m → getD e y 0 ≡ f y)
     → ((y : ℕ) → f (y + m) ≡ f y + d) → (y : ℕ) → y < wide → getD e y 0 ≡ f y
 unfolding Repeats
 repeats-is m d wide e f some again low step y l = go (suc y) y (omega arith) l

@@ -1,13 +1,13 @@
 -- What the functions on lists of positions leave, put together.
-use Prim.Native.Nat.{ℕ, _+_, _-_, _/_, _%_, _<_, _≤_, zero-le}
+use Prim.Native.Nat.{ℕ, _+_, _/_, _%_, _<_, _≤_, zero-le}
 use mathlib.Core.Bool.{Bool, true, false, cond}
 use mathlib.Core.List.{List, _++_}
 use mathlib.Core.Path.{_≡_, sym, _∙_}
 use native.Mathlib.Nat.{mod-lt, div-add-mod', div-le-self}
 use native.Mathlib.Omega.{arith}
+use borrow.Author.Tests.{lt-ltb, le-ltb}
 use lib.Dec.{ltb}
 use lib.ListN.{length, getD, List·getD-append}
-use borrow.Author.Tests.{lt-ltb, le-ltb}
 use Rattle.lattice.specs.Position.{Layout}
 use Rattle.lattice.specs.Lines.{Positions, Repeats, Gains, round}
 use Rattle.lattice.proofs.theory.PositionLists.{first-line, gains}

@@ -33,7 +33,7 @@ below-any f (suc n) p =
     (or-cases (f n) (anyBelow f n) p)
 
 -- k is below 2 to the power of k
-pub below-power : (k : ℕ) → k < 2 ^ k
+below-power : (k : ℕ) → k < 2 ^ k
 below-power zero = omega arith
 below-power (suc k) = omega (arith, below-power k)
 
@@ -71,7 +71,7 @@ unfolding checks
 checks-most n = count-most (λ i. isPower (i + 1)) n
 
 -- no fewer up to a greater number
-pub checks-mono : (i n : ℕ) → i ≤ n → checks i ≤ checks n
+checks-mono : (i n : ℕ) → i ≤ n → checks i ≤ checks n
 unfolding checks
 checks-mono i n l = count-mono (λ k. isPower (k + 1)) i n l
 

@@ -18,7 +18,7 @@ use Rattle.lattice.specs.DistanceTest.{BadTestStrength, BadTestSettings,
 use Rattle.lattice.proofs.theory.Due.{Decides, Due, due-none, due-test, due-append}
 
 -- two tests one after the other decide that one of the two conditions holds
-pub both : {a b : Bool} {P Q : Type 0} → Decides a P → Decides b Q → Decides (a && b) (P ⊎ Q)
+both : {a b : Bool} {P Q : Type 0} → Decides a P → Decides b Q → Decides (a && b) (P ⊎ Q)
 both {a = true} p q =
     record { fails = λ e. inr (q .fails e); passes = λ e. ⊎-elim (p .passes refl) (q .passes e) }
 both {a = false} p q = record { fails = λ e. inl (p .fails refl); passes = λ e. λ c. false≢true e }
@@ -26,7 +26,7 @@ both {a = false} p q = record { fails = λ e. inl (p .fails refl); passes = λ e
 pub at-most : (a b : ℕ) → Decides (leb a b) (b < a)
 at-most a b = record { fails = leb-false a b; passes = λ e l. not-le-of-lt l (leb-true a b e) }
 
-pub less : (a b : ℕ) → Decides (ltb a b) (b ≤ a)
+less : (a b : ℕ) → Decides (ltb a b) (b ≤ a)
 less a b = record { fails = ltb-false a b; passes = λ e l. not-le-of-lt (ltb-true a b e) l }
 
 in-range : (low high x : ℕ) → Decides (inRange low high x) (Outside low high x)
@@ -34,20 +34,20 @@ unfolding inRange
 in-range low high x = both (at-most low x) (at-most x high)
 
 -- a disjunction may be bracketed to the right
-pub assoc : {a : Bool} {P Q R : Type 0} → Decides a ((P ⊎ Q) ⊎ R) → Decides a (P ⊎ (Q ⊎ R))
+assoc : {a : Bool} {P Q R : Type 0} → Decides a ((P ⊎ Q) ⊎ R) → Decides a (P ⊎ (Q ⊎ R))
 assoc d =
     record {
       fails = λ e. ⊎-elim (λ pq. ⊎-elim inl (λ q. inr (inl q)) pq) (λ r. inr (inr r)) (d .fails e);
       passes = λ e c. d .passes e (⊎-elim (λ p. inl (inl p)) (λ qr. ⊎-elim (λ q. inl (inr q)) inr qr) c);
     }
 
-pub size-decides : (w h d : ℕ) → Decides (sizeOk w h d) (BadSize w h d)
+size-decides : (w h d : ℕ) → Decides (sizeOk w h d) (BadSize w h d)
 unfolding sizeOk BadSize
 size-decides w h d =
     assoc (assoc (both (both (both (in-range 1 maxSide w) (in-range 1 maxSide h)) (in-range 1 maxPlanes d))
     (at-most (w * h * d) maxCells)))
 
-pub strength-decides : (d t : ℕ) → Decides (strengthOk d t) (BadStrength d t)
+strength-decides : (d t : ℕ) → Decides (strengthOk d t) (BadStrength d t)
 unfolding strengthOk BadStrength
 strength-decides d t = in-range 1 (maxStrength d) t
 

@@ -11,10 +11,10 @@ use Rattle.lattice.proofs.theory.Integers.{up, down, sub-of, sub-zero, 
 use Rattle.lattice.proofs.theory.Remainder.{add-same, cancel-same}
 
 -- what stands on the positive side of the residue, and on the negative
-abbrev pub gain : Settings → ℤ → ℤ → ℤ → ℕ
+abbrev gain : Settings → ℤ → ℤ → ℤ → ℕ
 gain k row plane column = up column + k .b * down row + k .c * down plane
 
-abbrev pub loss : Settings → ℤ → ℤ → ℤ → ℕ
+abbrev loss : Settings → ℤ → ℤ → ℤ → ℕ
 loss k row plane column = down column + k .b * up row + k .c * up plane
 
 -- the residue of coordinates that are differences of naturals

@@ -35,7 +35,7 @@ module _ (L : Layout) where
   checks-most i = count-most (λ i. not (holdsData L i)) i
 
   -- where no check is counted on the way, each cell holds data
-  pub free-between : (i e : ℕ) → checksTo L e ≤ checksTo L i → (x : ℕ) → i ≤ x → x < e → holdsData L x ≡ true
+  free-between : (i e : ℕ) → checksTo L e ≤ checksTo L i → (x : ℕ) → i ≤ x → x < e → holdsData L x ≡ true
   free-between i e none x p q = go (holdsData L x) refl
     where
       go : (b : Bool) → holdsData L x ≡ b → b ≡ true

@@ -7,7 +7,6 @@ use native.Mathlib.Nat.{sub-zero}
 use native.Mathlib.Numerals.{add-one}
 use native.Mathlib.Omega.{arith}
 use lib.IntN.{ℤ, pos, _+ℤ_, +ℤ-sucℤ, +ℤ-idr}
-use lib.ListN.{length}
 use Rattle.lattice.specs.declared.settings.Settings.{Settings}
 use Rattle.lattice.specs.declared.distance.Triple.{Triple}
 use Rattle.lattice.specs.Order.{triple, run}
@@ -21,7 +20,7 @@ pub tried-eq : (b : Bool) (x : Triple) (m n : ℕ) → m ≡ n
     → _≡_ {A = Scan} (record { found = b; triple = x; tried = m }) (record { found = b; triple = x; tried = n })
 tried-eq b x m n e = ap (λ (i : ℕ). record { found = b; triple = x; tried = i }) e
 
-pub after-after : (m n : ℕ) (s : Scan) → after m (after n s) ≡ after (n + m) s
+after-after : (m n : ℕ) (s : Scan) → after m (after n s) ≡ after (n + m) s
 after-after m n s = tried-eq (s .found) (s .triple) (s .tried + n + m) (s .tried + (n + m)) (omega arith)
 
 pub after-zero : (s : Scan) → after 0 s ≡ s
@@ -37,10 +36,6 @@ past-step : (b : Bool) (x : Triple) (s t u : Scan) → (s .found ≡ false → t
     → cond b (hit x 1) (after 1 s) .found ≡ false → cond b (hit x 1) (after 1 t) ≡ after (cond b (hit x 1) (after 1 s) .tried) u
 past-step true x s t u f h = cc
 past-step false x s t u f h = ap (after 1) (f h) ∙ after-after 1 (s .tried) u
-
-few-step : (b : Bool) (x : Triple) (s : Scan) (n : ℕ) → s .tried ≤ n → cond b (hit x 1) (after 1 s) .tried ≤ suc n
-few-step true x s n h = omega arith
-few-step false x s n h = omega arith
 
 module _ (k : Settings) where
   -- a triple that fails ends the scan, and one that does not is passed
@@ -58,11 +53,6 @@ module _ (k : Settings) where
   pub append-past : (xs ys : List Triple) → scan k xs .found ≡ false → scan k (xs ++ ys) ≡ after (scan k xs .tried) (scan k ys)
   append-past [] ys h = sym (after-zero (scan k ys))
   append-past (x ∷ xs) ys h = past-step (failsAt k x) x (scan k xs) (scan k (xs ++ ys)) (scan k ys) (append-past xs ys) h
-
-  -- no more triples are tried than the list has
-  pub scan-few : (xs : List Triple) → scan k xs .tried ≤ length xs
-  scan-few [] = omega arith
-  scan-few (x ∷ xs) = few-step (failsAt k x) x (scan k xs) (length xs) (scan-few xs)
 
   -- with n triples tried before: the scan of a first part that finds a triple is the whole scan, and else the rest follows
   module _ (n : ℕ) (xs ys : List Triple) (s : Scan) (e : s ≡ after n (scan k xs)) where

@@ -45,7 +45,7 @@ module _ (k : Settings) (at : List ℤ → List Triple) (none : at [] ≡ []) (f
 
 -- the integers from −w to w, where w is what |z| leaves of n, and each is read back from its bits
 module _ (n w : ℕ) (z x : ℤ) (hn : n < 32) (hz : natAbs z < limit) (e : w ≡ n - natAbs (read z)) (f : x ≡ negℤ (pos w)) where
-  pub width-is : w ≡ n - natAbs z
+  width-is : w ≡ n - natAbs z
   width-is = e ∙ ap (λ y. n - natAbs y) (read-back z hz)
 
   end-few : natAbs x < 32
@@ -54,7 +54,7 @@ module _ (n w : ℕ) (z x : ℤ) (hn : n < 32) (hz : natAbs z < limit) (e : w �
   pub end-near : natAbs (read x) < 64
   end-near = omega (arith, end-few, upright-size x (omega (arith, end-few)))
 
-  pub span-read : run (read x) (w + w + 1) ≡ span (n - natAbs z)
+  span-read : run (read x) (w + w + 1) ≡ span (n - natAbs z)
   span-read =
       ap (λ y. run y (w + w + 1)) (read-back x (omega (arith, end-few)) ∙ f)
       ∙ ap span width-is
@@ -103,7 +103,7 @@ planes-read k r first n count hr hf = rw (read-back r hr, read-back first hf)
 
 -- the columns of a row and a plane, one triple each
 module _ (k : Settings) (r p first : ℤ) (count i : ℕ) (h : i < count) where
-  pub columns-hit : failsAt k (triple r p (first +ℤ pos i)) ≡ true
+  columns-hit : failsAt k (triple r p (first +ℤ pos i)) ≡ true
       → after i (left k (columnsAt r p) first count i) ≡ hit (triple r p (first +ℤ pos i)) (i + 1)
   columns-hit f =
       left-found k (columnsAt r p) refl first count (λ z. triple r p z ∷ []) (λ z zs. refl) i i h (hit x (i + 1))
@@ -113,7 +113,7 @@ module _ (k : Settings) (r p first : ℤ) (count i : ℕ) (h : i < count) where
       x : Triple
       x = triple r p (first +ℤ pos i)
 
-  pub columns-pass : failsAt k (triple r p (first +ℤ pos i)) ≡ false
+  columns-pass : failsAt k (triple r p (first +ℤ pos i)) ≡ false
       → after i (left k (columnsAt r p) first count i) ≡ after (i + 1) (left k (columnsAt r p) first count (i + 1))
   columns-pass f =
       left-past k (columnsAt r p) refl first count (λ z. triple r p z ∷ []) (λ z zs. refl) i i h

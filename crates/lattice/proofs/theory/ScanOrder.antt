@@ -21,7 +21,7 @@ firstPlanes n = planesAt (pos 0) n (run (pos 1) n)
 abbrev pub allRows : ℕ → List Triple
 allRows n = rowsAt n (run (pos 1) n)
 
-pub order-parts : (n : ℕ) → order (n + 1) ≡ firstColumns n ++ (firstPlanes n ++ allRows n)
+order-parts : (n : ℕ) → order (n + 1) ≡ firstColumns n ++ (firstPlanes n ++ allRows n)
 unfolding order
 order-parts n = ap (λ i. firstColumns i ++ (firstPlanes i ++ allRows i)) (let e : n + 1 - 1 ≡ n = omega arith in e)
 

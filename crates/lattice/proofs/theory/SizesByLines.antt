@@ -25,7 +25,7 @@ use Rattle.lattice.proofs.theory.SettingsLaws.{classes-some}
 use Rattle.lattice.proofs.theory.Starts.{start-below, remainder-period, by-lines}
 
 -- the sums that are listed
-pub heads-listed : (m : ℕ) (start : ℕ → ℕ) (n : ℕ) (S H : List ℕ) → 0 < m → ((l : ℕ) → start l < m)
+heads-listed : (m : ℕ) (start : ℕ → ℕ) (n : ℕ) (S H : List ℕ) → 0 < m → ((l : ℕ) → start l < m)
     → ((a : ℕ) → getD S a 0 ≡ startsAt start a n) → Sums (λ y. getD S (y % m) 0) (2 * m) H
     → (y : ℕ) → y ≤ 2 * m → getD H y 0 ≡ heads m start n y
 heads-listed m start n S H some below counted sums zero l = sums .first ∙ sym (heads-none m start n)
@@ -65,7 +65,7 @@ module _ (s : Shape) (accepted : Accepted s) (pass : Pass) (same : pass ≡ pass
   pub most : pass .classes ≤ maxClasses
   most = omega (arith, classes-are, classes-limit s accepted)
 
-  abbrev pub starts : ℕ → ℕ
+  abbrev starts : ℕ → ℕ
   starts l = lineStart (settingsOf s) (s .rows) l
 
   pub settings-some : 0 < settingsOf s .m
@@ -111,7 +111,7 @@ module _ (s : Shape) (accepted : Accepted s) (pass : Pass) (same : pass ≡ pass
   all-cells = rw (lines-are, columns-are) (omega arith)
 
   -- the size of a class below m
-  pub size-sums : (c : ℕ) → c < pass .classes
+  size-sums : (c : ℕ) → c < pass .classes
       → size (layoutOf s) c + heads (pass .classes) starts (pass .lines) (c + 1 + pass .classes - pass .columns % pass .classes)
       ≡ pass .lines * (pass .columns / pass .classes) + heads (pass .classes) starts (pass .lines) (c + 1 + pass .classes)
   size-sums c l =
@@ -139,7 +139,7 @@ module _ (s : Shape) (accepted : Accepted s) (pass : Pass) (same : pass ≡ pass
           c (pass .lines) (le-refl _)
 
   -- no cell is of another class
-  pub size-above : (c : ℕ) → pass .classes ≤ c → size (layoutOf s) c ≡ 0
+  size-above : (c : ℕ) → pass .classes ≤ c → size (layoutOf s) c ≡ 0
   unfolding sizeTo
   size-above c l =
       count-none (λ i. eqb (classAt s i) c) (cellsOf s) (λ i r. ne-eqb (classAt s i) c (λ (q : classAt s i ≡ c). omega

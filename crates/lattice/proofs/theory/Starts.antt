@@ -17,7 +17,7 @@ over m n = n % m
 
 module _ (m : ℕ) (some : 0 < m) where
   -- a difference in two steps
-  pub minus-again : (a y z : ℕ) → minusMod (minusMod a y m) z m ≡ minusMod a (y + z) m
+  minus-again : (a y z : ℕ) → minusMod (minusMod a y m) z m ≡ minusMod a (y + z) m
   minus-again a y z =
       minus-only m some a (y + z) _ (minus-below m some (minusMod a y m) z)
       (ap (over m) whole ∙ add-same (minusMod (minusMod a y m) z m + z) (minusMod a y m) y y m (minus-adds m some
@@ -27,7 +27,7 @@ module _ (m : ℕ) (some : 0 < m) where
       whole = omega arith
 
   -- a difference from x is x steps after the difference from 0
-  pub minus-from : (x z : ℕ) → minusMod x z m ≡ (minusMod 0 z m + x) % m
+  minus-from : (x z : ℕ) → minusMod x z m ≡ (minusMod 0 z m + x) % m
   minus-from x z =
       sym (minus-only m some x z _ (mod-lt (minusMod 0 z m + x) some)
       (mod-add-mod (minusMod 0 z m + x) m z ∙ ap (over m) whole ∙ add-same (minusMod 0 z m + z) 0 x x m
@@ -57,7 +57,7 @@ pub minus-mod : (m a z : ℕ) → minusMod a (z % m) m ≡ minusMod a z m
 unfolding minusMod
 minus-mod m a z = ap (λ (n : ℕ). (a + (m - n)) % m) (mod-mod z m)
 
-pub minus-none : (m a : ℕ) → 0 < m → a < m → minusMod a 0 m ≡ a
+minus-none : (m a : ℕ) → 0 < m → a < m → minusMod a 0 m ≡ a
 minus-none m a some l = sym (back-above m some a 0 l (omega arith)) ∙ omega arith
 
 -- the next number in a plane of h rows: the next row, or row 0 of the next plane
@@ -72,7 +72,7 @@ module _ (h l : ℕ) where
     pub row-next : (l + 1) % h ≡ l % h + 1
     row-next = ap (over h) next-row ∙ digits-mod (l / h) p
 
-    pub row-plane : (l + 1) / h ≡ l / h
+    row-plane : (l + 1) / h ≡ l / h
     row-plane = ap (λ (n : ℕ). n / h) next-row ∙ digits-div (l / h) p
 
   module _ (some : 0 < h) (p : l % h + 1 ≡ h) where
@@ -82,7 +82,7 @@ module _ (h l : ℕ) where
     pub plane-row : (l + 1) % h ≡ 0
     plane-row = ap (over h) next-plane ∙ digits-mod (l / h + 1) some
 
-    pub plane-next : (l + 1) / h ≡ l / h + 1
+    plane-next : (l + 1) / h ≡ l / h + 1
     plane-next = ap (λ (n : ℕ). n / h) next-plane ∙ digits-div (l / h + 1) some
 
 -- the starts from line to line
@@ -154,7 +154,7 @@ module _ (k : Settings) (h : ℕ) (some : 0 < k .m) where
           ∙ ap (over (k .m)) back
 
 -- the cell in column x of line l
-pub line-cell : (s : Shape) (l x : ℕ) → x < s .columns → cellAt s (l * s .columns + x) ≡ cell (l % s .rows) (l / s .rows) x
+line-cell : (s : Shape) (l x : ℕ) → x < s .columns → cellAt s (l * s .columns + x) ≡ cell (l % s .rows) (l / s .rows) x
 unfolding cellAt
 line-cell s l x p i =
     cell

@@ -29,11 +29,11 @@ unfolding testStrengthOk
 strength-accepted t b e h = passed b (inRange 1 maxTestStrength t) h e
 
 -- what accepted numbers keep within
-pub strength-bounds : (t : ℕ) → testStrengthOk t ≡ true → (1 ≤ t) × (t ≤ maxTestStrength)
+strength-bounds : (t : ℕ) → testStrengthOk t ≡ true → (1 ≤ t) × (t ≤ maxTestStrength)
 unfolding testStrengthOk
 strength-bounds t h = (range-low 1 maxTestStrength t h, range-high 1 maxTestStrength t h)
 
-pub settings-bounds : (m b c : ℕ) → testSettingsOk m b c ≡ true → (1 ≤ m) × (m ≤ maxTestClasses) × (b < m) × (c < m)
+settings-bounds : (m b c : ℕ) → testSettingsOk m b c ≡ true → (1 ≤ m) × (m ≤ maxTestClasses) × (b < m) × (c < m)
 unfolding testSettingsOk
 settings-bounds m b c h =
     let both = and-left (inRange 1 maxTestClasses m && ltb b m) (ltb c m) h in

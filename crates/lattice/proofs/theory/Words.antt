@@ -21,7 +21,7 @@ mag-natAbs (pos n) = omega arith
 mag-natAbs (negsuc n) = omega arith
 
 -- an integer of absolute value below 2³¹ fits
-pub small-fits : (z : ℤ) → natAbs z < limit → SFits w32 z
+small-fits : (z : ℤ) → natAbs z < limit → SFits w32 z
 small-fits z h = record { sfits = omega (arith, mag-natAbs z) }
 
 -- an integer as it is read back from its bits
@@ -31,25 +31,25 @@ read z = toZ w32 (ofZ w32 z)
 pub read-back : (z : ℤ) → natAbs z < limit → read z ≡ z
 read-back z h = toZ-ofZ w32 z (small-fits z h)
 
-pub read-natural : (n : ℕ) → n < limit → toZ w32 n ≡ pos n
+read-natural : (n : ℕ) → n < limit → toZ w32 n ≡ pos n
 read-natural n h = toZ-pos w32 n h
 
 -- the absolute value of a sum, of a difference and of a quotient
-pub natAbs-add : (z w : ℤ) → natAbs (z +ℤ w) ≤ natAbs z + natAbs w
+natAbs-add : (z w : ℤ) → natAbs (z +ℤ w) ≤ natAbs z + natAbs w
 natAbs-add (pos m) (pos n) = omega arith
 natAbs-add (pos m) (negsuc n) = omega (arith, natAbs-sub m (suc n))
 natAbs-add (negsuc m) (pos n) = omega (arith, natAbs-sub n (suc m))
 natAbs-add (negsuc m) (negsuc n) = omega arith
 
-pub natAbs-minus : (z w : ℤ) → natAbs (z -ℤ w) ≤ natAbs z + natAbs w
+natAbs-minus : (z w : ℤ) → natAbs (z -ℤ w) ≤ natAbs z + natAbs w
 natAbs-minus z w = omega (arith, natAbs-add z (negℤ w), natAbs-neg w)
 
-pub natAbs-quot : (z : ℤ) (n : ℕ) → natAbs (quotZ z (pos n)) ≤ natAbs z
+natAbs-quot : (z : ℤ) (n : ℕ) → natAbs (quotZ z (pos n)) ≤ natAbs z
 natAbs-quot (pos m) n = div-le-self m n
 natAbs-quot (negsuc m) n = omega (arith, natAbs-neg (pos (suc m / n)), div-le-self (suc m) n)
 
 -- the remainder is 0 exactly where it is 0 for the absolute value
-pub rem-zero : (z : ℤ) (n : ℕ) → natAbs z < limit → eqb (ofZ w32 (remZ z (pos n))) 0 ≡ eqb (natAbs z % n) 0
+rem-zero : (z : ℤ) (n : ℕ) → natAbs z < limit → eqb (ofZ w32 (remZ z (pos n))) 0 ≡ eqb (natAbs z % n) 0
 rem-zero (pos m) n h = refl
 rem-zero (negsuc m) n h = go (suc m % n) (omega (arith, mod-le (suc m) n))
   where
@@ -150,7 +150,7 @@ module _ (z : ℤ) (h : natAbs z < limit) where
       (rw (from-zero z (rw (read-back z h) at e)) (tt, record { fits = omega arith }))
 
 -- a difference of two numbers that are read back from their bits
-pub difference-is : (x y : ℤ) → natAbs x + natAbs y < limit → read x -ℤ read y ≡ x -ℤ y
+difference-is : (x y : ℤ) → natAbs x + natAbs y < limit → read x -ℤ read y ≡ x -ℤ y
 difference-is x y h = ap (λ u. u -ℤ read y) (read-back x (omega arith)) ∙ ap (λ u. x -ℤ u) (read-back y (omega arith))
 
 pub difference-fits : (x y : ℤ) → natAbs x + natAbs y < limit → SFits w32 (read x -ℤ read y)

@@ -1,8 +1,8 @@
 -- `gains` meets its contract.
-use Prim.Native.Nat.{_-_, _%_}
+use Prim.Native.Nat.{_%_}
 use native.Mathlib.Omega.{arith}
-use Rattle.lattice.proofs.theory.PositionParts.{bit-most, filled-gains, quotient-most, repeats-less}
 use borrow.Author.Needs.{needs}
+use Rattle.lattice.proofs.theory.PositionParts.{bit-most, filled-gains, quotient-most, repeats-less}
 use Rattle.lattice.proofs.line_positions.gains.Statement.{statement}
 use Rattle.lattice.proofs.line_positions.gains.Tie as tie
 
