@@ -6,7 +6,7 @@ use mathlib.Core.Path.{_≡_}
 use Rattle.lattice.specs.declared.shape.Shape.{Shape}
 use Rattle.lattice.specs.Shape.{cellsOf}
 use Rattle.lattice.specs.Cell.{Cell, cellAt}
-use Rattle.lattice.specs.Class.{classAt}
+use Rattle.lattice.specs.Position.{Layout}
 use Rattle.codec.specs.Field.{Field, fieldOf, listOf, flip, differences}
 use Rattle.codec.specs.Encode.{encodedField}
 use Rattle.codec.specs.Decode.{decodeNumber, decodeCount, decodeLeaves}
@@ -21,10 +21,9 @@ abbrev pub damagedField : Shape → List ℕ → (Cell → Bool) → List ℕ
 damagedField s p selected = listOf (damaged (fieldOf (encodedField s p)) (λ i. selected (cellAt s i))) (cellsOf s)
 
 -- at most one cell of each class is selected
-abbrev pub OneInEachClass : Shape → (Cell → Bool) → Type 0
-OneInEachClass s selected =
-    (i j : ℕ) → i < cellsOf s → j < cellsOf s → selected (cellAt s i) ≡ true → selected (cellAt s j) ≡ true
-    → classAt s i ≡ classAt s j → i ≡ j
+abbrev pub OneInEachClass : Layout → (ℕ → Bool) → Type 0
+OneInEachClass L selected =
+    (i j : ℕ) → i < L .cells → j < L .cells → selected i ≡ true → selected j ≡ true → L .class i ≡ L .class j → i ≡ j
 
 -- from G the payload p and the field F come back: reading G into a payload buffer gives 0 and leaves exactly p; correcting G
 -- gives 0

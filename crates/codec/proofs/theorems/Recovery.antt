@@ -1,6 +1,6 @@
 -- Demand 3: the terms of the theorems.
 use Prim.Native.Nat.{ℕ, zero, suc, _<_, _≤_}
-use mathlib.Core.Bool.{Bool, cond, true}
+use mathlib.Core.Bool.{Bool, cond}
 use mathlib.Core.List.{List}
 use mathlib.Core.Path.{_≡_, refl, sym, _∙_, ap}
 use native.Mathlib.Nat.{le-trans, le-refl}
@@ -9,7 +9,7 @@ use lib.ListN.{length}
 use Rattle.lattice.specs.declared.shape.Shape.{Shape}
 use Rattle.lattice.specs.Shape.{cellsOf, Accepted}
 use Rattle.lattice.specs.Cell.{Cell, cellAt, cellNumber}
-use Rattle.lattice.specs.Class.{layoutOf, classesOf, classAt}
+use Rattle.lattice.specs.Class.{layoutOf, classesOf}
 use Rattle.lattice.specs.Refusal.{figure}
 use Rattle.lattice.proofs.theorems.Numbering.{numbering}
 use Rattle.lattice.proofs.theorems.Clusters.{clusterClasses}
@@ -21,12 +21,12 @@ use Rattle.codec.specs.Encode.{encodedField}
 use Rattle.codec.specs.Decode.{correctedField, decodeNumber, decodeLeaves}
 use Rattle.codec.specs.Correct.{correctNumber, correctLeaves}
 use Rattle.codec.specs.Reach.{Readable}
-use Rattle.codec.specs.Damage.{damaged, damagedField, Recovered}
+use Rattle.codec.specs.Damage.{damaged, damagedField, Recovered, OneInEachClass}
 use Rattle.codec.specs.Code.{tagsAt, NearestTo}
 use Rattle.codec.specs.theorems.Recovery.{RecoveryByClass, Recovery, ClassesNeeded}
 use Rattle.codec.proofs.theory.Accepted.{plan-bytes}
 use Rattle.codec.proofs.theory.Correction.{nearest-same}
-use Rattle.codec.proofs.theory.Damage.{OneEach, damaged-cells, damaged-nearest}
+use Rattle.codec.proofs.theory.Damage.{damaged-cells, damaged-nearest}
 use Rattle.codec.proofs.theory.Differences.{differences-comm, differences-same}
 use Rattle.codec.proofs.theory.EncodedField.{encoded-cells, encoded-lawful, encoded-carries}
 use Rattle.codec.proofs.theory.FieldLists.{length-listOf, getD-listOf, listOf-same, cells-same}
@@ -38,7 +38,7 @@ use Rattle.codec.proofs.theory.WrittenCells.{written-cells}
 use Rattle.codec.proofs.theorems.Reading.{decodeMeaning, correctMeaning}
 
 module _ (s : Shape) (accepted : Accepted s) (p : List ℕ) (p-long : length p ≡ planBytes s) (p-bytes : Bytes p)
-    (selected : Cell → Bool) (one : OneEach (layoutOf s) (λ i. selected (cellAt s i)))
+    (selected : Cell → Bool) (one : OneInEachClass (layoutOf s) (λ i. selected (cellAt s i)))
     (buffer : List ℕ) (fits : length buffer ≡ planBytes s) where
   -- F, cell by cell, and G as a buffer
   F : Field
@@ -130,13 +130,7 @@ recovery s accepted p long bytes S cluster small selected inside buffer fits =
     number : (i : ℕ) → i < cellsOf s → cellNumber s (cellAt s i) ≡ i
     number i h = numbering .at s i h .1
 
-    one : (i j : ℕ)
-        → i < cellsOf s
-        → j < cellsOf s
-        → selected (cellAt s i) ≡ true
-        → selected (cellAt s j) ≡ true
-        → classAt s i ≡ classAt s j
-        → i ≡ j
+    one : OneInEachClass (layoutOf s) (λ i. selected (cellAt s i))
     one i j hi hj si sj same =
         sym (number i hi)
         ∙ ap (cellNumber s) (clusterClasses s accepted S cluster small (cellAt s i) (cellAt s j)

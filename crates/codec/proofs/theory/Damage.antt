@@ -1,14 +1,14 @@
 -- Damage to at most one cell of each class is corrected, for any layout of cells in classes.
-use Prim.Native.Nat.{ℕ, _<_}
+use Prim.Native.Nat.{ℕ}
 use mathlib.Core.Bool.{Bool, true, false}
 use mathlib.Core.Logic.{_≢_}
 use mathlib.Core.Path.{_≡_, refl, sym, _∙_}
 use native.Mathlib.Omega.{arith}
+use Rattle.lattice.specs.Position.{Layout}
 use Rattle.codec.specs.Field.{Field, Cells, flip, isCell}
 use Rattle.codec.specs.Hamming.{Tags, Lawful, Near, Nearest}
-use Rattle.codec.specs.Damage.{damaged}
+use Rattle.codec.specs.Damage.{damaged, OneInEachClass}
 use Rattle.codec.proofs.theory.CellValues.{most-cell}
-use Rattle.lattice.specs.Position.{Layout}
 
 module _ (f : Field) (selected : ℕ → Bool) where
   damaged-flipped : (i : ℕ) → selected i ≡ true → damaged f selected i ≡ flip (f i)
@@ -34,12 +34,7 @@ module _ (f : Field) (selected : ℕ → Bool) where
       go true e = e
       go false e = absurd (d (damaged-kept i e))
 
--- at most one cell of each class is selected
-abbrev pub OneEach : Layout → (ℕ → Bool) → Type 0
-OneEach L selected =
-    (i j : ℕ) → i < L .cells → j < L .cells → selected i ≡ true → selected j ≡ true → L .class i ≡ L .class j → i ≡ j
-
-module _ (L : Layout) (tag : Tags) (f : Field) (selected : ℕ → Bool) (one : OneEach L selected) where
+module _ (L : Layout) (tag : Tags) (f : Field) (selected : ℕ → Bool) (one : OneInEachClass L selected) where
   damaged-near : (a : ℕ) → Near L (damaged f selected) f a
   unfolding Near
   damaged-near a i j l m c d x y =

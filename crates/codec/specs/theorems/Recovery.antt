@@ -8,9 +8,10 @@ use mathlib.Core.Path.{_≡_}
 use lib.ListN.{length}
 use Rattle.lattice.specs.declared.shape.Shape.{Shape}
 use Rattle.lattice.specs.Shape.{Accepted}
-use Rattle.lattice.specs.Cell.{Cell}
+use Rattle.lattice.specs.Cell.{Cell, cellAt}
 use Rattle.lattice.specs.Cluster.{Cluster, AtMost}
 use Rattle.lattice.specs.Labelling.{labels, Separates}
+use Rattle.lattice.specs.Class.{layoutOf}
 use Rattle.codec.specs.Payload.{Bytes}
 use Rattle.codec.specs.Plan.{planClasses, planBytes}
 use Rattle.codec.specs.Encode.{encodedField}
@@ -21,7 +22,7 @@ abbrev pub RecoveryByClass : Type 0
 RecoveryByClass =
     (s : Shape) → Accepted s
     → (p : List ℕ) → length p ≡ planBytes s → Bytes p
-    → (selected : Cell → Bool) → OneInEachClass s selected
+    → (selected : Cell → Bool) → OneInEachClass (layoutOf s) (λ i. selected (cellAt s i))
     → (buffer : List ℕ) → length buffer ≡ planBytes s
     → let F = encodedField s p in
     let G = damagedField s p selected in
