@@ -6,4 +6,5 @@ pub mod Writing
 mod Reading
 pub mod Recovery
 pub mod Undamaged
+mod Told
 mod Examples

@@ -1,12 +1,14 @@
 -- Damage to a field that was written, and what comes back from it.
-use Prim.Native.Nat.{ℕ, _<_}
+use Prim.Native.Nat.{ℕ, _<_, _≤_}
 use mathlib.Core.Bool.{Bool, cond, true}
 use mathlib.Core.List.{List}
 use mathlib.Core.Path.{_≡_}
+use mathlib.Core.Logic.{_≢_}
 use Rattle.lattice.specs.declared.shape.Shape.{Shape}
 use Rattle.lattice.specs.Shape.{cellsOf}
 use Rattle.lattice.specs.Cell.{Cell, cellAt}
 use Rattle.lattice.specs.Position.{Layout}
+use Rattle.lattice.specs.Cluster.{distance}
 use Rattle.codec.specs.Field.{Field, fieldOf, listOf, flip, differences}
 use Rattle.codec.specs.Encode.{encodedField}
 use Rattle.codec.specs.Decode.{decodeNumber, decodeCount, decodeLeaves}
@@ -35,3 +37,10 @@ pub record Recovered (s : Shape) (p F G buffer : List ℕ) : Type 0 where
   pub corrected-number : correctNumber s G ≡ 0
   pub corrected-field : correctLeaves s G ≡ F
   pub corrected-count : correctCount s G ≡ differences (fieldOf F) (fieldOf G) (cellsOf s)
+
+-- what correcting flips looks like one cluster of at most t cells: at most t cells differ from what it leaves, and any two of them are
+-- less than t apart
+pub record WithinPromise (s : Shape) (before after : List ℕ) : Type 0 where
+  pub few : differences (fieldOf before) (fieldOf after) (cellsOf s) ≤ s .strength
+  pub near : (i j : ℕ) → i < cellsOf s → j < cellsOf s → fieldOf before i ≢ fieldOf after i → fieldOf before j ≢ fieldOf after j
+      → distance (cellAt s i) (cellAt s j) < s .strength

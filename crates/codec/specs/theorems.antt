@@ -6,4 +6,5 @@ pub mod Writing
 pub mod Reading
 pub mod Recovery
 pub mod Undamaged
+pub mod Told
 pub mod Examples

@@ -27,7 +27,7 @@ module _ (f : Field) (selected : ℕ → Bool) where
       go false e = rw (damaged-kept i e) (p i l)
 
   -- a cell that differs was selected
-  damaged-selected : (i : ℕ) → damaged f selected i ≢ f i → selected i ≡ true
+  pub damaged-selected : (i : ℕ) → damaged f selected i ≢ f i → selected i ≡ true
   damaged-selected i d = go (selected i) refl
     where
       go : (b : Bool) → selected i ≡ b → selected i ≡ true

@@ -4,15 +4,16 @@ use Prim.Native.Nat.{ℕ, zero, suc, _+_, _≤_, _<_}
 use mathlib.Core.Bool.{Bool, true, false, cond, _||_, false≢true}
 use mathlib.Core.List.{List, [], _∷_, List·Memᴰ, List·Memᴰ·head, List·Memᴰ·tail, List·Memᴰ·not-nil, List·Memᴰ·cases-cons}
 use mathlib.Core.Logic.{_⊎_, inl, inr, ⊎-elim}
-use native.Mathlib.Nat.{not-suc-le-zero}
 use mathlib.Core.Path.{_≡_, refl, ap, _∙_, sym}
+use native.Mathlib.Nat.{not-suc-le-zero}
 use native.Mathlib.Decide.{ℕ-discrete}
 use native.Mathlib.Omega.{arith}
+use borrow.Author.Tests.{eqb-true, eqb-false}
 use lib.Dec.{eqb}
 use lib.ListN.{length}
-use borrow.Author.Tests.{eqb-true, eqb-false}
-use Rattle.lattice.proofs.theory.Distinct.{Distinct}
 use Rattle.lattice.specs.Labelling.{takes, differentValues}
+use Rattle.lattice.specs.Counting.{count}
+use Rattle.lattice.proofs.theory.Distinct.{Distinct}
 
 -- each entry of xs is a value of g at some entry of l
 abbrev Covered : {A : Type 0} → (A → ℕ) → List A → List ℕ → Type 0
@@ -196,3 +197,46 @@ different-values-few f m n h =
     in-range : Covered (λ (v : ℕ). v) (upTo m) (values f n)
     in-range x k = let r = values-sound f n x k in
         (x, upTo-has m x (rw (r .2) (h (r .0) (r .1))), refl)
+
+-- the numbers below n that pass a test
+hits : (ℕ → Bool) → ℕ → List ℕ
+hits f zero = []
+hits f (suc n) = cond (f n) (n ∷ hits f n) (hits f n)
+
+hits-length : (f : ℕ → Bool) (n : ℕ) → length (hits f n) ≡ count f n
+unfolding hits
+hits-length f zero = refl
+hits-length f (suc n) = go (f n) (hits-length f n)
+  where
+    go : (b : Bool) → length (hits f n) ≡ count f n → length (cond b (n ∷ hits f n) (hits f n)) ≡ cond b 1 0 + count f n
+    go true e = omega (arith, e)
+    go false e = omega (arith, e)
+
+hits-sound : (f : ℕ → Bool) (n x : ℕ) → List·Memᴰ x (hits f n) → (x < n) × (f x ≡ true)
+unfolding hits
+hits-sound f zero x m = absurd (List·Memᴰ·not-nil m)
+hits-sound f (suc n) x m = go (f n) refl (hits-sound f n x) m
+  where
+    later : (x < n) × (f x ≡ true) → (x < suc n) × (f x ≡ true)
+    later r = (omega (arith, r .0), r .1)
+
+    go : (b : Bool) → f n ≡ b → (List·Memᴰ x (hits f n) → (x < n) × (f x ≡ true))
+        → List·Memᴰ x (cond b (n ∷ hits f n) (hits f n)) → (x < suc n) × (f x ≡ true)
+    go true e before k = ⊎-elim (λ q. (omega arith, ap f q ∙ e)) (λ r. later (before r)) (List·Memᴰ·cases-cons k)
+    go false e before k = later (before k)
+
+hits-distinct : (f : ℕ → Bool) (n : ℕ) → Distinct (hits f n)
+unfolding hits
+hits-distinct f zero = tt
+hits-distinct f (suc n) = go (f n) (hits-distinct f n)
+  where
+    go : (b : Bool) → Distinct (hits f n) → Distinct (cond b (n ∷ hits f n) (hits f n))
+    go true d = (λ y m e. omega (arith, hits-sound f n y m .0), d)
+    go false d = d
+
+-- Numbers below n that pass a test, each a value of g at some entry of a list, are at most as many as the list's entries.
+pub count-covered : {A : Type 0} (g : A → ℕ) (f : ℕ → Bool) (n : ℕ) (l : List A)
+    → ((i : ℕ) → i < n → f i ≡ true → (c : A) × List·Memᴰ c l × (i ≡ g c)) → count f n ≤ length l
+count-covered g f n l h =
+    rw (← hits-length f n)
+    (covered-length g (hits f n) l (hits-distinct f n) (λ x m. let r = hits-sound f n x m in h x (r .0) (r .1)))

@@ -1,0 +1,29 @@
+-- Damage beyond the promise can be told from what correcting flips.
+use Prim.Native.Nat.{ℕ}
+use mathlib.Core.Bool.{Bool, true}
+use mathlib.Core.List.{List}
+use mathlib.Core.Logic.{_≢_}
+use mathlib.Core.Path.{_≡_}
+use lib.ListN.{length}
+use Rattle.lattice.specs.declared.shape.Shape.{Shape}
+use Rattle.lattice.specs.Shape.{Accepted}
+use Rattle.lattice.specs.Cell.{Cell}
+use Rattle.lattice.specs.Cluster.{Cluster, AtMost}
+use Rattle.codec.specs.Payload.{Bytes}
+use Rattle.codec.specs.Plan.{planBytes}
+use Rattle.codec.specs.Correct.{correctLeaves}
+use Rattle.codec.specs.Damage.{damagedField, WithinPromise}
+
+-- Theorem. Where the damage to a field that was written lies in one cluster of at most t cells, correcting flips at most t cells, and
+-- any two of them are less than t apart. So where it flips others, the field is none that was written with such damage.
+pub record DamageTold : Type 1 where
+  pub within : (s : Shape) → Accepted s
+      → (p : List ℕ) → length p ≡ planBytes s → Bytes p
+      → (S : Cell → Type 0) → Cluster s S → AtMost (s .strength) S
+      → (selected : Cell → Bool) → ((x : Cell) → selected x ≡ true → S x)
+      → let G = damagedField s p selected in WithinPromise s G (correctLeaves s G)
+  pub beyond : (s : Shape) (G : List ℕ) → Accepted s → ¬ WithinPromise s G (correctLeaves s G)
+      → (p : List ℕ) → length p ≡ planBytes s → Bytes p
+      → (S : Cell → Type 0) → Cluster s S → AtMost (s .strength) S
+      → (selected : Cell → Bool) → ((x : Cell) → selected x ≡ true → S x)
+      → G ≢ damagedField s p selected
