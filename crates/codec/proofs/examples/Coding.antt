@@ -13,25 +13,27 @@ use Rattle.lattice.specs.Shape.{maxStrength, sizeOk, strengthOk, shapeNumber, A
 use Rattle.lattice.specs.Range.{inRange}
 use Rattle.lattice.specs.Settings.{oddSettings, flatSettings, settingsFor}
 use Rattle.lattice.specs.Cell.{Cell, cellAt, cellNumber}
-use Rattle.lattice.specs.Class.{minusMod, classWith, classOf, classAt, layoutOf}
+use Rattle.lattice.specs.Class.{minusMod, classWith, classOf, layoutOf, classesOf}
 use Rattle.lattice.specs.Position.{Layout, sizeTo, size, position}
 use Rattle.lattice.specs.Check.{isPower, isCheck, holdsData, capacity}
+use Rattle.lattice.specs.Cluster.{distance, apart}
 use Rattle.lattice.proofs.theory.Bools.{and-left, and-right}
-use Rattle.lattice.proofs.theorems.Numbering.{numbering}
 use Rattle.lattice.proofs.examples.Placing.{field, corner, OfThree}
-use Rattle.codec.specs.Field.{fieldOf}
-use Rattle.codec.specs.Hamming.{tagsOf, syndrome}
-use Rattle.codec.specs.Payload.{Bytes, Carries, PaddingRight}
+use Rattle.lattice.proofs.theorems.Numbering.{numbering}
+use Rattle.codec.specs.Field.{fieldOf, cellsOk, isCell, isReceived}
+use Rattle.codec.specs.Hamming.{tagsOf, syndrome, allInReach, inReach, isTag, corrected}
+use Rattle.codec.specs.Payload.{Bytes, Carries, PaddingRight, paddingOk, padding, payloadBytes, rank}
 use Rattle.codec.specs.Plan.{planNumber, planCapacity, planBytes, planCells}
 use Rattle.codec.specs.Encode.{encodeNumber, encodedField}
-use Rattle.codec.specs.Decode.{decodeNumber}
-use Rattle.codec.specs.Correct.{correctNumber}
+use Rattle.codec.specs.Decode.{decodeNumber, fieldNumber}
+use Rattle.codec.specs.Correct.{correctNumber, correctLeaves}
 use Rattle.codec.specs.Reach.{Readable}
 use Rattle.codec.specs.Code.{LawfulField, NearestTo}
+use Rattle.codec.specs.Damage.{OneInEachClass, WithinPromise}
 use Rattle.codec.proofs.theory.CellValues.{cells-received}
 use Rattle.codec.proofs.theory.Correction.{lawful-nearest}
-use Rattle.codec.proofs.theorems.Undamaged.{nothingToCorrect}
 use Rattle.codec.proofs.theory.PaddingCells.{carries-padding}
+use Rattle.codec.proofs.theorems.Undamaged.{nothingToCorrect}
 use Rattle.codec.proofs.theorems.Writing.{encodeMeaning}
 
 -- the plan accepts the field
@@ -99,13 +101,7 @@ pub corner-selected : (x : Cell) → isCorner x ≡ true → OfThree x
 corner-selected x e = List·Memᴰ·head (corner-is x e)
 
 -- it is at most one cell of each class
-pub corner-one : (i j : ℕ)
-    → i < cellsOf field
-    → j < cellsOf field
-    → isCorner (cellAt field i) ≡ true
-    → isCorner (cellAt field j) ≡ true
-    → classAt field i ≡ classAt field j
-    → i ≡ j
+pub corner-one : OneInEachClass (layoutOf field) (λ i. isCorner (cellAt field i))
 corner-one i j hi hj si sj same =
     sym (numbering .at field i hi .1)
     ∙ ap (cellNumber field) (corner-is (cellAt field i) si ∙ sym (corner-is (cellAt field j) sj))
@@ -151,3 +147,16 @@ decode-refused e = omega (arith, e)
 pub correct-refused : correctNumber field [] ≢ 0
 unfolding correctNumber planCells shapeNumber sizeOk strengthOk maxStrength inRange
 correct-refused e = omega (arith, e)
+
+-- a blank field with two cells flipped that are eight apart, in opposite corners: correcting flips both
+abbrev pub corners : List ℕ
+corners =
+    1 ∷ 0 ∷ 0 ∷ 0 ∷ 0 ∷ 0 ∷ 0 ∷ 0 ∷ 0 ∷ 0 ∷ 0 ∷ 0 ∷ 0 ∷ 0 ∷ 0 ∷ 0 ∷ 0 ∷ 0 ∷ 0 ∷ 0 ∷ 0 ∷ 0 ∷ 0 ∷ 0 ∷ 1 ∷ []
+
+pub corners-beyond : ¬ WithinPromise field corners (correctLeaves field corners)
+unfolding
+    correctLeaves correctNumber fieldNumber cellsOk isCell isReceived allInReach inReach isTag tagsOf corrected paddingOk padding
+    payloadBytes rank planCells shapeNumber sizeOk strengthOk maxStrength inRange capacity holdsData sizeTo position isPower
+    isCheck cellAt classesOf classOf classWith minusMod settingsFor flatSettings oddSettings distance apart
+corners-beyond told =
+    let far : _<_ 8 3 = told .near 0 24 (lit< tt) (lit< tt) (λ e. omega (arith, e)) (λ e. omega (arith, e)) in omega (arith, far)
