@@ -1,3 +1,4 @@
+-- `all_hex` meets its contract. The loop's invariant: the first j bytes are hexadecimal digits.
 use Prim.Native.Nat.{_-_, _≤_, zero-le}
 use native.Mathlib.Omega.{arith}
 use Rattle.lattice.proofs.theory.Bools.{failed, passed}

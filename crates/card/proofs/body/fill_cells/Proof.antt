@@ -1,3 +1,5 @@
+-- `fill_cells` meets its contract. The loop's invariant: the first i bytes of the field are cells of the rows, and the others are
+-- as they were.
 use Prim.Native.Nat.{_+_, _-_, _*_, _/_, _≤_, zero-le}
 use native.Mathlib.Omega.{arith}
 use lib.ListN.{length, length-set}

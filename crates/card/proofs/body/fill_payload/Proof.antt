@@ -1,3 +1,5 @@
+-- `fill_payload` meets its contract. The loop's invariant: the first j bytes of the payload are those of the line, and the others
+-- are as they were.
 use Prim.Native.Nat.{_+_, _-_, _*_, _≤_, zero-le}
 use mathlib.Core.Bool.{true}
 use mathlib.Core.Path.{_≡_, _∙_}

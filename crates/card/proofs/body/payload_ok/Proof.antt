@@ -1,3 +1,4 @@
+-- `payload_ok` meets its contract: the tests of the line come one after the other, in the definition's order.
 use borrow.Author.Needs.{needs}
 use Prim.Native.Nat.{_+_, _≤_}
 use mathlib.Core.Bool.{true}

@@ -1,3 +1,4 @@
+-- `row_ok` meets its contract: the key, the digits and the line feed are tested one after the other.
 use borrow.Author.Needs.{needs}
 use native.Mathlib.Omega.{arith}
 use Rattle.lattice.proofs.theory.Bools.{failed, passed}

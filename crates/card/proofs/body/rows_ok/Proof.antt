@@ -1,3 +1,4 @@
+-- `rows_ok` meets its contract. The loop's invariant: the first r lines are rows.
 use Prim.Native.Nat.{_-_, _≤_, zero-le}
 use native.Mathlib.Omega.{arith}
 use Rattle.lattice.proofs.theory.Bools.{failed, passed}

@@ -1,3 +1,4 @@
+-- `digit_run` meets its contract. The loop's invariant: the first k bytes are digits.
 use Prim.Native.Nat.{_-_, _≤_, zero-le}
 use native.Mathlib.Omega.{arith}
 use Rattle.lattice.proofs.theory.Bools.{failed, passed}

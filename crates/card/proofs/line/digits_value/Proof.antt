@@ -1,3 +1,4 @@
+-- `digits_value` meets its contract. The loop's invariant: the value is that of the first i digits.
 use Prim.Native.Nat.{_-_, _≤_, zero-le, _<_}
 use mathlib.Core.Path.{_≡_, refl}
 use native.Mathlib.Omega.{arith}

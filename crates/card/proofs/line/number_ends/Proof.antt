@@ -1,3 +1,4 @@
+-- `number_ends` meets its contract: the number of digits, the byte behind them and the first are tested one after the other.
 use borrow.Author.Needs.{needs}
 use Rattle.lattice.proofs.theory.Bools.{failed, passed}
 use Rattle.card.proofs.line.Digits.{ends-range, ends-other, ends-one, ends-more}

@@ -1,3 +1,4 @@
+-- `put_digits` meets its contract. The number of digits falls with each call, and the last digit is written behind the others.
 use borrow.Author.Needs.{needs}
 use Prim.Native.Nat.{ℕ, _<_}
 use native.Mathlib.Omega.{arith}

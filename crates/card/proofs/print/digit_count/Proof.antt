@@ -1,3 +1,4 @@
+-- `digit_count` meets its contract: the first limit that the number is below settles it.
 use Rattle.card.proofs.print.Text.{digit-count-one, digit-count-two, digit-count-three, digit-count-four, digit-count-five}
 use Rattle.card.proofs.print.digit_count.Statement.{statement}
 use Rattle.card.proofs.print.digit_count.Tie as tie

@@ -1,3 +1,4 @@
+-- `put_bytes` meets its contract. The loop's invariant: the first i bytes are written.
 use Prim.Native.Nat.{_+_, _-_, _≤_, zero-le}
 use mathlib.Core.Path.{refl}
 use native.Mathlib.Omega.{arith}

@@ -1,3 +1,4 @@
+-- `put_cells` meets its contract. The loop's invariant: the digits of the first i cells are written.
 use Prim.Native.Nat.{_+_, _-_, _≤_, _<_, zero-le}
 use native.Mathlib.Omega.{arith}
 use lib.ListN.{length, take}

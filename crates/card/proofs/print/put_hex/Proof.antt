@@ -1,3 +1,4 @@
+-- `put_hex` meets its contract. The loop's invariant: the digits of the first j bytes are written, and end at `next`.
 use Prim.Native.Nat.{_-_, _≤_, zero-le}
 use mathlib.Core.Path.{refl}
 use native.Mathlib.Omega.{arith}

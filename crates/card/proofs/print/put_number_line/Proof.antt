@@ -1,3 +1,4 @@
+-- `put_number_line` meets its contract: the key, the digits and the line feed are written one behind the other.
 use borrow.Author.Needs.{needs}
 use mathlib.Core.List.{[], _∷_, _++_}
 use mathlib.Core.Path.{_≡_, refl}

@@ -1,3 +1,4 @@
+-- `put_payload` meets its contract: the key, the digits and the line feed are written one behind the other.
 use borrow.Author.Needs.{needs}
 use Rattle.card.specs.Text.{payloadKey, hexText}
 use Rattle.card.proofs.print.Lines.{key-room, value-room, feed-room, line-printed, payload-parts}

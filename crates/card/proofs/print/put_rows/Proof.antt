@@ -1,3 +1,4 @@
+-- `put_rows` meets its contract. The loop's invariant: the first r rows are written, and end at `next`.
 use Prim.Native.Nat.{_+_, _-_, _*_, _≤_, zero-le}
 use native.Mathlib.Omega.{arith}
 use lib.ListN.{length}

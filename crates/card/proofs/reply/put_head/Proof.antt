@@ -1,3 +1,4 @@
+-- `put_head` meets its contract: the line is written behind the first lines.
 use borrow.Author.Needs.{needs}
 use Rattle.card.proofs.theory.Replies.{header-room, line-room, head-printed}
 use Rattle.card.proofs.reply.put_head.Statement.{statement}

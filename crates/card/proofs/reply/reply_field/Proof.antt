@@ -1,3 +1,5 @@
+-- `reply_field` meets its contract: an output that is too short is left as it was, and else the head and the rows are written,
+-- one behind the other.
 use borrow.Author.Needs.{needs}
 use Prim.Native.Nat.{_+_, _*_}
 use mathlib.Core.Path.{_≡_, sym}

@@ -1,3 +1,5 @@
+-- `reply_payload` meets its contract: an output that is too short is left as it was, and else the head and the payload are
+-- written, one behind the other.
 use borrow.Author.Needs.{needs}
 use Prim.Native.Nat.{_+_, _*_}
 use mathlib.Core.List.{_++_}

@@ -1,3 +1,4 @@
+-- `answer_card` meets its contract: an input that is too long or has no header is refused, and else the header's answer is given.
 use borrow.Author.Needs.{needs}
 use mathlib.Core.Path.{refl, sym, _∙_}
 use Rattle.card.proofs.theory.Replies.{answered-same}

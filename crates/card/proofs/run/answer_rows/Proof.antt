@@ -1,3 +1,4 @@
+-- `answer_rows` meets its contract: rows of a wrong form are refused, and of others the cells that are read are decoded.
 use borrow.Author.Needs.{needs}
 use Prim.Native.Nat.{ℕ, _/_, _≤_}
 use mathlib.Core.List.{_++_}

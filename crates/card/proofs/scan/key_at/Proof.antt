@@ -1,3 +1,4 @@
+-- `key_at` meets its contract. The loop's invariant: the first j bytes of the key stand at the position.
 use Prim.Native.Nat.{_-_, _≤_, zero-le}
 use native.Mathlib.Omega.{arith}
 use lib.ListN.{length}
