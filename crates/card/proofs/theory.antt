@@ -26,7 +26,7 @@ pub mod CardPlan
 pub mod ProgramParts
 mod RefusalConditions
 pub mod ProgramTests
-mod Passed
+mod TakenInput
 mod AnswerLength
 pub mod Forms
 pub mod PrintedRows

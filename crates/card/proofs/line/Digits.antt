@@ -28,16 +28,16 @@ module _ (s : List ℕ) (at : ℕ) where
   isDigitAt j = isDigit (getD s (at + j) 0) ≡ true
 
   -- the digits passed
-  pub record Run (k : ℕ) : Type 0 where
+  pub record DigitsRead (k : ℕ) : Type 0 where
     pub each : DigitsAt s at k
 
-  pub run-none : Run 0
+  pub run-none : DigitsRead 0
   run-none = record { each = below-none isDigitAt }
 
-  pub run-more : (k b : ℕ) → Run k → b ≡ getD s (at + k) 0 → isDigit b ≡ true → Run (k + 1)
+  pub run-more : (k b : ℕ) → DigitsRead k → b ≡ getD s (at + k) 0 → isDigit b ≡ true → DigitsRead (k + 1)
   run-more k b p e d = record { each = below-more isDigitAt k (p .each) (rw e at d) }
 
-  pub run-ends : (k b : ℕ) → Run k → k < 6 → b ≡ getD s (at + k) 0 → isDigit b ≡ false → k ≡ digitRun s at 6
+  pub run-ends : (k b : ℕ) → DigitsRead k → k < 6 → b ≡ getD s (at + k) 0 → isDigit b ≡ false → k ≡ digitRun s at 6
   run-ends k b p l e d = sym (digits-run s at k 6 (p .each) (rw e at d) (omega arith))
 
 -- as many digits as are counted
@@ -49,7 +49,7 @@ full s at (suc k) p =
     rw first (omega arith)
 
 module _ (s : List ℕ) (at : ℕ) where
-  pub run-full : (k : ℕ) → Run s at k → k ≤ 6 → 6 ≤ k → k ≡ digitRun s at 6
+  pub run-full : (k : ℕ) → DigitsRead s at k → k ≤ 6 → 6 ≤ k → k ≡ digitRun s at 6
   run-full k p l q =
       let e : k ≡ 6 = le-antisymm l q in
       e ∙ sym (full s at 6 (subst (λ (n : ℕ). DigitsAt s at n) e (p .each)))

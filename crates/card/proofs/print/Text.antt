@@ -9,7 +9,7 @@ use lib.ListN.{length, getD, take, drop, length-map}
 use lib.Seq.{drop-drop}
 use borrow.Author.Tests.{lt-ltb, le-ltb}
 use Rattle.card.specs.Text.{digits, digitCount, rowsText, cellsText, rowText}
-use Rattle.card.specs.Working.{Room, Printed}
+use Rattle.card.specs.Working.{HasRoom, Printed}
 use Rattle.card.proofs.theory.Printed.{printed-none, printed-then, room-first, room-next}
 
 -- the width of a number
@@ -72,20 +72,20 @@ pub rows-more : (w r : ℕ) (cells : List ℕ)
 rows-more w r cells = ap (λ (k : ℕ). rowsText w k cells) (add-one r) ∙ rows-last w r cells
 
 -- the digits of a number, the last behind the others
-module _ {xs : List ℕ} {at : ℕ} (k n : ℕ) (room : Room xs at (digits k n)) where
+module _ {xs : List ℕ} {at : ℕ} (k n : ℕ) (room : HasRoom xs at (digits k n)) where
   pub digits-done : k ≡ 0 → Printed xs xs at (digits k n) at
   digits-done e =
       subst (λ (t : List ℕ). Printed xs xs at t at) (digits-none k n e) (printed-none xs at (omega (arith, room .fits)))
 
   module _ (some : k ≡ 0 → ⊥) where
-    parts : Room xs at (digits (k - 1) (n / 10) ++ ((48 + n % 10) ∷ []))
-    parts = subst (λ (t : List ℕ). Room xs at t) (digits-last k n some) room
+    parts : HasRoom xs at (digits (k - 1) (n / 10) ++ ((48 + n % 10) ∷ []))
+    parts = subst (λ (t : List ℕ). HasRoom xs at t) (digits-last k n some) room
 
-    pub digits-room : Room xs at (digits (k - 1) (n / 10))
+    pub digits-room : HasRoom xs at (digits (k - 1) (n / 10))
     digits-room = room-first ((48 + n % 10) ∷ []) parts
 
     module _ {ys : List ℕ} {m : ℕ} (p : Printed xs ys at (digits (k - 1) (n / 10)) m) where
-      pub last-room : Room ys m ((48 + n % 10) ∷ [])
+      pub last-room : HasRoom ys m ((48 + n % 10) ∷ [])
       last-room = room-next parts p
 
       pub digits-printed : {zs : List ℕ} {r : ℕ} → Printed ys zs m ((48 + n % 10) ∷ []) r → Printed xs zs at (digits k n) r

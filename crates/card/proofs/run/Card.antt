@@ -25,7 +25,7 @@ use Rattle.codec.proofs.theory.FieldLists.{length-listOf}
 use Rattle.card.specs.declared.header.Header.{Header}
 use Rattle.card.specs.Text.{numberLine, headerText, payloadText, fieldText, refusalText, classesKey, mendedKey}
 use Rattle.card.specs.Card.{maxCardCells, maxCardBytes, shapeOf, FieldCells}
-use Rattle.card.specs.Parse.{rowsOk, cellsAt}
+use Rattle.card.specs.Parse.{rowsOk, cellsOfRows}
 use Rattle.card.specs.Program.{blankField, blankPayload, rowsFit, cellsIn, writtenText, readText}
 use Rattle.card.specs.Working.{CardShape, headText, encodedText, decodedText}
 use Rattle.card.proofs.theory.CardLimits.{limits, rows-most, bytes-most}
@@ -163,13 +163,13 @@ module _ (h : Header) (s : Shape) (x : CardShape h s) (input : List ℕ) (next :
 
   pub cells-read : (last : List ℕ) (n : ℕ)
       → n ≡ cellsOf s
-      → last ≡ cellsAt input next (s .columns) n
+      → last ≡ cellsOfRows input next (s .columns) n
       → last ≡ cellsIn input h next
   cells-read last n e p =
       p
-      ∙ ap (cellsAt input next (s .columns)) e
-      ∙ ap (λ (k : Shape). cellsAt input next (k .columns) (cellsOf k)) (x .shape)
+      ∙ ap (cellsOfRows input next (s .columns)) e
+      ∙ ap (λ (k : Shape). cellsOfRows input next (k .columns) (cellsOf k)) (x .shape)
 
-  pub cells-long : (last : List ℕ) (n : ℕ) → last ≡ cellsAt input next (s .columns) n → length last ≡ n
-  unfolding cellsAt cellByte
+  pub cells-long : (last : List ℕ) (n : ℕ) → last ≡ cellsOfRows input next (s .columns) n → length last ≡ n
+  unfolding cellsOfRows cellByte
   cells-long last n p = ap length p ∙ length-listOf (cellByte input next (s .columns)) n

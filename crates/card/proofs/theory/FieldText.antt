@@ -15,7 +15,7 @@ use Rattle.codec.proofs.theory.AllBelow.{fails-below}
 use Rattle.card.specs.declared.header.Header.{Header}
 use Rattle.card.specs.Text.{rowText, payloadKey, rowsText, fieldText, payloadText}
 use Rattle.card.specs.Card.{shapeOf, FieldCells}
-use Rattle.card.specs.Parse.{keyAt, cellsAt}
+use Rattle.card.specs.Parse.{keyAt, cellsOfRows}
 use Rattle.card.specs.Program.{isPayload, rowsFit, cellsIn}
 use Rattle.card.proofs.theory.StandsAt.{stands-last, stands-whole}
 use Rattle.card.proofs.theory.RowText.{length-rows}
@@ -50,7 +50,7 @@ field-back before h cells x =
       ends = length-append before (fieldText h cells) ∙ omega (arith, length-field h cells x);
     } in (
       rows-ok s (length before) (h .numbers .columns) (rowsOf h) cells y,
-      ap (cellsAt s (length before) (h .numbers .columns)) (cells-of h)
+      ap (cellsOfRows s (length before) (h .numbers .columns)) (cells-of h)
           ∙ rows-read s (length before) (h .numbers .columns) (rowsOf h) cells y,
     )
 

@@ -17,7 +17,7 @@ use Rattle.card.specs.Parse.{keyAt, isHex, hexValue, hexCount, payloadOk
 use Rattle.card.proofs.theory.StandsAt.{at-key, byte-inside}
 use Rattle.card.proofs.theory.HexText.{hex-range}
 use Rattle.card.proofs.theory.PayloadText.{ok-tests}
-use Rattle.card.proofs.theory.StoredFront.{Stored, stored-all}
+use Rattle.card.proofs.theory.StoredFront.{StoredTo, stored-all}
 
 -- a hexadecimal digit
 module _ (b : ℕ) where
@@ -101,7 +101,7 @@ module _ (s : List ℕ) (at : ℕ) where
 
   pub payload-stored : (xs ys : List ℕ) (n : ℕ)
       → length xs ≡ hexCount s at / 2
-      → Stored payloadByte xs ys n
+      → StoredTo payloadByte xs ys n
       → n ≤ length ys
       → length ys ≤ n
       → ys ≡ payloadOf s at

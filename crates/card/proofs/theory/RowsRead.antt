@@ -15,7 +15,7 @@ use Rattle.codec.specs.Field.{fieldOf, isReceived, Received}
 use Rattle.codec.proofs.theory.AllBelow.{all-below, below-all}
 use Rattle.codec.proofs.theory.FieldLists.{getD-listOf, length-listOf, list-field}
 use Rattle.card.specs.Text.{rowKey, rowsText, feed}
-use Rattle.card.specs.Parse.{isCellDigit, keyAt, rowStart, cellPlace, rowOk, rowsOk, cellsAt}
+use Rattle.card.specs.Parse.{isCellDigit, keyAt, rowStart, cellPlace, rowOk, rowsOk, cellsOfRows}
 use Rattle.card.proofs.theory.CellDigits.{cell-digit, digit-low, digit-cell}
 use Rattle.card.proofs.theory.StandsAt.{StandsAt, key-at, at-key}
 use Rattle.card.proofs.theory.RowText.{RowStands, rows-stand, stand-rows}
@@ -96,8 +96,8 @@ module _ (s : List ℕ) (at w k : ℕ) (cells : List ℕ) (x : RowsStand s at w 
       cell-digit _ (getD s (rowStart at w r + 4 + c) 0) (x .each (r * w + c) (in-row w k r c l m)) e)
       (row r l .ended)))
 
-  pub rows-read : cellsAt s at w (k * w) ≡ cells
-  unfolding cellsAt
+  pub rows-read : cellsOfRows s at w (k * w) ≡ cells
+  unfolding cellsOfRows
   rows-read = sym (list-field cells (λ i. getD s (cellPlace at w i) 0 - 48) (k * w) (x .long) each-read)
     where
       each-read : (i : ℕ) → i < k * w → getD cells i 0 ≡ getD s (cellPlace at w i) 0 - 48
@@ -107,8 +107,8 @@ module _ (s : List ℕ) (at w k : ℕ) (cells : List ℕ) (x : RowsStand s at w 
           ap (λ (j : ℕ). getD cells j 0) (sym (y .both)) ∙ omega arith
 
 -- the rows that are read stand there
-pub at-rows : (s : List ℕ) (at w k : ℕ) → rowsOk s at w k ≡ true → RowsStand s at w k (cellsAt s at w (k * w))
-unfolding rowsOk cellsAt
+pub at-rows : (s : List ℕ) (at w k : ℕ) → rowsOk s at w k ≡ true → RowsStand s at w k (cellsOfRows s at w (k * w))
+unfolding rowsOk cellsOfRows
 at-rows s at w k p =
     record {
       long = long;
@@ -137,7 +137,7 @@ at-rows s at w k p =
     f i = getD s (cellPlace at w i) 0 - 48
 
     cells : List ℕ
-    cells = cellsAt s at w (k * w)
+    cells = cellsOfRows s at w (k * w)
 
     long : length cells ≡ k * w
     long = length-listOf f (k * w)

@@ -12,8 +12,8 @@ use Rattle.lattice.specs.Counting.{allBelow}
 use Rattle.lattice.specs.Shape.{maxSide, maxCells}
 use Rattle.codec.proofs.theory.OneByOne.{Passed, passed-all, failed-at}
 use Rattle.card.specs.Text.{rowKey, feed}
-use Rattle.card.specs.Parse.{keyAt, isCellDigit, rowStart, rowOk, rowsOk, cellPlace, cellsAt}
-use Rattle.card.proofs.theory.StoredFront.{Stored, stored-all}
+use Rattle.card.specs.Parse.{keyAt, isCellDigit, rowStart, rowOk, rowsOk, cellPlace, cellsOfRows}
+use Rattle.card.proofs.theory.StoredFront.{StoredTo, stored-all}
 
 -- a row that starts at p
 rowTest : List ℕ → ℕ → ℕ → Bool
@@ -95,9 +95,9 @@ module _ (s : List ℕ) (at w : ℕ) where
       mul-le-mul far wide
 
   pub cells-stored : (xs ys : List ℕ) (n : ℕ)
-      → Stored cellByte xs ys n
+      → StoredTo cellByte xs ys n
       → n ≤ length ys
       → length ys ≤ n
-      → ys ≡ cellsAt s at w (length xs)
-  unfolding cellsAt cellByte
+      → ys ≡ cellsOfRows s at w (length xs)
+  unfolding cellsOfRows cellByte
   cells-stored xs ys n p l q = stored-all cellByte xs ys n p (length xs) refl l q

@@ -3,13 +3,13 @@
 use Prim.Native.Nat.{_+_, _-_, _*_, _/_, _≤_, zero-le}
 use native.Mathlib.Omega.{arith}
 use lib.ListN.{length, length-set}
-use Rattle.card.proofs.theory.StoredFront.{Stored, stored-none, stored-more}
+use Rattle.card.proofs.theory.StoredFront.{StoredTo, stored-none, stored-more}
 use Rattle.card.proofs.theory.RowsStored.{cellByte, cell-byte, cell-far, cells-stored}
 use Rattle.card.proofs.body.fill_cells.Statement.{statement}
 use Rattle.card.proofs.body.fill_cells.Tie as tie
 
 abbrev Inv-loop : tie.InvT-loop
-Inv-loop text at width field₀ i₀ field i = (i ≤ length field) × Stored (cellByte text at width) field₀ field i
+Inv-loop text at width field₀ i₀ field i = (i ≤ length field) × StoredTo (cellByte text at width) field₀ field i
 
 abbrev μ-loop : tie.MeasureT-loop
 μ-loop text at width field₀ i₀ field i = length field - i

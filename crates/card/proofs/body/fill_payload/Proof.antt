@@ -9,12 +9,12 @@ use lib.ListN.{length, length-set}
 use Rattle.card.specs.Parse.{isHex}
 use Rattle.card.proofs.theory.PayloadStored.{payloadByte, payload-room, payload-digit, payload-byte, payload-stored}
 use Rattle.card.proofs.theory.PayloadStored.{value-below}
-use Rattle.card.proofs.theory.StoredFront.{Stored, stored-none, stored-more}
+use Rattle.card.proofs.theory.StoredFront.{StoredTo, stored-none, stored-more}
 use Rattle.card.proofs.body.fill_payload.Statement.{statement}
 use Rattle.card.proofs.body.fill_payload.Tie as tie
 
 abbrev Inv-loop : tie.InvT-loop
-Inv-loop text at payload₀ start j₀ payload j = (j ≤ length payload) × Stored (payloadByte text at) payload₀ payload j
+Inv-loop text at payload₀ start j₀ payload j = (j ≤ length payload) × StoredTo (payloadByte text at) payload₀ payload j
 
 abbrev μ-loop : tie.MeasureT-loop
 μ-loop text at payload₀ start j₀ payload j = length payload - j

@@ -2,12 +2,12 @@
 use Prim.Native.Nat.{_-_, _≤_, zero-le}
 use native.Mathlib.Omega.{arith}
 use Rattle.lattice.proofs.theory.Bools.{failed, passed}
-use Rattle.card.proofs.line.Digits.{Run, run-none, run-more, run-ends, run-full}
+use Rattle.card.proofs.line.Digits.{DigitsRead, run-none, run-more, run-ends, run-full}
 use Rattle.card.proofs.line.digit_run.Statement.{statement}
 use Rattle.card.proofs.line.digit_run.Tie as tie
 
 abbrev Inv-loop : tie.InvT-loop
-Inv-loop text at k₀ k = (k ≤ 6) × Run text at k
+Inv-loop text at k₀ k = (k ≤ 6) × DigitsRead text at k
 
 abbrev μ-loop : tie.MeasureT-loop
 μ-loop text at k₀ k = 6 - k

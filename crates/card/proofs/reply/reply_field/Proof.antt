@@ -6,7 +6,7 @@ use mathlib.Core.Path.{_≡_, sym}
 use mathlib.Core.List.{_++_}
 use native.Mathlib.Omega.{arith}
 use lib.ListN.{length}
-use Rattle.card.specs.Working.{Room, headText}
+use Rattle.card.specs.Working.{HasRoom, headText}
 use Rattle.card.specs.Text.{classesKey, fieldText}
 use Rattle.card.proofs.theory.CardLimits.{limits, rows-most}
 use Rattle.card.proofs.theory.FieldText.{length-field}
@@ -26,7 +26,7 @@ total c =
 
 room : (c : tie.Else1)
     → let a = c .before .before .before .before .before .before .args in
-    Room (a .output .now) 0 (headText (a .header) classesKey (a .classes) ++ fieldText (a .header) (a .cells .now))
+    HasRoom (a .output .now) 0 (headText (a .header) classesKey (a .classes) ++ fieldText (a .header) (a .cells .now))
 room c = room-front _ _ _ (total (c .before)) (c .if1 .left)
 
 mul-lines : tie.Need-mul-lines

@@ -8,7 +8,7 @@ use native.Mathlib.Nat.{add-assoc}
 use native.Mathlib.Omega.{arith}
 use lib.ListN.{length}
 use Rattle.card.specs.Text.{mendedKey, payloadText}
-use Rattle.card.specs.Working.{Room, headText}
+use Rattle.card.specs.Working.{HasRoom, headText}
 use Rattle.card.proofs.theory.PayloadText.{length-payload}
 use Rattle.card.proofs.theory.Replies.{answered-short, room-front, head-most, length-success, rest-room, success-answered}
 use Rattle.card.proofs.reply.reply_payload.Statement.{statement}
@@ -25,7 +25,7 @@ total c =
 
 room : (c : tie.Else1)
     → let a = c .before .before .before .before .before .args in
-    Room (a .output .now) 0 (headText (a .header) mendedKey (a .mended) ++ payloadText (a .payload .now))
+    HasRoom (a .output .now) 0 (headText (a .header) mendedKey (a .mended) ++ payloadText (a .payload .now))
 room c = room-front _ _ _ (total (c .before)) (c .if1 .left)
 
 slice-aggregate-head-length : tie.Need-slice-aggregate-head-length
