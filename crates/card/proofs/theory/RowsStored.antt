@@ -42,7 +42,14 @@ module _ (s : List ℕ) (start w : ℕ) where
     unfolding rowTest
     row-ends p b e = rw (here, key, p, e)
 
+-- line r is tested where it starts
+pub row-moved : (s : List ℕ) (at w r : ℕ) (t : Bool) → t ≡ rowOk s (at + r * (w + 5)) w 0 → t ≡ rowOk s at w r
+row-moved s at w r t e = e ∙ here s (at + r * (w + 5)) w ∙ sym (row-test s at w r (at + r * (w + 5)) (omega arith))
+
 -- the rows, one after the other
+pub rows-product : (w k : ℕ) → k < 4294967296 → w < 65536 → k * (w + 5) ≤ 281496451547136
+rows-product w k p q = let wide : w + 5 ≤ 65541 = omega arith in mul-le-mul (le-of-lt p) wide
+
 module _ (s : List ℕ) (at w k : ℕ) where
   pub rows-behind : length s < at → false ≡ rowsOk s at w k
   unfolding rowsOk
@@ -52,21 +59,12 @@ module _ (s : List ℕ) (at w k : ℕ) where
   unfolding rowsOk
   rows-long l p = rw (ne-eqb (length s) (rowStart at w k) (λ e. p (omega arith)))
 
-  pub rows-product : k < 4294967296 → w < 65536 → k * (w + 5) ≤ 281496451547136
-  rows-product p q = let wide : w + 5 ≤ 65541 = omega arith in mul-le-mul (le-of-lt p) wide
-
   module _ (inside : at ≤ length s) (long : length s - at ≡ k * (w + 5)) where
     same : length s ≡ rowStart at w k
     same = omega arith
 
-    pub row-product : (r : ℕ) → r < k → r * (w + 5) ≤ length s
-    row-product r l = omega (arith, mul-le-mul-right (w + 5) (le-of-lt l))
-
     pub row-inside : (r : ℕ) → r < k → at + r * (w + 5) ≤ length s
     row-inside r l = omega (arith, mul-le-mul-right (w + 5) (le-of-lt l))
-
-    pub row-moved : (r : ℕ) (t : Bool) → t ≡ rowOk s (at + r * (w + 5)) w 0 → t ≡ rowOk s at w r
-    row-moved r t e = e ∙ here s (at + r * (w + 5)) w ∙ sym (row-test s at w r (at + r * (w + 5)) (omega arith))
 
     pub rows-fail : (r : ℕ) → r < k → rowOk s at w r ≡ false → false ≡ rowsOk s at w k
     unfolding rowsOk

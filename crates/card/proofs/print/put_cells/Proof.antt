@@ -28,22 +28,10 @@ shared-slice-read-out c = omega arith
 add-out : tie.Need-add-out Inv-loop μ-loop
 add-out c =
     let e = c .before .before .before in
-    omega (
-      arith,
-      length-cells (e .args .cells .now),
-      e .pre .0 .fits,
-      received-digit _ (e .pre .1 (c .before .before .loop .i) (c .before .loop-test .taken)),
-    )
+    omega (arith, received-digit _ (e .pre .1 (c .before .before .loop .i) (c .before .loop-test .taken)))
 
 add-out-2 : tie.Need-add-out-2 Inv-loop μ-loop
-add-out-2 c =
-    let e = c .before .before .before in
-    omega (
-      arith,
-      length-cells (e .args .cells .now),
-      e .pre .0 .fits,
-      received-digit _ (e .pre .1 (c .before .before .loop .i) (c .before .loop-test .taken)),
-    )
+add-out-2 c = omega (arith, inside (c .before), c .before .before .before .pre .0 .fits)
 
 slice-write-out : tie.Need-slice-write-out Inv-loop μ-loop
 slice-write-out c = prefix-index (c .before .before .before .pre .0) _ (inside (c .before)) (c .before .before .loop .inv .1)
