@@ -5,14 +5,14 @@ pub mod StandsAt
 pub mod ByteTests
 pub mod Digits
 pub mod DecimalText
-mod NumberText
+pub mod NumberText
 pub mod LineText
 pub mod LinesText
 pub mod HexText
 pub mod PayloadText
 pub mod CellDigits
 pub mod RowText
-mod RowsRead
+pub mod RowsRead
 pub mod FieldText
 -- the header, and what follows it
 pub mod HeaderText

@@ -9,14 +9,14 @@ use native.Mathlib.Omega.{arith}
 use lib.Dec.{eqb, lit<}
 use lib.ListN.{length, getD}
 use borrow.Author.Count.{below-none, below-more}
-use borrow.Author.Tests.{eq-eqb, ne-eqb, eqb-true}
+use borrow.Author.Tests.{eq-eqb, ne-eqb}
 use Rattle.lattice.specs.Range.{inRange}
-use Rattle.lattice.proofs.theory.Bools.{and-left, and-right}
 use Rattle.lattice.proofs.theory.Limits.{range-low, range-high}
 use Rattle.card.specs.declared.line.Line.{Line}
 use Rattle.card.specs.declared.line.Line.the-variants as line
 use Rattle.card.specs.Parse.{isDigit, digitRun, digitsValue, numberEnds, numberAt, keyAt, lineAt}
 use Rattle.card.proofs.theory.StandsAt.{byte-inside}
+use Rattle.card.proofs.theory.NumberText.{test-ends}
 use Rattle.card.proofs.theory.Digits.{DigitsAt, digits-run, run-digits, value-below}
 
 and-false-right : (a b : Bool) → b ≡ false → (a && b) ≡ false
@@ -117,16 +117,10 @@ module _ (s : List ℕ) (at k : ℕ) (counted : k ≡ digitRun s at 6) where
 
   module _ (ends : numberEnds s at k ≡ true) where
     pub number-most : k ≤ 5
-    unfolding numberEnds
-    number-most = range-high 1 5 k (and-left (inRange 1 5 k) _ (and-left (digitsEnd s at k) (eqb (getD s (at + k) 0) 10) ends))
+    number-most = test-ends s at k ends .high
 
     pub number-inside : at + k < length s
-    unfolding numberEnds
-    number-inside =
-        byte-inside s (at + k) (λ e.
-        let q : getD s (at + k) 0 ≡ 10 =
-        eqb-true _ 10 (and-right (digitsEnd s at k) (eqb (getD s (at + k) 0) 10) ends) in
-        omega arith)
+    number-inside = byte-inside s (at + k) (λ e. omega (arith, test-ends s at k ends .ended))
 
     pub number-found : (v : ℕ) → v ≡ digitsValue s at k → line.Number v (at + k + 1) ≡ numberAt s at
     unfolding numberAt

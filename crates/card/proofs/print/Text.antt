@@ -1,14 +1,14 @@
--- The parts of an answer's text: the digits of a number, the cells of a row, and the rows.
+-- The parts of an answer's text: the digits of a number, and the rows.
 use Prim.Native.Nat.{ℕ, zero, suc, _+_, _-_, _*_, _/_, _%_, _<_, _≤_}
 use mathlib.Core.List.{List, [], _∷_, _++_, append-assoc, append-nil}
 use mathlib.Core.Path.{_≡_, refl, sym, ap, subst, _∙_}
-use native.Mathlib.Nat.{zero-mul, not-suc-le-zero, le-of-suc-le-suc}
+use native.Mathlib.Nat.{zero-mul}
 use native.Mathlib.Numerals.{add-one}
 use native.Mathlib.Omega.{arith}
-use lib.ListN.{length, getD, take, drop, length-map}
+use lib.ListN.{length, take, drop}
 use lib.Seq.{drop-drop}
 use borrow.Author.Tests.{lt-ltb, le-ltb}
-use Rattle.card.specs.Text.{digits, digitCount, rowsText, cellsText, rowText}
+use Rattle.card.specs.Text.{digits, digitCount, rowsText, rowText}
 use Rattle.card.specs.Working.{HasRoom, Printed}
 use Rattle.card.proofs.theory.Printed.{printed-none, printed-then, room-first, room-next}
 
@@ -42,17 +42,6 @@ digits-none k n e = ap (λ (m : ℕ). digits m n) (sym e)
 pub digits-last : (k n : ℕ) → (k ≡ 0 → ⊥) → digits k n ≡ digits (k - 1) (n / 10) ++ ((48 + n % 10) ∷ [])
 digits-last zero n p = absurd (p refl)
 digits-last (suc k) n p = let e : suc k - 1 ≡ k = omega arith in rw e
-
--- the digits of cells
-pub length-cells : (cells : List ℕ) → length cells ≡ length (cellsText cells)
-unfolding cellsText
-length-cells cells = sym (length-map cells (λ v. 48 + v))
-
-pub cell-digit : (cells : List ℕ) (i : ℕ) → i < length cells → 48 + getD cells i 0 ≡ getD (cellsText cells) i 0
-unfolding cellsText
-cell-digit [] i l = absurd (not-suc-le-zero l)
-cell-digit (v ∷ cells) zero l = refl
-cell-digit (v ∷ cells) (suc i) l = cell-digit cells i (le-of-suc-le-suc l)
 
 -- the rows: one row more behind them
 rows-last : (w k : ℕ) (cells : List ℕ) → rowsText w (suc k) cells ≡ rowsText w k cells ++ rowText (take w (drop (k * w) cells))

@@ -21,7 +21,6 @@ use Rattle.codec.specs.Plan.{planClasses, planCapacity, planBytes}
 use Rattle.codec.specs.Encode.{encodeNumber, encodedField, encodeLeaves}
 use Rattle.codec.specs.Decode.{decodeNumber, decodeCount, decodeLeaves}
 use Rattle.codec.proofs.theory.Accepted.{encode-number}
-use Rattle.codec.proofs.theory.FieldLists.{length-listOf}
 use Rattle.card.specs.declared.header.Header.{Header}
 use Rattle.card.specs.Text.{numberLine, headerText, payloadText, fieldText, refusalText, classesKey, mendedKey}
 use Rattle.card.specs.Card.{maxCardCells, maxCardBytes, shapeOf, FieldCells}
@@ -33,7 +32,6 @@ use Rattle.card.proofs.theory.CardPlan.{leaves-long}
 use Rattle.card.proofs.theory.PrintedRows.{written-cells}
 use Rattle.card.proofs.theory.ProgramParts.{blank-field, blank-payload}
 use Rattle.card.proofs.theory.ProgramTests.{encoded-long}
-use Rattle.card.proofs.theory.RowsStored.{cellByte}
 
 -- the constructor's answer to a header
 module _ (h : Header) (r : NewShape) (x : IsNewShape (h .numbers) r) where
@@ -169,7 +167,3 @@ module _ (h : Header) (s : Shape) (x : CardShape h s) (input : List ℕ) (next :
       p
       ∙ ap (cellsOfRows input next (s .columns)) e
       ∙ ap (λ (k : Shape). cellsOfRows input next (k .columns) (cellsOf k)) (x .shape)
-
-  pub cells-long : (last : List ℕ) (n : ℕ) → last ≡ cellsOfRows input next (s .columns) n → length last ≡ n
-  unfolding cellsOfRows cellByte
-  cells-long last n p = ap length p ∙ length-listOf (cellByte input next (s .columns)) n

@@ -113,15 +113,13 @@ module _ {xs : List ℕ} {at : ℕ} {text : List ℕ} (room : HasRoom xs at text
       (add-assoc at i 1)
       (printed-then more p (printed-one ys (at + i) v (room-next more p))))
 
-  pub prefix-index : {ys : List ℕ} (i : ℕ) → i < length text → Printed xs ys at (take i text) (at + i) → at + i < length ys
-  prefix-index {ys} i l p =
-      let r : HasRoom xs at (take i text) = record { fits = omega (arith, room .fits, length-take-le i text (omega arith)) } in
-      omega (arith, room .fits, printed-long r p)
-
   pub prefix-long : {ys : List ℕ} (i : ℕ) → i ≤ length text → Printed xs ys at (take i text) (at + i) → length ys ≡ length xs
   prefix-long i l p =
-      let r : HasRoom xs at (take i text) = record { fits = omega (arith, room .fits, length-take-le i text (omega arith)) } in
+      let r : HasRoom xs at (take i text) = record { fits = omega (arith, room .fits, length-take-le i text l) } in
       printed-long r p
+
+  pub prefix-index : {ys : List ℕ} (i : ℕ) → i < length text → Printed xs ys at (take i text) (at + i) → at + i < length ys
+  prefix-index i l p = omega (arith, room .fits, prefix-long i (omega arith) p)
 
   pub prefix-all : {ys : List ℕ} (i n : ℕ) → n ≡ length text → i ≤ n → n ≤ i → Printed xs ys at (take i text) (at + i)
       → Printed xs ys at text (at + n)

@@ -51,6 +51,14 @@ pub record RowsStand (s : List ℕ) (at w k : ℕ) (cells : List ℕ) : Type 0 w
   pub stands : StandsAt (rowsText w k cells) s at
   pub ends : length s ≡ rowStart at w k
 
+-- cell i of what is read at `at`, and how many cells that is
+unfoldable pub cellByte : List ℕ → ℕ → ℕ → ℕ → ℕ
+cellByte s at w i = getD s (cellPlace at w i) 0 - 48
+
+pub cells-count : (s : List ℕ) (at w n : ℕ) → length (cellsOfRows s at w n) ≡ n
+unfolding cellsOfRows cellByte
+cells-count s at w n = length-listOf (cellByte s at w) n
+
 -- the test of one row
 row-test : (s : List ℕ) (at w r : ℕ) → keyAt rowKey s (rowStart at w r) ≡ true
     → ((c : ℕ) → c < w → isCellDigit (getD s (rowStart at w r + 4 + c) 0) ≡ true)
@@ -97,10 +105,10 @@ module _ (s : List ℕ) (at w k : ℕ) (cells : List ℕ) (x : RowsStand s at w 
       (row r l .ended)))
 
   pub rows-read : cellsOfRows s at w (k * w) ≡ cells
-  unfolding cellsOfRows
-  rows-read = sym (list-field cells (λ i. getD s (cellPlace at w i) 0 - 48) (k * w) (x .long) each-read)
+  unfolding cellsOfRows cellByte
+  rows-read = sym (list-field cells (cellByte s at w) (k * w) (x .long) each-read)
     where
-      each-read : (i : ℕ) → i < k * w → getD cells i 0 ≡ getD s (cellPlace at w i) 0 - 48
+      each-read : (i : ℕ) → i < k * w → getD cells i 0 ≡ cellByte s at w i
       each-read i l =
           let y = row-of w k i l in
           let e = row (i / w) (y .row) .cell (i % w) (y .column) in
@@ -108,13 +116,13 @@ module _ (s : List ℕ) (at w k : ℕ) (cells : List ℕ) (x : RowsStand s at w 
 
 -- the rows that are read stand there
 pub at-rows : (s : List ℕ) (at w k : ℕ) → rowsOk s at w k ≡ true → RowsStand s at w k (cellsOfRows s at w (k * w))
-unfolding rowsOk cellsOfRows
+unfolding rowsOk cellsOfRows cellByte
 at-rows s at w k p =
     record {
       long = long;
       each = λ i l.
           let y = row-of w k i l in
-          ap isReceived (getD-listOf f (k * w) i l)
+          ap isReceived (getD-listOf (cellByte s at w) (k * w) i l)
           ∙ digit-cell (getD s (rowStart at w (i / w) + 4 + i % w) 0)
           (row (i / w) (y .row) .digit (i % w) (y .column));
       stands = stand-rows s at w k cells (le-of-eq (sym long))
@@ -125,7 +133,7 @@ at-rows s at w k p =
             cell = λ c m.
                 let low = digit-low (getD s (rowStart at w r + 4 + c) 0) (y .digit c m) in
                 let e =
-                getD-listOf f (k * w) (r * w + c) (in-row w k r c l m)
+                getD-listOf (cellByte s at w) (k * w) (r * w + c) (in-row w k r c l m)
                 ∙ ap (λ (i : ℕ). getD s i 0 - 48) (cell-place at w r c m) in
                 omega arith;
             ended = y .ended;
@@ -133,14 +141,11 @@ at-rows s at w k p =
       ends = eqb-true (length s) (rowStart at w k) (and-left (eqb (length s) (rowStart at w k)) _ p);
     }
   where
-    f : ℕ → ℕ
-    f i = getD s (cellPlace at w i) 0 - 48
-
     cells : List ℕ
     cells = cellsOfRows s at w (k * w)
 
     long : length cells ≡ k * w
-    long = length-listOf f (k * w)
+    long = cells-count s at w (k * w)
 
     row : (r : ℕ) → r < k → Row s (rowStart at w r) w
     row r l =

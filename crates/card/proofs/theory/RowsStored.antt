@@ -13,6 +13,7 @@ use Rattle.lattice.specs.Shape.{maxSide, maxCells}
 use Rattle.codec.proofs.theory.OneByOne.{Passed, passed-all, failed-at}
 use Rattle.card.specs.Text.{rowKey, feed}
 use Rattle.card.specs.Parse.{keyAt, isCellDigit, rowStart, rowOk, rowsOk, cellPlace, cellsOfRows}
+use Rattle.card.proofs.theory.RowsRead.{cellByte}
 use Rattle.card.proofs.theory.StoredFront.{StoredTo, stored-all}
 
 -- a row that starts at p
@@ -76,10 +77,7 @@ module _ (s : List ℕ) (at w k : ℕ) where
 
 -- the cells, stored one by one
 module _ (s : List ℕ) (at w : ℕ) where
-  unfoldable pub cellByte : ℕ → ℕ
-  cellByte i = getD s (cellPlace at w i) 0 - 48
-
-  pub cell-byte : (i b v : ℕ) → b ≡ getD s (at + i / w * (w + 5) + 4 + i % w) 0 → v ≡ b - 48 → v ≡ cellByte i
+  pub cell-byte : (i b v : ℕ) → b ≡ getD s (at + i / w * (w + 5) + 4 + i % w) 0 → v ≡ b - 48 → v ≡ cellByte s at w i
   unfolding cellByte
   cell-byte i b v e p =
       let wide : w + 5 ≡ 4 + w + 1 = omega arith in
@@ -93,9 +91,9 @@ module _ (s : List ℕ) (at w : ℕ) where
       mul-le-mul far wide
 
   pub cells-stored : (xs ys : List ℕ) (n : ℕ)
-      → StoredTo cellByte xs ys n
+      → StoredTo (cellByte s at w) xs ys n
       → n ≤ length ys
       → length ys ≤ n
       → ys ≡ cellsOfRows s at w (length xs)
   unfolding cellsOfRows cellByte
-  cells-stored xs ys n p l q = stored-all cellByte xs ys n p (length xs) refl l q
+  cells-stored xs ys n p l q = stored-all (cellByte s at w) xs ys n p (length xs) refl l q

@@ -4,7 +4,8 @@ use Prim.Native.Nat.{_+_, _-_, _*_, _/_, _≤_, zero-le}
 use native.Mathlib.Omega.{arith}
 use lib.ListN.{length, length-set}
 use Rattle.card.proofs.theory.StoredFront.{StoredTo, stored-none, stored-more}
-use Rattle.card.proofs.theory.RowsStored.{cellByte, cell-byte, cell-far, cells-stored}
+use Rattle.card.proofs.theory.RowsRead.{cellByte}
+use Rattle.card.proofs.theory.RowsStored.{cell-byte, cell-far, cells-stored}
 use Rattle.card.proofs.body.fill_cells.Statement.{statement}
 use Rattle.card.proofs.body.fill_cells.Tie as tie
 

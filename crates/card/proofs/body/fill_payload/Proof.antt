@@ -7,7 +7,8 @@ use native.Mathlib.Nat.{le-refl}
 use native.Mathlib.Omega.{arith}
 use lib.ListN.{length, length-set}
 use Rattle.card.specs.Parse.{isHex}
-use Rattle.card.proofs.theory.PayloadStored.{payloadByte, payload-room, payload-digit, payload-byte, payload-stored}
+use Rattle.card.proofs.theory.PayloadText.{payloadByte}
+use Rattle.card.proofs.theory.PayloadStored.{payload-room, payload-digit, payload-byte, payload-stored}
 use Rattle.card.proofs.theory.PayloadStored.{value-below}
 use Rattle.card.proofs.theory.StoredFront.{StoredTo, stored-none, stored-more}
 use Rattle.card.proofs.body.fill_payload.Statement.{statement}

@@ -5,7 +5,7 @@ use lib.ListN.{length, take}
 use Rattle.card.specs.Text.{cellsText}
 use Rattle.card.specs.Working.{Printed}
 use Rattle.codec.proofs.theory.CellValues.{received-digit}
-use Rattle.card.proofs.print.Text.{length-cells, cell-digit}
+use Rattle.card.proofs.theory.CellDigits.{length-cells, cell-text}
 use Rattle.card.proofs.theory.Printed.{prefix-none, prefix-more, prefix-index, prefix-long, prefix-all}
 use Rattle.card.proofs.print.put_cells.Statement.{statement}
 use Rattle.card.proofs.print.put_cells.Tie as tie
@@ -47,7 +47,7 @@ loop-again c =
     let e = c .before .before .before in (
       omega arith,
       prefix-more (e .pre .0) _ _ (inside (c .before))
-          (cell-digit (e .args .cells .now) _ (c .before .loop-test .taken)) (c .before .before .loop .inv .1),
+          (cell-text (e .args .cells .now) _ (c .before .loop-test .taken)) (c .before .before .loop .inv .1),
     )
 
 add-result : tie.Need-add-result Inv-loop μ-loop

@@ -22,7 +22,8 @@ total : (c : tie.After-head-length)
     ≡ length (headText (a .header) classesKey (a .classes) ++ fieldText (a .header) (a .cells .now))
 total c =
     let s = c .before .before .before .before .before in
-    length-success _ _ _ _ _ _ (c .head-length .ensures) (sym (length-field (s .args .header) (s .args .cells .now) (s .pre .1)))
+    length-success _ _ _ _ _ _ (c .head-length .ensures)
+    (sym (length-field (s .args .header) (s .args .cells .now) (s .pre .1 .long)))
 
 room : (c : tie.Else1)
     → let a = c .before .before .before .before .before .before .args in

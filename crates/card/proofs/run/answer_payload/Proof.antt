@@ -16,7 +16,8 @@ use Rattle.card.specs.Working.{encodedText}
 use Rattle.card.proofs.run.Program.{bad-payload, wrong-length, payload-read}
 use Rattle.card.proofs.run.Card.{cells-are, cells-fit, bytes-fit}
 use Rattle.card.proofs.theory.Replies.{answered-same}
-use Rattle.card.proofs.theory.Answered.{zeros-count, part-again, part-within, part-count, length-read, bytes-read}
+use Rattle.card.proofs.theory.Answered.{zeros-count, part-again, part-within, part-count, bytes-read}
+use Rattle.card.proofs.theory.PayloadText.{payload-count}
 use Rattle.card.proofs.run.answer_payload.Statement.{statement}
 use Rattle.card.proofs.run.answer_payload.Tie as tie
 
@@ -29,7 +30,7 @@ ok c = passed _ _ (c .if1 .left) (c .before .payload-ok .ensures)
 bytes-read-are : (c : tie.After-payload-bytes)
     → let a = c .before .before .before .before .before .args in
     length (payloadOf (a .input .now) (a .next)) ≡ c .payload-bytes .result
-bytes-read-are c = length-read _ _ ∙ sym (c .payload-bytes .ensures)
+bytes-read-are c = payload-count _ _ ∙ sym (c .payload-bytes .ensures)
 
 cells-room : (c : tie.After-cells) → c .cells .result ≤ maxCardCells
 cells-room c = cells-fit _ _ (c .before .before .before .before .before .before .before .pre .0 .shaped) _ (c .cells .ensures)

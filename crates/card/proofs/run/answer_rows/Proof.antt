@@ -11,9 +11,10 @@ use Rattle.card.specs.Program.{cellsIn}
 use Rattle.card.specs.Working.{decodedText}
 use Rattle.card.specs.Card.{maxCardCells, maxCardBytes}
 use Rattle.card.proofs.run.Card.{cells-are, cells-fit, bytes-are, bytes-fit, columns-some, columns-narrow, lines-most}
-use Rattle.card.proofs.run.Card.{rows-fit, cells-read, cells-long}
+use Rattle.card.proofs.run.Card.{rows-fit, cells-read}
 use Rattle.card.proofs.run.Program.{bad-rows, rows-read}
 use Rattle.card.proofs.theory.HeaderRest.{header-found}
+use Rattle.card.proofs.theory.RowsRead.{cells-count}
 use Rattle.card.proofs.theory.Replies.{answered-same}
 use Rattle.card.proofs.theory.Answered.{zeros-count, zeros-take, part-again, part-within, part-count}
 use Rattle.card.proofs.run.answer_rows.Statement.{statement}
@@ -40,9 +41,8 @@ bytes-room c =
 -- the part that was filled
 long : (c : tie.After-fill-cells) → length (c .fill-cells .last .1 .1 .1 .0) ≡ c .before .before .before .before .cells .result
 long c =
-    cells-long _ _
-    (c .before .before .before .before .before .before .before .before .before .before .before .pre .0 .shaped) _
-    _ _ _ (c .fill-cells .ensures)
+    ap length (c .fill-cells .ensures)
+    ∙ cells-count _ _ _ _
     ∙ sym (zeros-count _ maxCardCells (cells-room (c .before .before .before .before)))
 
 again : (c : tie.After-fill-cells)
