@@ -36,10 +36,10 @@ module _ (n : ℕ) where
     digit-count-five d = rw (le-ltb n 10 a, le-ltb n 100 b, le-ltb n 1000 c, le-ltb n 10000 d)
 
 -- the last digit of several
-pub digits-none : (k n : ℕ) → k ≡ 0 → [] ≡ digits k n
+digits-none : (k n : ℕ) → k ≡ 0 → [] ≡ digits k n
 digits-none k n e = ap (λ (m : ℕ). digits m n) (sym e)
 
-pub digits-last : (k n : ℕ) → (k ≡ 0 → ⊥) → digits k n ≡ digits (k - 1) (n / 10) ++ ((48 + n % 10) ∷ [])
+digits-last : (k n : ℕ) → (k ≡ 0 → ⊥) → digits k n ≡ digits (k - 1) (n / 10) ++ ((48 + n % 10) ∷ [])
 digits-last zero n p = absurd (p refl)
 digits-last (suc k) n p = let e : suc k - 1 ≡ k = omega arith in rw e
 

@@ -101,7 +101,7 @@ module _ (h : Header) (s : Shape) (x : CardShape h s) where
   -- it leaves the field written
   module _ (payload field last : List ℕ) (long : length payload ≡ planBytes s) (cells : length field ≡ cellsOf s)
       (leaves : last ≡ encodeLeaves s payload field) where
-    pub field-encoded : last ≡ encodedField (shapeOf h) payload
+    field-encoded : last ≡ encodedField (shapeOf h) payload
     unfolding encodeLeaves
     field-encoded =
         leaves

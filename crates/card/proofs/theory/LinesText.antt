@@ -16,10 +16,10 @@ use Rattle.card.proofs.theory.DecimalText.{digit-count-range}
 use Rattle.card.proofs.theory.LineText.{LineStands, length-line, line-at, at-line, line-inside}
 
 -- the key and the number of a line
-abbrev pub lineKey : NumberLine → List ℕ
+abbrev lineKey : NumberLine → List ℕ
 lineKey l = l .key
 
-abbrev pub lineNumber : NumberLine → ℕ
+abbrev lineNumber : NumberLine → ℕ
 lineNumber l = l .number
 
 -- the length of lines, by the widths of their numbers

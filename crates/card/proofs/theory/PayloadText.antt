@@ -105,7 +105,7 @@ tests-ok s at x =
 hex-count : (s : List ℕ) (at : ℕ) (p : List ℕ) → length s ≡ at + length (payloadText p) → hexCount s at ≡ 2 * length p
 hex-count s at p e = omega (arith, length-payload p)
 
-pub payload-ok : (s : List ℕ) (at : ℕ) (p : List ℕ) → PayloadStands s at p → payloadOk s at ≡ true
+payload-ok : (s : List ℕ) (at : ℕ) (p : List ℕ) → PayloadStands s at p → payloadOk s at ≡ true
 payload-ok s at p x =
     let r = to-parts s at p (x .stands) in
     let n = hex-count s at p (x .ends) in
@@ -127,7 +127,7 @@ pub payload-count : (s : List ℕ) (at : ℕ) → length (payloadOf s at) ≡ he
 unfolding payloadOf payloadByte
 payload-count s at = length-listOf (payloadByte s at) (hexCount s at / 2)
 
-pub payload-read : (s : List ℕ) (at : ℕ) (p : List ℕ) → PayloadStands s at p → payloadOf s at ≡ p
+payload-read : (s : List ℕ) (at : ℕ) (p : List ℕ) → PayloadStands s at p → payloadOf s at ≡ p
 unfolding payloadOf payloadByte
 payload-read s at p x =
     let r = to-parts s at p (x .stands) in

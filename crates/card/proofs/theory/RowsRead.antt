@@ -21,7 +21,7 @@ use Rattle.card.proofs.theory.StandsAt.{StandsAt, key-at, at-key}
 use Rattle.card.proofs.theory.RowText.{RowStands, rows-stand, stand-rows}
 
 -- the byte of cell c of row r
-pub cell-place : (at w r c : ℕ) → c < w → cellPlace at w (r * w + c) ≡ rowStart at w r + 4 + c
+cell-place : (at w r c : ℕ) → c < w → cellPlace at w (r * w + c) ≡ rowStart at w r + 4 + c
 cell-place at w r c l =
     let row : (r * w + c) / w ≡ r = mul-add-div-right (omega arith) r c ∙ omega (arith, div-eq-of-lt l) in
     let column : (r * w + c) % w ≡ c = mul-add-mod-self-right r w c ∙ mod-eq-of-lt l in
