@@ -12,7 +12,7 @@ use Rattle.lattice.specs.Counting.{allBelow}
 use Rattle.lattice.specs.Shape.{maxSide, maxCells}
 use Rattle.codec.proofs.theory.OneByOne.{Passed, passed-all, failed-at}
 use Rattle.card.specs.Text.{rowKey, feed}
-use Rattle.card.specs.Parse.{keyAt, isCellDigit, rowStart, rowOk, rowsOk, cellPlace, cellsOfRows}
+use Rattle.card.specs.Parse.{keyAt, isCellDigit, rowStart, rowOk, rowsOk, cellsOfRows}
 use Rattle.card.proofs.theory.RowsRead.{cellByte}
 use Rattle.card.proofs.theory.StoredFront.{StoredTo, stored-all}
 
