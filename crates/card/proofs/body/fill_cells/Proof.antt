@@ -62,9 +62,10 @@ loop-less c = simp length-set (omega arith)
 
 loop-again : tie.Need-loop-again Inv-loop μ-loop
 loop-again c =
-    let a = c .before .before .before .before .before .before .args in (
+    let here = c .before .before .before in
+    let a = here .before .before .before .args in (
       simp length-set (omega arith),
-      stored-more _ _ _ _ (c .before .before .before .loop .inv .1) _ (c .before .before .loop-test .taken)
+      stored-more _ _ _ _ (here .loop .inv .1) _ (c .before .before .loop-test .taken)
           (cell-byte (a .text .now) (a .at) (a .width) _ _ _ (c .before .byte-at .ensures) (c .cell-value .ensures)),
     )
 

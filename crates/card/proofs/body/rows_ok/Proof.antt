@@ -21,9 +21,9 @@ inside : (c : tie.In-loop Inv-loop μ-loop)
     → let a = c .before .before .before .before .before .args in
     a .at + c .before .loop .r * (a .columns + 5) ≤ length (a .text .now)
 inside c =
-    let a = c .before .before .before .before .before .args in
-    row-inside (a .text .now) (a .at) (a .columns) (a .rows) (c .before .before .before .if1 .left) (c .before .before .if2 .left)
-    _ (c .loop-test .taken)
+    let two = c .before .before in
+    let a = two .before .before .before .args in
+    row-inside (a .text .now) (a .at) (a .columns) (a .rows) (two .before .if1 .left) (two .if2 .left) _ (c .loop-test .taken)
 
 returns : tie.Need-returns Inv-loop μ-loop
 returns c = rows-behind _ _ _ _ (c .if1 .taken)
@@ -61,8 +61,8 @@ returns-3 : tie.Need-returns-3 Inv-loop μ-loop
 returns-3 c =
     let two = c .before .before .before .before in
     let a = two .before .before .before .args in
-    rows-fail (a .text .now) (a .at) (a .columns) (a .rows) (two .before .if1 .left) (two .if2 .left)
-    _ (c .before .before .loop-test .taken)
+    rows-fail (a .text .now) (a .at) (a .columns) (a .rows) (two .before .if1 .left) (two .if2 .left) _
+    (c .before .before .loop-test .taken)
     (failed _ _ (c .if3 .taken) (row-moved _ _ _ _ _ (c .before .row-ok .ensures)))
 
 add-r : tie.Need-add-r Inv-loop μ-loop
@@ -80,9 +80,11 @@ loop-again c = (
 
 returns-4 : tie.Need-returns-4 Inv-loop μ-loop
 returns-4 c =
-    let a = c .before .before .before .before .before .args in
-    rows-pass (a .text .now) (a .at) (a .columns) (a .rows) (c .before .before .before .if1 .left)
-    (c .before .before .if2 .left) _ (c .before .loop .inv .1) (c .before .loop .inv .0) (c .loop-test .left)
+    let two = c .before .before in
+    let a = two .before .before .before .args in
+    let turn = c .before .loop in
+    rows-pass (a .text .now) (a .at) (a .columns) (a .rows) (two .before .if1 .left) (two .if2 .left) _
+    (turn .inv .1) (turn .inv .0) (c .loop-test .left)
 
 pub rows-ok-spec : {M : Type 1} → statement M
 rows-ok-spec =

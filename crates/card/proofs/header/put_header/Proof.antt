@@ -52,9 +52,9 @@ loop-less c = omega arith
 
 loop-again : tie.Need-loop-again Inv-loop μ-loop
 loop-again c =
-    let a = c .before .before .before .before .before .before in
-    writing-more headerKeys (a .header-numbers .result) (count a) (room a) (c .before .before .before .before .before .loop .inv)
-    (c .before .before .before .before .loop-test .taken)
+    let test = c .before .before .before .before in
+    let a = test .before .before in
+    writing-more headerKeys (a .header-numbers .result) (count a) (room a) (test .before .loop .inv) (test .loop-test .taken)
     (c .before .before .put-line-of .ensures)
 
 same-length : tie.Need-same-length Inv-loop μ-loop

@@ -23,8 +23,9 @@ is-digit-requires c κs = tt
 
 returns : tie.Need-returns Inv-loop μ-loop
 returns c =
-    run-ends _ _ _ _ (c .before .before .before .before .loop .inv .1) (c .before .before .before .loop-test .taken)
-    (c .before .before .byte-at .ensures) (failed _ _ (c .if1 .taken) (c .before .is-digit .ensures))
+    let test = c .before .before .before in
+    run-ends _ _ _ _ (test .before .loop .inv .1) (test .loop-test .taken) (c .before .before .byte-at .ensures)
+    (failed _ _ (c .if1 .taken) (c .before .is-digit .ensures))
 
 add-k : tie.Need-add-k Inv-loop μ-loop
 add-k c = omega arith

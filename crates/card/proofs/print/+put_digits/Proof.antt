@@ -45,10 +45,10 @@ put-digits-put-digits-requires : (t : ℕ) → put-digits-lts.Need-put-digits-re
   put-byte-reads.Asked,
   put-byte-reads.Learnt,
 ) (put-digits-at t) put-digits.Post
-put-digits-put-digits-requires t c κs = (
-  omega (arith, c .before .if1 .left, c .before .before .before .pre .0),
-  digits-room _ _ (c .before .before .before .pre .1) (c .before .if1 .left),
-)
+put-digits-put-digits-requires t c κs =
+    let some = c .before in
+    let e = some .before .before in
+    (omega (arith, some .if1 .left, e .pre .0), digits-room _ _ (e .pre .1) (some .if1 .left))
 
 put-digits-cast-put-byte : (t : ℕ) → put-digits-lts.Need-cast-put-byte (
   put-digits-below t,
@@ -73,8 +73,9 @@ put-digits-put-byte-requires : (t : ℕ) → put-digits-lts.Need-put-byte-requir
   put-byte-reads.Learnt,
 ) (put-digits-at t) put-digits.Post
 put-digits-put-byte-requires t c κs =
-    last-room _ _ (c .before .before .before .before .before .before .before .pre .1)
-    (c .before .before .before .before .before .if1 .left) (c .before .before .before .put-digits .ensures)
+    let others = c .before .before .before in
+    let some = others .before .before in
+    last-room _ _ (some .before .before .pre .1) (some .if1 .left) (others .put-digits .ensures)
 
 put-digits-same-length : (t : ℕ) → put-digits-lts.Need-same-length (
   put-digits-below t,
@@ -91,9 +92,9 @@ put-digits-returns-2 : (t : ℕ) → put-digits-lts.Need-returns-2 (
   put-byte-reads.Learnt,
 ) (put-digits-at t) put-digits.Post
 put-digits-returns-2 t c =
-    digits-printed _ _ (c .before .before .before .before .before .before .before .before .before .before .pre .1)
-    (c .before .before .before .before .before .before .before .before .if1 .left)
-    (c .before .before .before .before .before .before .put-digits .ensures)
+    let others = c .before .before .before .before .before .before in
+    let some = others .before .before in
+    digits-printed _ _ (some .before .before .pre .1) (some .if1 .left) (others .put-digits .ensures)
     (c .before .before .put-byte .ensures)
 
 pub +put-digits-spec : {M : Type 1} → statement M

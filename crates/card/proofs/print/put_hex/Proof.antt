@@ -54,20 +54,22 @@ loop-less : tie.Need-loop-less Inv-loop μ-loop
 loop-less c = omega arith
 
 loop-again : tie.Need-loop-again Inv-loop μ-loop
-loop-again c = (
-  omega arith,
-  hex-more (c .before .before .before .before .before .before .before .pre)
-      (c .before .before .before .before .loop .inv .1) (c .before .before .before .loop-test .taken) _ _ _ refl
-      (c .before .hex-digit .ensures) (c .hex-digit2 .ensures),
-)
+loop-again c =
+    let test = c .before .before .before in (
+      omega arith,
+      hex-more (test .before .before .before .before .pre) (test .before .loop .inv .1) (test .loop-test .taken) _ _ _ refl
+          (c .before .hex-digit .ensures) (c .hex-digit2 .ensures),
+    )
 
 same-length : tie.Need-same-length Inv-loop μ-loop
-same-length c = hex-long (c .before .before .before .before .pre) (c .before .loop .inv .1) (c .before .loop .inv .0)
+same-length c =
+    let turn = c .before .loop in
+    hex-long (c .before .before .before .before .pre) (turn .inv .1) (turn .inv .0)
 
 returns : tie.Need-returns Inv-loop μ-loop
 returns c =
-    hex-all (c .before .before .before .before .pre) (c .before .loop .inv .1) (c .before .loop .inv .0)
-    (c .loop-test .left)
+    let turn = c .before .loop in
+    hex-all (c .before .before .before .before .pre) (turn .inv .1) (turn .inv .0) (c .loop-test .left)
 
 pub put-hex-spec : {M : Type 1} → statement M
 put-hex-spec =

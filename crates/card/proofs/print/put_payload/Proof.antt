@@ -15,27 +15,27 @@ put-bytes-requires c κs =
 
 put-hex-requires : tie.Need-put-hex-requires
 put-hex-requires c κs =
-    let e = c .before .before .before .before .before .before .before .before in
-    value-room _ _ (payload-parts (e .args .payload .now)) (e .pre) (c .before .before .before .put-bytes .ensures)
+    let key = c .before .before .before in
+    let e = key .before .before .before .before .before in
+    value-room _ _ (payload-parts (e .args .payload .now)) (e .pre) (key .put-bytes .ensures)
 
 put-byte-requires : tie.Need-put-byte-requires
 put-byte-requires c κs =
-    let e = c .before .before .before .before .before .before .before .before .before .before .before .before in
-    feed-room _ _ (payload-parts (e .args .payload .now)) (e .pre)
-    (c .before .before .before .before .before .before .before .put-bytes .ensures)
-    (c .before .before .before .put-hex .ensures)
+    let digits = c .before .before .before in
+    let key = digits .before .before .before .before in
+    let e = key .before .before .before .before .before in
+    feed-room _ _ (payload-parts (e .args .payload .now)) (e .pre) (key .put-bytes .ensures) (digits .put-hex .ensures)
 
 same-length : tie.Need-same-length
 same-length c = search needs
 
 returns : tie.Need-returns
 returns c =
-    let e =
-    c .before .before .before .before .before .before .before .before .before .before .before .before .before
-    .before .before in
-    line-printed _ _ (payload-parts (e .args .payload .now)) (e .pre)
-    (c .before .before .before .before .before .before .before .before .before .before .put-bytes .ensures)
-    (c .before .before .before .before .before .before .put-hex .ensures) (c .before .before .put-byte .ensures)
+    let digits = c .before .before .before .before .before .before in
+    let key = digits .before .before .before .before in
+    let e = key .before .before .before .before .before in
+    line-printed _ _ (payload-parts (e .args .payload .now)) (e .pre) (key .put-bytes .ensures) (digits .put-hex .ensures)
+    (c .before .before .put-byte .ensures)
 
 pub put-payload-spec : {M : Type 1} → statement M
 put-payload-spec =

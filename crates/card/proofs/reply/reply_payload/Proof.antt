@@ -58,16 +58,16 @@ put-head-requires c κs = search needs
 
 put-payload-requires : tie.Need-put-payload-requires
 put-payload-requires c κs =
-    rest-room _ _ _ _ (room (c .before .before .before .before .before .before))
-    (c .before .before .before .put-head .ensures)
+    let head = c .before .before .before in
+    rest-room _ _ _ _ (room (head .before .before .before)) (head .put-head .ensures)
 
 same-length : tie.Need-same-length
 same-length c = search needs
 
 returns-2 : tie.Need-returns-2
 returns-2 c =
-    success-answered _ _ _ _ (room (c .before .before .before .before .before .before .before .before .before))
-    (c .before .before .before .before .before .before .put-head .ensures)
+    let head = c .before .before .before .before .before .before in
+    success-answered _ _ _ _ (room (head .before .before .before)) (head .put-head .ensures)
     (c .before .before .put-payload .ensures)
 
 pub reply-payload-spec : {M : Type 1} → statement M
