@@ -58,8 +58,8 @@ all-hex-requires c κs = search needs
 returns-5 : tie.Need-returns-5
 returns-5 c =
     let two = c .before .before .before .before in
-    payload-digits _ _ (key (two .before)) (two .if2 .left) (c .before .before .if3 .left) (c .before .if4 .left)
-    _ (c .all-hex .ensures)
+    payload-digits _ _ (key (two .before)) (two .if2 .left) (c .before .before .if3 .left)
+    (c .before .if4 .left) _ (c .all-hex .ensures)
 
 pub payload-ok-spec : {M : Type 1} → statement M
 payload-ok-spec =

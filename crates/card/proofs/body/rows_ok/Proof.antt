@@ -62,8 +62,7 @@ returns-3 c =
     let two = c .before .before .before .before in
     let a = two .before .before .before .args in
     rows-fail (a .text .now) (a .at) (a .columns) (a .rows) (two .before .if1 .left) (two .if2 .left) _
-    (c .before .before .loop-test .taken)
-    (failed _ _ (c .if3 .taken) (row-moved _ _ _ _ _ (c .before .row-ok .ensures)))
+    (c .before .before .loop-test .taken) (failed _ _ (c .if3 .taken) (row-moved _ _ _ _ _ (c .before .row-ok .ensures)))
 
 add-r : tie.Need-add-r Inv-loop μ-loop
 add-r c = omega arith

@@ -54,8 +54,8 @@ loop-again : tie.Need-loop-again Inv-loop μ-loop
 loop-again c =
     let test = c .before .before .before .before in
     let a = test .before .before in
-    writing-more headerKeys (a .header-numbers .result) (count a) (room a) (test .before .loop .inv) (test .loop-test .taken)
-    (c .before .before .put-line-of .ensures)
+    writing-more headerKeys (a .header-numbers .result) (count a) (room a)
+    (test .before .loop .inv) (test .loop-test .taken) (c .before .before .put-line-of .ensures)
 
 same-length : tie.Need-same-length Inv-loop μ-loop
 same-length c =

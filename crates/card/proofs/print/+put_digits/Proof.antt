@@ -58,8 +58,8 @@ put-digits-returns-2 : (t : ℕ) → put-digits-lts.Need-returns-2 (claims t) (p
 put-digits-returns-2 t c =
     let others = c .before .before .before .before .before .before in
     let some = others .before .before in
-    digits-printed _ _ (some .before .before .pre .1) (some .if1 .left) (others .put-digits .ensures)
-    (c .before .before .put-byte .ensures)
+    digits-printed _ _ (some .before .before .pre .1)
+    (some .if1 .left) (others .put-digits .ensures) (c .before .before .put-byte .ensures)
 
 pub +put-digits-spec : {M : Type 1} → statement M
 +put-digits-spec =

@@ -62,9 +62,9 @@ same-length c =
 
 returns : tie.Need-returns Inv-loop μ-loop
 returns c =
+    let turn = c .before .loop in
     let e = c .before .before in
-    prefix-all (e .pre .0) _ _ (length-cells (e .args .cells .now)) (c .before .loop .inv .0) (c .loop-test .left)
-    (c .before .loop .inv .1)
+    prefix-all (e .pre .0) _ _ (length-cells (e .args .cells .now)) (turn .inv .0) (c .loop-test .left) (turn .inv .1)
 
 pub put-cells-spec : {M : Type 1} → statement M
 put-cells-spec =

@@ -34,8 +34,8 @@ returns c =
     let digits = c .before .before .before .before .before .before in
     let key = digits .before .before .before .before in
     let e = key .before .before .before .before .before in
-    line-printed _ _ (payload-parts (e .args .payload .now)) (e .pre) (key .put-bytes .ensures) (digits .put-hex .ensures)
-    (c .before .before .put-byte .ensures)
+    line-printed _ _ (payload-parts (e .args .payload .now)) (e .pre)
+    (key .put-bytes .ensures) (digits .put-hex .ensures) (c .before .before .put-byte .ensures)
 
 pub put-payload-spec : {M : Type 1} → statement M
 put-payload-spec =

@@ -34,8 +34,8 @@ returns c =
     let digits = c .before .before .before .before .before .before in
     let key = digits .before .before .before .before in
     let e = key .before .before .before .before .before in
-    line-printed _ _ (row-parts (e .args .cells .now)) (e .pre .0) (key .put-bytes .ensures) (digits .put-cells .ensures)
-    (c .before .before .put-byte .ensures)
+    line-printed _ _ (row-parts (e .args .cells .now)) (e .pre .0)
+    (key .put-bytes .ensures) (digits .put-cells .ensures) (c .before .before .put-byte .ensures)
 
 pub put-row-spec : {M : Type 1} → statement M
 put-row-spec =

@@ -64,23 +64,23 @@ loop-again c =
     let here = c .before .before .before .before .before in
     let e = here .before .before .before .before in (
       omega arith,
-      row-printed _ _ _ (e .pre .1 .1) (e .pre .0) _ (here .loop-test .taken) (here .before .loop .inv .1)
-          (c .before .before .put-row .ensures),
+      row-printed _ _ _ (e .pre .1 .1) (e .pre .0) _ (here .loop-test .taken)
+          (here .before .loop .inv .1) (c .before .before .put-row .ensures),
     )
 
 same-length : tie.Need-same-length Inv-loop μ-loop
 same-length c =
+    let turn = c .before .loop in
     let e = c .before .before .before .before in
     let a = e .args in
-    rows-long (a .width) (a .lines) (a .cells .now) (e .pre .1 .1) (e .pre .0) _ (c .before .loop .inv .0)
-    (c .before .loop .inv .1)
+    rows-long (a .width) (a .lines) (a .cells .now) (e .pre .1 .1) (e .pre .0) _ (turn .inv .0) (turn .inv .1)
 
 returns : tie.Need-returns Inv-loop μ-loop
 returns c =
+    let turn = c .before .loop in
     let e = c .before .before .before .before in
     let a = e .args in
-    rows-all (a .width) (a .lines) (a .cells .now) (e .pre .1 .1) (e .pre .0) _ (c .before .loop .inv .0)
-    (c .loop-test .left) (c .before .loop .inv .1)
+    rows-all (a .width) (a .lines) (a .cells .now) (e .pre .1 .1) (e .pre .0) _ (turn .inv .0) (c .loop-test .left) (turn .inv .1)
 
 pub put-rows-spec : {M : Type 1} → statement M
 put-rows-spec =

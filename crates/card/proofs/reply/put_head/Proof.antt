@@ -18,8 +18,8 @@ same-length c = search needs
 returns : tie.Need-returns
 returns c =
     let lines = c .before .before .before .before .before .before in
-    head-printed _ _ _ (lines .before .before .before .before .pre) (lines .put-header .ensures)
-    (c .before .before .put-number-line .ensures)
+    head-printed _ _ _ (lines .before .before .before .before .pre)
+    (lines .put-header .ensures) (c .before .before .put-number-line .ensures)
 
 pub put-head-spec : {M : Type 1} → statement M
 put-head-spec =

@@ -35,9 +35,9 @@ unfolding refusalText
 returns-2 c =
     let one = c .before .before .before .before .before in
     let long = one .before in
+    let room = room-front _ _ _ (long .number-line-length .ensures) (one .if1 .left) in
     answered-same (ap refusalText (long .before .before .number .ensures))
-    (answered-printed (room-front _ _ _ (long .number-line-length .ensures) (one .if1 .left))
-    (c .before .before .put-number-line .ensures))
+    (answered-printed room (c .before .before .put-number-line .ensures))
 
 pub refuse-spec : {M : Type 1} → statement M
 refuse-spec =

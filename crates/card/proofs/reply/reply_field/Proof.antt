@@ -79,8 +79,8 @@ returns-2 c =
     let head = c .before .before .before .before .before .before in
     let one = head .before .before .before in
     let a = one .before .before .before .before .before .before .args in
-    success-answered _ _ _ (fieldText (a .header) (a .cells .now)) (room one) (head .put-head .ensures)
-    (c .before .before .put-rows .ensures)
+    success-answered _ _ _ (fieldText (a .header) (a .cells .now))
+    (room one) (head .put-head .ensures) (c .before .before .put-rows .ensures)
 
 pub reply-field-spec : {M : Type 1} → statement M
 reply-field-spec =

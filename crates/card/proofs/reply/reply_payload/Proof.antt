@@ -67,8 +67,8 @@ same-length c = search needs
 returns-2 : tie.Need-returns-2
 returns-2 c =
     let head = c .before .before .before .before .before .before in
-    success-answered _ _ _ _ (room (head .before .before .before)) (head .put-head .ensures)
-    (c .before .before .put-payload .ensures)
+    success-answered _ _ _ _ (room (head .before .before .before))
+    (head .put-head .ensures) (c .before .before .put-payload .ensures)
 
 pub reply-payload-spec : {M : Type 1} → statement M
 reply-payload-spec =

@@ -17,10 +17,10 @@ read c =
     let shape = c .before .before .before in
     let made = shape .before .before in
     let e = made .before .before .before in
+    let given = shape .shape .given .1 in
     record {
       header = e .pre;
-      shaped = new-card (e .args .header) _ (made .new .ensures .0) _ (shape .shape .given .1) _ (c .before .cells .ensures)
-          (c .if1 .left);
+      shaped = new-card (e .args .header) _ (made .new .ensures .0) _ given _ (c .before .cells .ensures) (c .if1 .left);
     }
 
 new-requires : tie.Need-new-requires
