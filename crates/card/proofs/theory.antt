@@ -5,14 +5,14 @@ pub mod StandsAt
 pub mod ByteTests
 pub mod Digits
 pub mod DecimalText
-mod NumberText
+pub mod NumberText
 pub mod LineText
 pub mod LinesText
 pub mod HexText
 pub mod PayloadText
 pub mod CellDigits
 pub mod RowText
-mod RowsRead
+pub mod RowsRead
 pub mod FieldText
 -- the header, and what follows it
 pub mod HeaderText
@@ -26,7 +26,7 @@ pub mod CardPlan
 pub mod ProgramParts
 mod RefusalConditions
 pub mod ProgramTests
-mod Passed
+mod TakenInput
 mod AnswerLength
 pub mod Forms
 pub mod PrintedRows

@@ -29,13 +29,13 @@ abbrev pub shapeOf : Header → Shape
 shapeOf h = shapeFrom (h .numbers)
 
 -- the numbers of lines have at most five digits
-abbrev pub SmallLines : List NumberLine → Type 0
-SmallLines [] = Unit {0}
-SmallLines (l ∷ ls) = (l .number < 100000) × SmallLines ls
+abbrev pub FewDigitsEach : List NumberLine → Type 0
+FewDigitsEach [] = Unit {0}
+FewDigitsEach (l ∷ ls) = (l .number < 100000) × FewDigitsEach ls
 
 -- the header's numbers have at most five digits
-abbrev pub Small : Header → Type 0
-Small h = SmallLines (headerLines h)
+abbrev pub FewDigits : Header → Type 0
+FewDigits h = FewDigitsEach (headerLines h)
 
 -- a header whose shape is accepted, with at most 16,384 cells
 pub record CardHeader (h : Header) : Type 0 where

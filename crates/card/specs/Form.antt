@@ -14,14 +14,14 @@ use Rattle.codec.specs.Conditions.{WrongPayloadLength, NoneInReach}
 use Rattle.codec.specs.Reach.{WrongInReach}
 use Rattle.card.specs.declared.header.Header.{Header}
 use Rattle.card.specs.Text.{headerText, payloadText, fieldText, refusalText}
-use Rattle.card.specs.Card.{maxInput, maxCardCells, shapeOf, Small, CardHeader, FieldCells, payloadCard, fieldCard}
+use Rattle.card.specs.Card.{maxInput, maxCardCells, shapeOf, FewDigits, CardHeader, FieldCells, payloadCard, fieldCard}
 use Rattle.card.specs.Program.{programNumber, writtenText, readText, answer}
 
 -- the input is the text of a header, followed by anything
 pub record HeaderFirst (s : List ℕ) : Type 0 where
   pub header : Header
   pub rest : List ℕ
-  pub small : Small header
+  pub small : FewDigits header
   pub text : s ≡ headerText header ++ rest
 
 -- the rest is the text of one payload, or of the rows that the header asks for

@@ -1,4 +1,5 @@
--- What the crate `card` promises: the text of a card and of an answer, how a card text is read, and the statements of its theorems.
+-- What the crate `card` promises: the text of a card and of an answer, how a card text is read, and the statements of its
+-- theorems.
 
 -- definitions
 pub mod Text

@@ -123,5 +123,5 @@ unfoldable pub rowsOk : List ℕ → ℕ → ℕ → ℕ → Bool
 rowsOk s at w k = eqb (length s) (rowStart at w k) && allBelow (rowOk s at w) k
 
 -- the cells of those rows
-unfoldable pub cellsAt : List ℕ → ℕ → ℕ → ℕ → List ℕ
-cellsAt s at w n = listOf (λ i. getD s (cellPlace at w i) 0 - 48) n
+unfoldable pub cellsOfRows : List ℕ → ℕ → ℕ → ℕ → List ℕ
+cellsOfRows s at w n = listOf (λ i. getD s (cellPlace at w i) 0 - 48) n

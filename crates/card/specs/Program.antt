@@ -14,7 +14,7 @@ use Rattle.card.specs.declared.header.HeaderAnswer.{HeaderAnswer}
 use Rattle.card.specs.declared.header.HeaderAnswer.the-variants as head
 use Rattle.card.specs.Text.{numberLine, headerText, payloadText, fieldText, refusalText, classesKey, mendedKey, payloadKey}
 use Rattle.card.specs.Card.{maxInput, maxCardCells, shapeOf}
-use Rattle.card.specs.Parse.{headerOf, keyAt, payloadOk, payloadOf, rowsOk, cellsAt}
+use Rattle.card.specs.Parse.{headerOf, keyAt, payloadOk, payloadOf, rowsOk, cellsOfRows}
 
 -- the buffers that the program lends: a field and a payload of the plan's lengths, all 0
 abbrev pub blankField : Header → List ℕ
@@ -31,7 +31,7 @@ abbrev pub rowsFit : List ℕ → Header → ℕ → Bool
 rowsFit s h next = rowsOk s next (h .numbers .columns) (h .numbers .planes * h .numbers .rows)
 
 abbrev pub cellsIn : List ℕ → Header → ℕ → List ℕ
-cellsIn s h next = cellsAt s next (h .numbers .columns) (cellsOf (shapeOf h))
+cellsIn s h next = cellsOfRows s next (h .numbers .columns) (cellsOf (shapeOf h))
 
 -- the form of the lines after the header is right
 unfoldable pub bodyOk : List ℕ → Header → ℕ → Bool

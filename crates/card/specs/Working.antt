@@ -29,7 +29,7 @@ pub record CellsFit (s : List ℕ) (at w : ℕ) (field : List ℕ) : Type 0 wher
   pub cells : length field ≤ maxCells
 
 -- a text has room in a buffer from `at` on
-pub record Room (buffer : List ℕ) (at : ℕ) (text : List ℕ) : Type 0 where
+pub record HasRoom (buffer : List ℕ) (at : ℕ) (text : List ℕ) : Type 0 where
   pub fits : at + length text ≤ length buffer
 
 -- a text has been written into a buffer at `at`; the other bytes are as they were, and `next` is the position behind the text

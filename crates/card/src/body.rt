@@ -6,7 +6,7 @@ ghost use lib.ListN.{length, getD};
 ghost use Rattle.lattice.specs.Counting.{allBelow};
 ghost use Rattle.card.specs.Text.{payloadKey};
 ghost use Rattle.card.specs.Parse.{keyAt, isHex, hexValue, hexCount, payloadOk, payloadOf, isCellDigit, rowOk, rowsOk};
-ghost use Rattle.card.specs.Parse.{cellsAt};
+ghost use Rattle.card.specs.Parse.{cellsOfRows};
 ghost use Rattle.card.specs.Working.{CellsFit};
 use crate::scan::byte_at;
 use crate::scan::key_at;
@@ -175,7 +175,7 @@ fn cell_value(byte: u8) -> u8
 // Stores the cells of rows of that width.
 pub(crate) fn fill_cells(text: &[u8], at: usize, width: usize, field: &mut [u8])
     requires { ⌜ CellsFit (now text) at width (now field) ⌝ }
-    ensures { λ _. ⌜ now (field .exit) ≡ cellsAt (now (text .entry)) at width (length (now (field .entry))) ⌝ }
+    ensures { λ _. ⌜ now (field .exit) ≡ cellsOfRows (now (text .entry)) at width (length (now (field .entry))) ⌝ }
 {
     let mut i = 0;
     while i < field.len() {

@@ -3,7 +3,7 @@ ghost use mathlib.Core.Path.{_≡_};
 ghost use lib.ListN.{length};
 ghost use Rattle.card.specs.Text.{headerNumbers, headerFrom, headerText};
 ghost use Rattle.card.specs.Parse.{headerOf};
-ghost use Rattle.card.specs.Working.{Room, Printed};
+ghost use Rattle.card.specs.Working.{HasRoom, Printed};
 use crate::keys::KEY_BYTES;
 use crate::keys::LINES;
 use crate::keys::line_of;
@@ -64,7 +64,7 @@ pub fn parse_header(text: &[u8]) -> HeaderAnswer
 
 // Writes the first lines.
 pub(crate) fn put_header(out: &mut [u8], at: usize, header: Header) -> usize
-    requires { ⌜ Room (now out) at (headerText header) ⌝ }
+    requires { ⌜ HasRoom (now out) at (headerText header) ⌝ }
     ensures { λ r. ⌜ Printed (now (out .entry)) (now (out .exit)) at (headerText header) r ⌝ }
 {
     let numbers = header_numbers(header);

@@ -5,7 +5,7 @@ ghost use Prim.Native.Nat.{_<_, _≤_};
 ghost use lib.ListN.{length, getD};
 ghost use Rattle.card.specs.Text.{headerKeys, numberLine};
 ghost use Rattle.card.specs.Parse.{lineAt};
-ghost use Rattle.card.specs.Working.{joined, Room, Printed};
+ghost use Rattle.card.specs.Working.{joined, HasRoom, Printed};
 use crate::line::Line;
 use crate::line::line_at;
 use crate::print::put_number_line;
@@ -41,7 +41,7 @@ pub(crate) fn line_of(i: usize, text: &[u8], at: usize) -> Line
 
 // Writes the line with the key of an index.
 pub(crate) fn put_line_of(out: &mut [u8], at: usize, i: usize, n: usize) -> usize
-    requires { ⌜ (i < length headerKeys) × Room (now out) at (numberLine (getD headerKeys i []) n) ⌝ }
+    requires { ⌜ (i < length headerKeys) × HasRoom (now out) at (numberLine (getD headerKeys i []) n) ⌝ }
     ensures { λ r. ⌜ Printed (now (out .entry)) (now (out .exit)) at (numberLine (getD headerKeys i []) n) r ⌝ }
 {
     let keys = KEYS;

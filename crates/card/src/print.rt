@@ -6,11 +6,11 @@ ghost use lib.ListN.{length};
 ghost use Rattle.codec.specs.Field.{fieldOf, Received};
 ghost use Rattle.card.specs.Text.{digits, digitCount, numberLine, hexDigit, hexText, payloadText, cellsText, rowText};
 ghost use Rattle.card.specs.Text.{rowsText};
-ghost use Rattle.card.specs.Working.{Room, Printed};
+ghost use Rattle.card.specs.Working.{HasRoom, Printed};
 
 // Writes one byte.
 fn put_byte(out: &mut [u8], at: usize, byte: u8) -> usize
-    requires { ⌜ Room (now out) at (byte ∷ []) ⌝ }
+    requires { ⌜ HasRoom (now out) at (byte ∷ []) ⌝ }
     ensures { λ r. ⌜ Printed (now (out .entry)) (now (out .exit)) at (byte ∷ []) r ⌝ }
 {
     out[at] = byte;
@@ -19,7 +19,7 @@ fn put_byte(out: &mut [u8], at: usize, byte: u8) -> usize
 
 // Writes the bytes given.
 fn put_bytes(out: &mut [u8], at: usize, text: &[u8]) -> usize
-    requires { ⌜ Room (now out) at (now text) ⌝ }
+    requires { ⌜ HasRoom (now out) at (now text) ⌝ }
     ensures { λ r. ⌜ Printed (now (out .entry)) (now (out .exit)) at (now (text .entry)) r ⌝ }
 {
     let mut i = 0;
@@ -48,7 +48,7 @@ fn digit_count(n: usize) -> usize
 
 // Writes the last k decimal digits of a number.
 fn put_digits(out: &mut [u8], at: usize, k: usize, n: usize) -> usize
-    requires { ⌜ Room (now out) at (digits k n) ⌝ }
+    requires { ⌜ HasRoom (now out) at (digits k n) ⌝ }
     ensures { λ r. ⌜ Printed (now (out .entry)) (now (out .exit)) at (digits k n) r ⌝ }
 {
     if k == 0 {
@@ -60,7 +60,7 @@ fn put_digits(out: &mut [u8], at: usize, k: usize, n: usize) -> usize
 
 // Writes a line key=number.
 pub(crate) fn put_number_line(out: &mut [u8], at: usize, key: &[u8], n: usize) -> usize
-    requires { ⌜ Room (now out) at (numberLine (now key) n) ⌝ }
+    requires { ⌜ HasRoom (now out) at (numberLine (now key) n) ⌝ }
     ensures { λ r. ⌜ Printed (now (out .entry)) (now (out .exit)) at (numberLine (now (key .entry)) n) r ⌝ }
 {
     let number = put_bytes(out, at, key);
@@ -85,7 +85,7 @@ fn hex_digit(value: u8) -> u8
 
 // Writes bytes in hexadecimal.
 fn put_hex(out: &mut [u8], at: usize, payload: &[u8]) -> usize
-    requires { ⌜ Room (now out) at (hexText (now payload)) ⌝ }
+    requires { ⌜ HasRoom (now out) at (hexText (now payload)) ⌝ }
     ensures { λ r. ⌜ Printed (now (out .entry)) (now (out .exit)) at (hexText (now (payload .entry))) r ⌝ }
 {
     let mut next = at;
@@ -102,7 +102,7 @@ fn put_hex(out: &mut [u8], at: usize, payload: &[u8]) -> usize
 
 // Writes the line `payload`.
 pub(crate) fn put_payload(out: &mut [u8], at: usize, payload: &[u8]) -> usize
-    requires { ⌜ Room (now out) at (payloadText (now payload)) ⌝ }
+    requires { ⌜ HasRoom (now out) at (payloadText (now payload)) ⌝ }
     ensures { λ r. ⌜ Printed (now (out .entry)) (now (out .exit)) at (payloadText (now (payload .entry))) r ⌝ }
 {
     let digits = put_bytes(out, at, b"payload=");
@@ -112,7 +112,7 @@ pub(crate) fn put_payload(out: &mut [u8], at: usize, payload: &[u8]) -> usize
 
 // Writes the digits of cells.
 fn put_cells(out: &mut [u8], at: usize, cells: &[u8]) -> usize
-    requires { ⌜ Room (now out) at (cellsText (now cells)) ⌝ }
+    requires { ⌜ HasRoom (now out) at (cellsText (now cells)) ⌝ }
     requires { ⌜ Received (fieldOf (now cells)) (length (now cells)) ⌝ }
     ensures { λ r. ⌜ Printed (now (out .entry)) (now (out .exit)) at (cellsText (now (cells .entry))) r ⌝ }
 {
@@ -126,7 +126,7 @@ fn put_cells(out: &mut [u8], at: usize, cells: &[u8]) -> usize
 
 // Writes a line `row`.
 fn put_row(out: &mut [u8], at: usize, cells: &[u8]) -> usize
-    requires { ⌜ Room (now out) at (rowText (now cells)) ⌝ }
+    requires { ⌜ HasRoom (now out) at (rowText (now cells)) ⌝ }
     requires { ⌜ Received (fieldOf (now cells)) (length (now cells)) ⌝ }
     ensures { λ r. ⌜ Printed (now (out .entry)) (now (out .exit)) at (rowText (now (cells .entry))) r ⌝ }
 {
@@ -137,7 +137,7 @@ fn put_row(out: &mut [u8], at: usize, cells: &[u8]) -> usize
 
 // Writes rows of cells, plane after plane.
 pub(crate) fn put_rows(out: &mut [u8], at: usize, width: usize, lines: usize, cells: &[u8]) -> usize
-    requires { ⌜ Room (now out) at (rowsText width lines (now cells)) ⌝ }
+    requires { ⌜ HasRoom (now out) at (rowsText width lines (now cells)) ⌝ }
     requires { ⌜ Received (fieldOf (now cells)) (length (now cells)) ⌝ }
     requires { ⌜ length (now cells) ≡ lines * width ⌝ }
     ensures { λ r. ⌜ Printed (now (out .entry)) (now (out .exit)) at (rowsText width lines (now (cells .entry))) r ⌝ }

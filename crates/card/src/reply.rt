@@ -6,7 +6,7 @@ ghost use lib.ListN.{length};
 ghost use Rattle.lattice.specs.Refusal.{refusalNumber};
 ghost use Rattle.card.specs.Text.{classesKey, mendedKey, payloadText, fieldText, refusalText};
 ghost use Rattle.card.specs.Card.{maxCardBytes, FieldCells, CardHeader};
-ghost use Rattle.card.specs.Working.{Room, Printed, Answered, headText};
+ghost use Rattle.card.specs.Working.{HasRoom, Printed, Answered, headText};
 use crate::header::Header;
 use crate::header::header_length;
 use crate::header::put_header;
@@ -38,7 +38,7 @@ fn head_length(header: Header, key: &[u8], n: usize) -> usize
 
 // Writes the first lines and a line key=number behind them.
 fn put_head(out: &mut [u8], header: Header, key: &[u8], n: usize) -> usize
-    requires { ⌜ Room (now out) 0 (headText header (now key) n) ⌝ }
+    requires { ⌜ HasRoom (now out) 0 (headText header (now key) n) ⌝ }
     ensures { λ r. ⌜ Printed (now (out .entry)) (now (out .exit)) 0 (headText header (now (key .entry)) n) r ⌝ }
 {
     let next = put_header(out, 0, header);

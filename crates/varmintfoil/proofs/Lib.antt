@@ -1,1 +1,1 @@
--- The proofs of the functions; their laws are those of placing and coding.
+-- The proofs of the functions. Laws that the operations share stand in their room; the others are those of placing and coding.

@@ -11,7 +11,7 @@ use Rattle.card.specs.declared.line.Line.{Line}
 use Rattle.card.specs.declared.line.Line.the-variants as line
 use Rattle.card.specs.Text.{numberLine, NumberLine, linesText, linesOf}
 use Rattle.card.specs.Parse.{lineAt, LinesRead, read, fault, before, afterLine, linesAt}
-use Rattle.card.specs.Working.{Room, Printed}
+use Rattle.card.specs.Working.{HasRoom, Printed}
 use Rattle.card.proofs.theory.LineText.{at-line, line-inside}
 use Rattle.card.proofs.theory.LinesText.{lines-append}
 use Rattle.card.proofs.theory.Printed.{printed-none, printed-then, printed-long, room-first, room-next}
@@ -94,16 +94,16 @@ pub record Writing (lines : List NumberLine) (xs : List ℕ) (at : ℕ) (ys : Li
   pub printed : Printed xs ys at (linesText (take k lines)) next
 
 module _ {xs : List ℕ} {at : ℕ} (keys : List (List ℕ)) (ns : List ℕ) (count : length ns ≡ length keys)
-    (room : Room xs at (linesText (linesOf keys ns))) where
+    (room : HasRoom xs at (linesText (linesOf keys ns))) where
   pub writing-none : Writing (linesOf keys ns) xs at xs at 0
   writing-none = record { some = omega arith; printed = printed-none xs at (omega (arith, room .fits)) }
 
   -- the lines before index k have room
-  room-of : (k : ℕ) → Room xs at (linesText (take k (linesOf keys ns)))
+  room-of : (k : ℕ) → HasRoom xs at (linesText (take k (linesOf keys ns)))
   room-of k =
       let all = linesOf keys ns in
       let parts = ap linesText (sym (take-append-drop k all)) ∙ lines-append (take k all) (drop k all) in
-      room-first (linesText (drop k all)) (subst (λ (t : List ℕ). Room xs at t) parts room)
+      room-first (linesText (drop k all)) (subst (λ (t : List ℕ). HasRoom xs at t) parts room)
 
   -- the text of one line more
   more : (k : ℕ) → k < length keys
@@ -120,10 +120,10 @@ module _ {xs : List ℕ} {at : ℕ} (keys : List (List ℕ)) (ns : List ℕ) (co
     pub writing-long : length ys ≡ length xs
     writing-long = printed-long (room-of k) (x .printed)
 
-    both : k < length keys → Room xs at (linesText (take k (linesOf keys ns)) ++ numberLine (getD keys k []) (getD ns k 0))
-    both l = subst (λ (t : List ℕ). Room xs at t) (more k l) (room-of (suc k))
+    both : k < length keys → HasRoom xs at (linesText (take k (linesOf keys ns)) ++ numberLine (getD keys k []) (getD ns k 0))
+    both l = subst (λ (t : List ℕ). HasRoom xs at t) (more k l) (room-of (suc k))
 
-    pub line-room : k < length keys → Room ys next (numberLine (getD keys k []) (getD ns k 0))
+    pub line-room : k < length keys → HasRoom ys next (numberLine (getD keys k []) (getD ns k 0))
     line-room l = room-next (both l) (x .printed)
 
     pub writing-more : k < length keys

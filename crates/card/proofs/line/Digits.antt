@@ -9,14 +9,14 @@ use native.Mathlib.Omega.{arith}
 use lib.Dec.{eqb, lit<}
 use lib.ListN.{length, getD}
 use borrow.Author.Count.{below-none, below-more}
-use borrow.Author.Tests.{eq-eqb, ne-eqb, eqb-true}
+use borrow.Author.Tests.{eq-eqb, ne-eqb}
 use Rattle.lattice.specs.Range.{inRange}
-use Rattle.lattice.proofs.theory.Bools.{and-left, and-right}
 use Rattle.lattice.proofs.theory.Limits.{range-low, range-high}
 use Rattle.card.specs.declared.line.Line.{Line}
 use Rattle.card.specs.declared.line.Line.the-variants as line
 use Rattle.card.specs.Parse.{isDigit, digitRun, digitsValue, numberEnds, numberAt, keyAt, lineAt}
 use Rattle.card.proofs.theory.StandsAt.{byte-inside}
+use Rattle.card.proofs.theory.NumberText.{test-ends}
 use Rattle.card.proofs.theory.Digits.{DigitsAt, digits-run, run-digits, value-below}
 
 and-false-right : (a b : Bool) → b ≡ false → (a && b) ≡ false
@@ -28,16 +28,16 @@ module _ (s : List ℕ) (at : ℕ) where
   isDigitAt j = isDigit (getD s (at + j) 0) ≡ true
 
   -- the digits passed
-  pub record Run (k : ℕ) : Type 0 where
+  pub record DigitsRead (k : ℕ) : Type 0 where
     pub each : DigitsAt s at k
 
-  pub run-none : Run 0
+  pub run-none : DigitsRead 0
   run-none = record { each = below-none isDigitAt }
 
-  pub run-more : (k b : ℕ) → Run k → b ≡ getD s (at + k) 0 → isDigit b ≡ true → Run (k + 1)
+  pub run-more : (k b : ℕ) → DigitsRead k → b ≡ getD s (at + k) 0 → isDigit b ≡ true → DigitsRead (k + 1)
   run-more k b p e d = record { each = below-more isDigitAt k (p .each) (rw e at d) }
 
-  pub run-ends : (k b : ℕ) → Run k → k < 6 → b ≡ getD s (at + k) 0 → isDigit b ≡ false → k ≡ digitRun s at 6
+  pub run-ends : (k b : ℕ) → DigitsRead k → k < 6 → b ≡ getD s (at + k) 0 → isDigit b ≡ false → k ≡ digitRun s at 6
   run-ends k b p l e d = sym (digits-run s at k 6 (p .each) (rw e at d) (omega arith))
 
 -- as many digits as are counted
@@ -49,7 +49,7 @@ full s at (suc k) p =
     rw first (omega arith)
 
 module _ (s : List ℕ) (at : ℕ) where
-  pub run-full : (k : ℕ) → Run s at k → k ≤ 6 → 6 ≤ k → k ≡ digitRun s at 6
+  pub run-full : (k : ℕ) → DigitsRead s at k → k ≤ 6 → 6 ≤ k → k ≡ digitRun s at 6
   run-full k p l q =
       let e : k ≡ 6 = le-antisymm l q in
       e ∙ sym (full s at 6 (subst (λ (n : ℕ). DigitsAt s at n) e (p .each)))
@@ -117,16 +117,10 @@ module _ (s : List ℕ) (at k : ℕ) (counted : k ≡ digitRun s at 6) where
 
   module _ (ends : numberEnds s at k ≡ true) where
     pub number-most : k ≤ 5
-    unfolding numberEnds
-    number-most = range-high 1 5 k (and-left (inRange 1 5 k) _ (and-left (digitsEnd s at k) (eqb (getD s (at + k) 0) 10) ends))
+    number-most = test-ends s at k ends .high
 
     pub number-inside : at + k < length s
-    unfolding numberEnds
-    number-inside =
-        byte-inside s (at + k) (λ e.
-        let q : getD s (at + k) 0 ≡ 10 =
-        eqb-true _ 10 (and-right (digitsEnd s at k) (eqb (getD s (at + k) 0) 10) ends) in
-        omega arith)
+    number-inside = byte-inside s (at + k) (λ e. omega (arith, test-ends s at k ends .ended))
 
     pub number-found : (v : ℕ) → v ≡ digitsValue s at k → line.Number v (at + k + 1) ≡ numberAt s at
     unfolding numberAt

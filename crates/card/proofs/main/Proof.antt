@@ -1,3 +1,4 @@
+-- `main` meets its contract: no answer is longer than the output.
 use borrow.Author.Needs.{needs}
 use Prim.Native.Nat.{_≤_}
 use mathlib.Core.Path.{sym}

@@ -6,7 +6,7 @@ use native.Mathlib.Nat.{add-zero, add-assoc}
 use native.Mathlib.Omega.{arith}
 use lib.ListN.{length, getD, set, take}
 use Rattle.card.specs.Text.{hexDigit, hexText}
-use Rattle.card.specs.Working.{Room, Printed}
+use Rattle.card.specs.Working.{HasRoom, Printed}
 use Rattle.card.proofs.theory.HexText.{length-hex, hex-high, hex-low}
 use Rattle.card.proofs.theory.Printed.{prefix-none, prefix-more, prefix-long, prefix-all}
 
@@ -15,7 +15,7 @@ pub record HexPrinted (xs ys : List ℕ) (at : ℕ) (p : List ℕ) (j next : ℕ
   pub printed : Printed xs ys at (take (2 * j) (hexText p)) (at + 2 * j)
   pub behind : next ≡ at + 2 * j
 
-module _ {xs : List ℕ} {at : ℕ} {p : List ℕ} (room : Room xs at (hexText p)) where
+module _ {xs : List ℕ} {at : ℕ} {p : List ℕ} (room : HasRoom xs at (hexText p)) where
   pub hex-none : HexPrinted xs xs at p 0 at
   hex-none = record { printed = prefix-none room; behind = sym (add-zero at) }
 

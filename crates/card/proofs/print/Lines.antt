@@ -9,29 +9,29 @@ use lib.Seq.{getD-take, getD-drop, length-take-le}
 use Rattle.codec.specs.Field.{fieldOf, Received}
 use Rattle.card.specs.Text.{digits, digitCount, decimal, numberLine, payloadKey, hexText, payloadText, rowKey, rowsText}
 use Rattle.card.specs.Text.{feed, cellsText, rowText}
-use Rattle.card.specs.Working.{Room, Printed}
+use Rattle.card.specs.Working.{HasRoom, Printed}
 use Rattle.card.proofs.theory.RowText.{length-rows}
 use Rattle.card.proofs.theory.Printed.{printed-none, printed-then, printed-long, room-first, room-next}
 use Rattle.card.proofs.print.Text.{rows-more}
 
 -- a line of three parts
 module _ {xs : List ℕ} {at : ℕ} {text : List ℕ} (key value : List ℕ)
-    (line : text ≡ key ++ (value ++ (feed ∷ []))) (room : Room xs at text) where
-  whole : Room xs at (key ++ (value ++ (feed ∷ [])))
-  whole = subst (λ (t : List ℕ). Room xs at t) line room
+    (line : text ≡ key ++ (value ++ (feed ∷ []))) (room : HasRoom xs at text) where
+  whole : HasRoom xs at (key ++ (value ++ (feed ∷ [])))
+  whole = subst (λ (t : List ℕ). HasRoom xs at t) line room
 
-  pub key-room : Room xs at key
+  pub key-room : HasRoom xs at key
   key-room = room-first (value ++ (feed ∷ [])) whole
 
   module _ {ys : List ℕ} {m : ℕ} (p : Printed xs ys at key m) where
-    rest : Room ys m (value ++ (feed ∷ []))
+    rest : HasRoom ys m (value ++ (feed ∷ []))
     rest = room-next whole p
 
-    pub value-room : Room ys m value
+    pub value-room : HasRoom ys m value
     value-room = room-first (feed ∷ []) rest
 
     module _ {zs : List ℕ} {k : ℕ} (q : Printed ys zs m value k) where
-      pub feed-room : Room zs k (feed ∷ [])
+      pub feed-room : HasRoom zs k (feed ∷ [])
       feed-room = room-next rest q
 
       pub line-printed : {us : List ℕ} {r : ℕ} → Printed zs us k (feed ∷ []) r → Printed xs us at text r
@@ -53,11 +53,11 @@ row-parts cells = refl
 
 -- rows of w cells: r of them are written
 module _ {xs : List ℕ} {at : ℕ} (w k : ℕ) (cells : List ℕ)
-    (long : length cells ≡ k * w) (room : Room xs at (rowsText w k cells)) where
+    (long : length cells ≡ k * w) (room : HasRoom xs at (rowsText w k cells)) where
   pub rows-none : Printed xs xs at (rowsText w 0 cells) at
   rows-none = printed-none xs at (omega (arith, room .fits))
 
-  before : (r : ℕ) → r ≤ k → Room xs at (rowsText w r cells)
+  before : (r : ℕ) → r ≤ k → HasRoom xs at (rowsText w r cells)
   before r l =
       let less = mul-le-mul-right w l in
       let fewer = mul-le-mul-right (w + 5) l in
@@ -74,13 +74,13 @@ module _ {xs : List ℕ} {at : ℕ} (w k : ℕ) (cells : List ℕ)
     lent : take (r * w + w - r * w) (drop (r * w) cells) ≡ take w (drop (r * w) cells)
     lent = let e : r * w + w - r * w ≡ w = omega arith in rw e
 
-    one-more : Room xs at (rowsText w r cells ++ rowText (take (r * w + w - r * w) (drop (r * w) cells)))
+    one-more : HasRoom xs at (rowsText w r cells ++ rowText (take (r * w + w - r * w) (drop (r * w) cells)))
     one-more =
         let next : r + 1 ≤ k = omega arith in
-        rw lent (subst (λ (t : List ℕ). Room xs at t) (rows-more w r cells) (before (r + 1) next))
+        rw lent (subst (λ (t : List ℕ). HasRoom xs at t) (rows-more w r cells) (before (r + 1) next))
 
     module _ {ys : List ℕ} {next : ℕ} (p : Printed xs ys at (rowsText w r cells) next) where
-      pub row-room : Room ys next (rowText (take (r * w + w - r * w) (drop (r * w) cells)))
+      pub row-room : HasRoom ys next (rowText (take (r * w + w - r * w) (drop (r * w) cells)))
       row-room = room-next one-more p
 
       pub row-printed : {zs : List ℕ} {behind : ℕ}

@@ -1,15 +1,15 @@
--- The parts of an answer's text: the digits of a number, the cells of a row, and the rows.
+-- The parts of an answer's text: the digits of a number, and the rows.
 use Prim.Native.Nat.{ℕ, zero, suc, _+_, _-_, _*_, _/_, _%_, _<_, _≤_}
 use mathlib.Core.List.{List, [], _∷_, _++_, append-assoc, append-nil}
 use mathlib.Core.Path.{_≡_, refl, sym, ap, subst, _∙_}
-use native.Mathlib.Nat.{zero-mul, not-suc-le-zero, le-of-suc-le-suc}
+use native.Mathlib.Nat.{zero-mul}
 use native.Mathlib.Numerals.{add-one}
 use native.Mathlib.Omega.{arith}
-use lib.ListN.{length, getD, take, drop, length-map}
+use lib.ListN.{take, drop}
 use lib.Seq.{drop-drop}
 use borrow.Author.Tests.{lt-ltb, le-ltb}
-use Rattle.card.specs.Text.{digits, digitCount, rowsText, cellsText, rowText}
-use Rattle.card.specs.Working.{Room, Printed}
+use Rattle.card.specs.Text.{digits, digitCount, rowsText, rowText}
+use Rattle.card.specs.Working.{HasRoom, Printed}
 use Rattle.card.proofs.theory.Printed.{printed-none, printed-then, room-first, room-next}
 
 -- the width of a number
@@ -36,23 +36,12 @@ module _ (n : ℕ) where
     digit-count-five d = rw (le-ltb n 10 a, le-ltb n 100 b, le-ltb n 1000 c, le-ltb n 10000 d)
 
 -- the last digit of several
-pub digits-none : (k n : ℕ) → k ≡ 0 → [] ≡ digits k n
+digits-none : (k n : ℕ) → k ≡ 0 → [] ≡ digits k n
 digits-none k n e = ap (λ (m : ℕ). digits m n) (sym e)
 
-pub digits-last : (k n : ℕ) → (k ≡ 0 → ⊥) → digits k n ≡ digits (k - 1) (n / 10) ++ ((48 + n % 10) ∷ [])
+digits-last : (k n : ℕ) → (k ≡ 0 → ⊥) → digits k n ≡ digits (k - 1) (n / 10) ++ ((48 + n % 10) ∷ [])
 digits-last zero n p = absurd (p refl)
 digits-last (suc k) n p = let e : suc k - 1 ≡ k = omega arith in rw e
-
--- the digits of cells
-pub length-cells : (cells : List ℕ) → length cells ≡ length (cellsText cells)
-unfolding cellsText
-length-cells cells = sym (length-map cells (λ v. 48 + v))
-
-pub cell-digit : (cells : List ℕ) (i : ℕ) → i < length cells → 48 + getD cells i 0 ≡ getD (cellsText cells) i 0
-unfolding cellsText
-cell-digit [] i l = absurd (not-suc-le-zero l)
-cell-digit (v ∷ cells) zero l = refl
-cell-digit (v ∷ cells) (suc i) l = cell-digit cells i (le-of-suc-le-suc l)
 
 -- the rows: one row more behind them
 rows-last : (w k : ℕ) (cells : List ℕ) → rowsText w (suc k) cells ≡ rowsText w k cells ++ rowText (take w (drop (k * w) cells))
@@ -72,20 +61,20 @@ pub rows-more : (w r : ℕ) (cells : List ℕ)
 rows-more w r cells = ap (λ (k : ℕ). rowsText w k cells) (add-one r) ∙ rows-last w r cells
 
 -- the digits of a number, the last behind the others
-module _ {xs : List ℕ} {at : ℕ} (k n : ℕ) (room : Room xs at (digits k n)) where
+module _ {xs : List ℕ} {at : ℕ} (k n : ℕ) (room : HasRoom xs at (digits k n)) where
   pub digits-done : k ≡ 0 → Printed xs xs at (digits k n) at
   digits-done e =
       subst (λ (t : List ℕ). Printed xs xs at t at) (digits-none k n e) (printed-none xs at (omega (arith, room .fits)))
 
   module _ (some : k ≡ 0 → ⊥) where
-    parts : Room xs at (digits (k - 1) (n / 10) ++ ((48 + n % 10) ∷ []))
-    parts = subst (λ (t : List ℕ). Room xs at t) (digits-last k n some) room
+    parts : HasRoom xs at (digits (k - 1) (n / 10) ++ ((48 + n % 10) ∷ []))
+    parts = subst (λ (t : List ℕ). HasRoom xs at t) (digits-last k n some) room
 
-    pub digits-room : Room xs at (digits (k - 1) (n / 10))
+    pub digits-room : HasRoom xs at (digits (k - 1) (n / 10))
     digits-room = room-first ((48 + n % 10) ∷ []) parts
 
     module _ {ys : List ℕ} {m : ℕ} (p : Printed xs ys at (digits (k - 1) (n / 10)) m) where
-      pub last-room : Room ys m ((48 + n % 10) ∷ [])
+      pub last-room : HasRoom ys m ((48 + n % 10) ∷ [])
       last-room = room-next parts p
 
       pub digits-printed : {zs : List ℕ} {r : ℕ} → Printed ys zs m ((48 + n % 10) ∷ []) r → Printed xs zs at (digits k n) r

@@ -21,11 +21,10 @@ use Rattle.codec.specs.Plan.{planClasses, planCapacity, planBytes}
 use Rattle.codec.specs.Encode.{encodeNumber, encodedField, encodeLeaves}
 use Rattle.codec.specs.Decode.{decodeNumber, decodeCount, decodeLeaves}
 use Rattle.codec.proofs.theory.Accepted.{encode-number}
-use Rattle.codec.proofs.theory.FieldLists.{length-listOf}
 use Rattle.card.specs.declared.header.Header.{Header}
 use Rattle.card.specs.Text.{numberLine, headerText, payloadText, fieldText, refusalText, classesKey, mendedKey}
 use Rattle.card.specs.Card.{maxCardCells, maxCardBytes, shapeOf, FieldCells}
-use Rattle.card.specs.Parse.{rowsOk, cellsAt}
+use Rattle.card.specs.Parse.{rowsOk, cellsOfRows}
 use Rattle.card.specs.Program.{blankField, blankPayload, rowsFit, cellsIn, writtenText, readText}
 use Rattle.card.specs.Working.{CardShape, headText, encodedText, decodedText}
 use Rattle.card.proofs.theory.CardLimits.{limits, rows-most, bytes-most}
@@ -33,7 +32,6 @@ use Rattle.card.proofs.theory.CardPlan.{leaves-long}
 use Rattle.card.proofs.theory.PrintedRows.{written-cells}
 use Rattle.card.proofs.theory.ProgramParts.{blank-field, blank-payload}
 use Rattle.card.proofs.theory.ProgramTests.{encoded-long}
-use Rattle.card.proofs.theory.RowsStored.{cellByte}
 
 -- the constructor's answer to a header
 module _ (h : Header) (r : NewShape) (x : IsNewShape (h .numbers) r) where
@@ -103,7 +101,7 @@ module _ (h : Header) (s : Shape) (x : CardShape h s) where
   -- it leaves the field written
   module _ (payload field last : List ℕ) (long : length payload ≡ planBytes s) (cells : length field ≡ cellsOf s)
       (leaves : last ≡ encodeLeaves s payload field) where
-    pub field-encoded : last ≡ encodedField (shapeOf h) payload
+    field-encoded : last ≡ encodedField (shapeOf h) payload
     unfolding encodeLeaves
     field-encoded =
         leaves
@@ -163,13 +161,9 @@ module _ (h : Header) (s : Shape) (x : CardShape h s) (input : List ℕ) (next :
 
   pub cells-read : (last : List ℕ) (n : ℕ)
       → n ≡ cellsOf s
-      → last ≡ cellsAt input next (s .columns) n
+      → last ≡ cellsOfRows input next (s .columns) n
       → last ≡ cellsIn input h next
   cells-read last n e p =
       p
-      ∙ ap (cellsAt input next (s .columns)) e
-      ∙ ap (λ (k : Shape). cellsAt input next (k .columns) (cellsOf k)) (x .shape)
-
-  pub cells-long : (last : List ℕ) (n : ℕ) → last ≡ cellsAt input next (s .columns) n → length last ≡ n
-  unfolding cellsAt cellByte
-  cells-long last n p = ap length p ∙ length-listOf (cellByte input next (s .columns)) n
+      ∙ ap (cellsOfRows input next (s .columns)) e
+      ∙ ap (λ (k : Shape). cellsOfRows input next (k .columns) (cellsOf k)) (x .shape)

@@ -16,7 +16,7 @@ use Rattle.codec.specs.Decode.{fieldNumber, correctedCount, decodeNumber, decod
 use Rattle.card.specs.Text.{digitCount, decimal, numberLine, headerText, hexDigit, payloadText, cellsText, rowText}
 use Rattle.card.specs.Text.{fieldText, refusalText}
 use Rattle.card.specs.Parse.{keyAt, numberEnds, numberAt, lineAt, headerOf, isHex, hexValue, payloadOk, payloadOf}
-use Rattle.card.specs.Parse.{isCellDigit, rowOk, rowsOk, cellsAt}
+use Rattle.card.specs.Parse.{isCellDigit, rowOk, rowsOk, cellsOfRows}
 use Rattle.card.specs.Program.{bodyOk, operationNumber, numberAfter, programNumber, writtenText, readText, successText}
 use Rattle.card.specs.Program.{answer}
 use Rattle.card.specs.theorems.Examples.{CardExamples}
@@ -33,7 +33,7 @@ unfolding
     encodeNumber encodedField
     fieldNumber correctedCount decodeNumber decodeCount decodeLeaves
     digitCount decimal numberLine headerText hexDigit payloadText cellsText rowText fieldText refusalText
-    keyAt numberEnds numberAt lineAt headerOf isHex hexValue payloadOk payloadOf isCellDigit rowOk rowsOk cellsAt
+    keyAt numberEnds numberAt lineAt headerOf isHex hexValue payloadOk payloadOf isCellDigit rowOk rowsOk cellsOfRows
     bodyOk operationNumber numberAfter programNumber writtenText readText successText answer
 cardExamples =
     record {

@@ -22,7 +22,7 @@ textParses =
         arith,
         length-append (headerText h) (fieldText h cells),
         header-most h,
-        length-field h cells y,
+        length-field h cells (y .long),
         rows-most h x,
         x .cells,
       );

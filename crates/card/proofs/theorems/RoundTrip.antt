@@ -1,6 +1,6 @@
 -- Card texts there and back: the term of the theorem.
 use mathlib.Core.Path.{_∙_}
-use Rattle.codec.specs.Damage.{damaged, damagedField}
+use Rattle.codec.specs.Damage.{damagedField}
 use Rattle.codec.proofs.theorems.Recovery.{recovery}
 use Rattle.card.specs.Card.{shapeOf}
 use Rattle.card.specs.Program.{blankPayload}

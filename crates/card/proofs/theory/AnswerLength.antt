@@ -22,7 +22,7 @@ use Rattle.card.proofs.theory.LineText.{length-line}
 use Rattle.card.proofs.theory.LinesText.{linesLength}
 use Rattle.card.proofs.theory.HeaderText.{length-header, header-most}
 use Rattle.card.proofs.theory.PayloadText.{length-payload}
-use Rattle.card.proofs.theory.RowText.{length-rows}
+use Rattle.card.proofs.theory.FieldText.{length-field}
 use Rattle.card.proofs.theory.CardLimits.{limits, rows-most, bytes-most}
 use Rattle.card.proofs.theory.ProgramParts.{blank-payload}
 use Rattle.card.proofs.theory.CardPlan.{classes-most, classes-stack, leaves-long}
@@ -97,14 +97,6 @@ module _ (h : Header) (card : CardHeader h) where
             rows-most h card,
           )
 
--- the text of the field written
-length-written : (h : Header) (p : List ℕ)
-    → length (fieldText h (encodedField (shapeOf h) p)) ≡ h .numbers .planes * h .numbers .rows * (h .numbers .columns + 5)
-unfolding fieldText
-length-written h p =
-    length-rows (h .numbers .columns) (h .numbers .planes * h .numbers .rows) (encodedField (shapeOf h) p)
-    (omega (arith, encodeMeaning .long (shapeOf h) p))
-
 -- a field written, in text
 pub written-most : (h : Header) → CardHeader h → (p : List ℕ) → length (writtenText h p) ≤ maxAnswer
 unfolding writtenText
@@ -118,7 +110,7 @@ written-most h card p =
       length-append classes (fieldText h F),
       length-header h,
       length-line classesKey (planClasses s),
-      length-written h p,
+      length-field h F (encodeMeaning .long s p),
       written-bytes h card,
     )
 

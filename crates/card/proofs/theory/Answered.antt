@@ -1,5 +1,5 @@
 -- The program's work buffers, and what an answer leaves.
-use Prim.Native.Nat.{ℕ, zero, suc, _/_, _≤_}
+use Prim.Native.Nat.{ℕ, zero, suc, _≤_}
 use mathlib.Core.Bool.{true}
 use mathlib.Core.List.{List, _∷_, _++_}
 use mathlib.Core.Path.{_≡_, refl, sym, ap, _∙_}
@@ -8,14 +8,12 @@ use native.Mathlib.Omega.{arith}
 use lib.ListN.{length, take, replicate, length-append, length-replicate}
 use lib.Seq.{take-at}
 use Rattle.codec.specs.Payload.{Bytes}
-use Rattle.codec.proofs.theory.FieldLists.{length-listOf}
 use Rattle.card.specs.Card.{maxAnswer}
-use Rattle.card.specs.Parse.{hexCount, payloadOk, payloadOf}
+use Rattle.card.specs.Parse.{payloadOk, payloadOf}
 use Rattle.card.specs.Program.{answer, outputLeaves}
 use Rattle.card.specs.Working.{Answered}
 use Rattle.card.proofs.theorems.Outputs.{outputForms}
 use Rattle.card.proofs.theory.PayloadText.{at-payload}
-use Rattle.card.proofs.theory.PayloadStored.{payloadByte}
 
 pub answered-leaves : (s before after : List ℕ) (r : ℕ)
     → Answered (answer s) before after r
@@ -43,10 +41,6 @@ module _ (n : ℕ) (last rest : List ℕ) (long : length last ≡ n) where
   part-count = sym (ap length part-again ∙ long)
 
 -- the payload read
-pub length-read : (s : List ℕ) (at : ℕ) → length (payloadOf s at) ≡ hexCount s at / 2
-unfolding payloadOf payloadByte
-length-read s at = length-listOf (payloadByte s at) (hexCount s at / 2)
-
 pub bytes-read : (s : List ℕ) (at : ℕ) → payloadOk s at ≡ true → Bytes (payloadOf s at)
 bytes-read s at ok = at-payload s at ok .bytes
 

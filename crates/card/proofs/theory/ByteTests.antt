@@ -1,13 +1,15 @@
 -- What stands at a position of a text, byte by byte.
-use Prim.Native.Nat.{ℕ, _+_, _<_, _≤_}
-use mathlib.Core.Bool.{Bool, true, false}
+use Prim.Native.Nat.{ℕ, _+_, _<_, _≤_, zero-le}
+use mathlib.Core.Bool.{Bool, true, false, not}
 use mathlib.Core.List.{List}
-use mathlib.Core.Path.{_≡_, sym, _∙_}
+use mathlib.Core.Path.{_≡_, sym, ap, _∙_}
+use native.Mathlib.Omega.{arith}
 use lib.Dec.{eqb}
 use lib.ListN.{length, getD, List·getD-eq-default}
 use borrow.Author.Tests.{eq-eqb, ne-eqb}
 use Rattle.lattice.specs.Counting.{allBelow}
-use Rattle.codec.proofs.theory.OneByOne.{Passed, passed-all, failed-at}
+use Rattle.lattice.proofs.theory.Bools.{failed, passed}
+use Rattle.codec.proofs.theory.OneByOne.{Passed, passed-none, passed-more, passed-all, failed-at}
 use Rattle.card.specs.Parse.{keyAt}
 
 -- past the end stands 0
@@ -31,23 +33,28 @@ module _ (key s : List ℕ) (at : ℕ) where
   unfolding keyAt keyByte
   key-all j p l q = passed-all keyByte j (length key) p l q
 
--- a test of each byte from a position
-module _ (P : ℕ → Bool) (s : List ℕ) (start : ℕ) where
-  unfoldable pub testAt : ℕ → Bool
+-- a test of each of n bytes from a position: the first j have passed it
+module _ (P : ℕ → Bool) (s : List ℕ) (start n : ℕ) where
+  abbrev testAt : ℕ → Bool
   testAt j = P (getD s (start + j) 0)
 
-  pub test-passes : (j b : ℕ) → b ≡ getD s (start + j) 0 → P b ≡ true → testAt j ≡ true
-  unfolding testAt
-  test-passes j b e p = rw e at p
+  pub record TestedTo (j : ℕ) : Type 0 where
+    pub some : j ≤ n
+    pub each : Passed testAt j
 
-  pub test-fails : (n j b : ℕ)
-      → j < n
-      → b ≡ getD s (start + j) 0
-      → P b ≡ false
-      → false ≡ allBelow (λ i. P (getD s (start + i) 0)) n
-  unfolding testAt
-  test-fails n j b l e p = failed-at testAt j n l (rw e at p)
+  pub tested-none : TestedTo 0
+  tested-none = record { some = zero-le; each = passed-none testAt }
 
-  pub test-all : (n j : ℕ) → Passed testAt j → j ≤ n → n ≤ j → true ≡ allBelow (λ i. P (getD s (start + i) 0)) n
-  unfolding testAt
-  test-all n j p l q = passed-all testAt j n p l q
+  -- the byte that is next, and what the code's test says of it
+  module _ (j b : ℕ) (t : Bool) (l : j < n) (byte : b ≡ getD s (start + j) 0) (says : t ≡ P b) where
+    next : P b ≡ testAt j
+    next = ap P byte
+
+    pub tested-more : TestedTo j → not t ≡ false → TestedTo (j + 1)
+    tested-more x p = record { some = omega arith; each = passed-more testAt j (x .each) (sym next ∙ passed t (P b) p says) }
+
+    pub tested-fails : not t ≡ true → false ≡ allBelow testAt n
+    tested-fails p = failed-at testAt j n l (sym next ∙ failed t (P b) p says)
+
+  pub tested-all : (j : ℕ) → TestedTo j → n ≤ j → true ≡ allBelow testAt n
+  tested-all j x l = passed-all testAt j n (x .each) (x .some) l

@@ -11,14 +11,14 @@ use Rattle.codec.specs.Payload.{payloadBytes}
 use Rattle.codec.specs.Plan.{planBytes}
 use Rattle.codec.proofs.theory.Accepted.{plan-bytes}
 use Rattle.card.specs.declared.header.Header.{Header}
-use Rattle.card.specs.Card.{maxCardBytes, shapeOf, Small, CardHeader}
+use Rattle.card.specs.Card.{maxCardBytes, shapeOf, FewDigits, CardHeader}
 
 -- a card's header is within the limits
 module _ (h : Header) (x : CardHeader h) where
   pub limits : Legal (shapeOf h)
   limits = legal _ (x .accepted)
 
-  pub card-small : Small h
+  pub card-small : FewDigits h
   card-small =
       let strength = strength-most _ (x .accepted) in
       omega (arith, limits .width-high, limits .height-high, limits .planes-high, strength)

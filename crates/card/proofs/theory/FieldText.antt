@@ -15,7 +15,7 @@ use Rattle.codec.proofs.theory.AllBelow.{fails-below}
 use Rattle.card.specs.declared.header.Header.{Header}
 use Rattle.card.specs.Text.{rowText, payloadKey, rowsText, fieldText, payloadText}
 use Rattle.card.specs.Card.{shapeOf, FieldCells}
-use Rattle.card.specs.Parse.{keyAt, cellsAt}
+use Rattle.card.specs.Parse.{keyAt, cellsOfRows}
 use Rattle.card.specs.Program.{isPayload, rowsFit, cellsIn}
 use Rattle.card.proofs.theory.StandsAt.{stands-last, stands-whole}
 use Rattle.card.proofs.theory.RowText.{length-rows}
@@ -29,10 +29,10 @@ cells-of : (h : Header) → cellsOf (shapeOf h) ≡ rowsOf h * h .numbers .colum
 cells-of h = omega arith
 
 -- the length of the rows
-pub length-field : (h : Header) (cells : List ℕ) → FieldCells h cells
+pub length-field : (h : Header) (cells : List ℕ) → length cells ≡ cellsOf (shapeOf h)
     → length (fieldText h cells) ≡ h .numbers .planes * h .numbers .rows * (h .numbers .columns + 5)
 unfolding fieldText
-length-field h cells x = length-rows (h .numbers .columns) (rowsOf h) cells (omega (arith, x .long))
+length-field h cells long = length-rows (h .numbers .columns) (rowsOf h) cells (omega arith)
 
 -- the rows behind anything are read back
 pub field-back : (before : List ℕ) (h : Header) (cells : List ℕ)
@@ -47,10 +47,10 @@ field-back before h cells x =
       long = x .long ∙ cells-of h;
       each = λ i l. x .each i (omega (arith, cells-of h));
       stands = stands-last before (fieldText h cells);
-      ends = length-append before (fieldText h cells) ∙ omega (arith, length-field h cells x);
+      ends = length-append before (fieldText h cells) ∙ omega (arith, length-field h cells (x .long));
     } in (
       rows-ok s (length before) (h .numbers .columns) (rowsOf h) cells y,
-      ap (cellsAt s (length before) (h .numbers .columns)) (cells-of h)
+      ap (cellsOfRows s (length before) (h .numbers .columns)) (cells-of h)
           ∙ rows-read s (length before) (h .numbers .columns) (rowsOf h) cells y,
     )
 
@@ -65,7 +65,7 @@ field-text s h at p =
     record { long = x .long ∙ sym (cells-of h); each = λ i l. x .each i (omega (arith, cells-of h)) } in (
       cells,
       stands-whole (fieldText h (cellsIn s h at)) s at (x .stands)
-          (x .ends ∙ omega (arith, length-field h (cellsIn s h at) cells)),
+          (x .ends ∙ omega (arith, length-field h (cellsIn s h at) (cells .long))),
     )
 
 -- rows are those of one field

@@ -12,7 +12,7 @@ use Rattle.card.specs.Form.{OneOfThree}
 use Rattle.card.proofs.theory.ProgramParts.{operation-payload, success-payload, success-rows, answer-success}
 use Rattle.card.proofs.theory.ProgramParts.{answer-refused}
 use Rattle.card.proofs.theory.CardRead.{CardRead, of-payload, of-field, card-read}
-use Rattle.card.proofs.theory.Passed.{Passed, passed}
+use Rattle.card.proofs.theory.TakenInput.{TakenInput, input-taken}
 use Rattle.card.proofs.theory.AnswerLength.{written-most, read-most, refusal-most}
 use Rattle.card.proofs.theory.ProgramTests.{encoded-long}
 
@@ -20,7 +20,7 @@ pub form : (s : List ℕ) → OneOfThree s
 form s = go (programNumber s) refl
   where
     success : programNumber s ≡ 0
-        → (x : Passed s)
+        → (x : TakenInput s)
         → answer s ≡ successText s (head.Found (x .header) (x .next))
         → CardRead s (x .header) (x .next)
         → OneOfThree s
@@ -35,7 +35,7 @@ form s = go (programNumber s) refl
 
     go : (n : ℕ) → programNumber s ≡ n → OneOfThree s
     go zero e =
-        let x = passed s e in
+        let x = input-taken s e in
         success e x (answer-success s e ∙ ap (successText s) (x .found))
         (card-read s (x .header) (x .next) (x .found) (x .right))
     go (suc n) e = let other : programNumber s ≡ 0 → ⊥ = λ z. omega arith in OneOfThree.refused other (answer-refused s other)

@@ -9,14 +9,15 @@ use lib.Seq.{drop-append-seam}
 use Rattle.card.specs.declared.header.Header.{Header}
 use Rattle.card.specs.declared.header.HeaderAnswer.the-variants as head
 use Rattle.card.specs.Text.{headerKeys, linesText, headerNumbers, headerFrom, headerLines, headerText}
-use Rattle.card.specs.Card.{Small}
+use Rattle.card.specs.Card.{FewDigits}
 use Rattle.card.specs.Parse.{LinesRead, read, fault, linesAt, headerRead, headerOf}
 use Rattle.card.specs.Form.{HeaderFirst}
 use Rattle.card.proofs.theory.HeaderText.{numbers-from}
 use Rattle.card.proofs.theory.LinesText.{text-lines, lines-text}
 
 -- a header's text is read back, whatever follows
-pub header-back : (h : Header) (rest : List ℕ) → Small h → headerOf (headerText h ++ rest) ≡ head.Found h (length (headerText h))
+pub header-back : (h : Header) (rest : List ℕ) → FewDigits h
+    → headerOf (headerText h ++ rest) ≡ head.Found h (length (headerText h))
 unfolding headerOf headerText
 header-back h rest small =
     ap headerRead (text-lines (headerLines h) (linesText (headerLines h) ++ rest) 0 rest small refl)
@@ -24,7 +25,7 @@ header-back h rest small =
 
 -- what a header is read from is its text, followed by the rest
 pub record ReadFrom (s : List ℕ) (h : Header) (next : ℕ) : Type 0 where
-  pub small : Small h
+  pub small : FewDigits h
   pub text : s ≡ headerText h ++ drop next s
   pub next-line : next ≡ length (headerText h)
   pub inside : next ≤ length s
@@ -44,7 +45,8 @@ header-found s h next p = go (linesAt headerKeys s 0) refl p
     go fault e q = let z : _≡_ {A = ℕ} 0 1 = cc in absurd (omega arith)
 
 -- two headers' texts with their rests are the same only where the headers and the rests are
-pub header-same : (h k : Header) (r q : List ℕ) → headerText h ++ r ≡ headerText k ++ q → Small h → Small k → (h ≡ k) × (r ≡ q)
+pub header-same : (h k : Header) (r q : List ℕ) → headerText h ++ r ≡ headerText k ++ q → FewDigits h → FewDigits k
+    → (h ≡ k) × (r ≡ q)
 header-same h k r q e sh sk =
     let both : head.Found h (length (headerText h)) ≡ head.Found k (length (headerText k))
     = sym (header-back h r sh) ∙ ap headerOf e ∙ header-back k q sk in

@@ -34,7 +34,7 @@ pub value-high : (b : ℕ) → 58 ≤ b → hexValue b ≡ b - 87
 unfolding hexValue
 value-high b l = rw (le-ltb b 58 l)
 
-pub digit-is-hex : (d : ℕ) → d < 16 → isHex (hexDigit d) ≡ true
+digit-is-hex : (d : ℕ) → d < 16 → isHex (hexDigit d) ≡ true
 unfolding isHex
 digit-is-hex d l = go (decLt d 10)
   where
@@ -46,7 +46,7 @@ digit-is-hex d l = go (decLt d 10)
         let e = digit-high d (omega arith) in
         or-true-right (inRange 48 57 (hexDigit d)) _ (in-range 97 102 (hexDigit d) (omega arith) (omega arith))
 
-pub value-of-digit : (d : ℕ) → d < 16 → hexValue (hexDigit d) ≡ d
+value-of-digit : (d : ℕ) → d < 16 → hexValue (hexDigit d) ≡ d
 value-of-digit d l = go (decLt d 10)
   where
     go : Dec (d < 10) → hexValue (hexDigit d) ≡ d

@@ -9,17 +9,17 @@ use lib.Seq.{getD-drop, drop-drop, drop-append-seam}
 use Rattle.card.specs.declared.line.Line.{Line}
 use Rattle.card.specs.declared.line.Line.the-variants as line
 use Rattle.card.specs.Text.{digitCount, numberLine, NumberLine, linesText, linesOf}
-use Rattle.card.specs.Card.{SmallLines}
+use Rattle.card.specs.Card.{FewDigitsEach}
 use Rattle.card.specs.Parse.{lineAt, LinesRead, read, fault, before, afterLine, linesAt}
 use Rattle.card.proofs.theory.StandsAt.{StandsAt, stands-drop}
 use Rattle.card.proofs.theory.DecimalText.{digit-count-range}
 use Rattle.card.proofs.theory.LineText.{LineStands, length-line, line-at, at-line, line-inside}
 
 -- the key and the number of a line
-abbrev pub lineKey : NumberLine → List ℕ
+abbrev lineKey : NumberLine → List ℕ
 lineKey l = l .key
 
-abbrev pub lineNumber : NumberLine → ℕ
+abbrev lineNumber : NumberLine → ℕ
 lineNumber l = l .number
 
 -- the length of lines, by the widths of their numbers
@@ -59,7 +59,8 @@ drop-behind : (a b s : List ℕ) (at : ℕ) → drop at s ≡ a ++ b → drop (a
 drop-behind a b s at e = sym (drop-drop (length a) at s) ∙ ap (drop (length a)) e ∙ drop-append-seam a b
 
 -- the text of lines is read back
-pub text-lines : (ls : List NumberLine) (s : List ℕ) (at : ℕ) (rest : List ℕ) → SmallLines ls → drop at s ≡ linesText ls ++ rest
+pub text-lines : (ls : List NumberLine) (s : List ℕ) (at : ℕ) (rest : List ℕ) → FewDigitsEach ls
+    → drop at s ≡ linesText ls ++ rest
     → linesAt (map lineKey ls) s at ≡ read (map lineNumber ls) (at + length (linesText ls))
 text-lines [] s at rest small e = ap (read []) (sym (add-zero at))
 text-lines (l ∷ ls) s at rest small e =
@@ -77,7 +78,7 @@ text-lines (l ∷ ls) s at rest small e =
 -- what lines are read from is their text
 pub record LinesStand (keys : List (List ℕ)) (s : List ℕ) (at : ℕ) (ns : List ℕ) (next : ℕ) : Type 0 where
   pub count : length ns ≡ length keys
-  pub small : SmallLines (linesOf keys ns)
+  pub small : FewDigitsEach (linesOf keys ns)
   pub next-line : next ≡ at + length (linesText (linesOf keys ns))
   pub text : drop at s ≡ linesText (linesOf keys ns) ++ drop next s
   pub inside : next ≤ length s

@@ -22,11 +22,11 @@ use Rattle.card.proofs.theory.Digits.{leading-other, run-digits, digits
 use Rattle.card.proofs.theory.DecimalText.{Wide, wide, wide-width, wide-small, length-decimal}
 
 -- k digits from `at` end a number: from the test and back
-record Ends (s : List ℕ) (at k : ℕ) : Type 0 where
-  low : 1 ≤ k
-  high : k ≤ 5
-  leading : (k ≡ 1) ⊎ (getD s at 0 ≢ 48)
-  ended : getD s (at + k) 0 ≡ feed
+pub record Ends (s : List ℕ) (at k : ℕ) : Type 0 where
+  pub low : 1 ≤ k
+  pub high : k ≤ 5
+  pub leading : (k ≡ 1) ⊎ (getD s at 0 ≢ 48)
+  pub ended : getD s (at + k) 0 ≡ feed
 
 ends-test : (s : List ℕ) (at k : ℕ) → Ends s at k → numberEnds s at k ≡ true
 unfolding numberEnds
@@ -39,7 +39,7 @@ ends-test s at k x =
     first (inl e) = or-true-left (eqb k 1) _ (eq-eqb k 1 e)
     first (inr d) = or-true-right (eqb k 1) _ (ap not (ne-eqb (getD s at 0) 48 d))
 
-test-ends : (s : List ℕ) (at k : ℕ) → numberEnds s at k ≡ true → Ends s at k
+pub test-ends : (s : List ℕ) (at k : ℕ) → numberEnds s at k ≡ true → Ends s at k
 unfolding numberEnds
 test-ends s at k p =
     let front = and-left (inRange 1 5 k && (eqb k 1 || not (eqb (getD s at 0) 48))) _ p in

@@ -16,8 +16,8 @@ use Rattle.card.specs.Text.{payloadKey}
 use Rattle.card.specs.Parse.{keyAt, isHex, hexValue, hexCount, payloadOk, payloadOf}
 use Rattle.card.proofs.theory.StandsAt.{at-key, byte-inside}
 use Rattle.card.proofs.theory.HexText.{hex-range}
-use Rattle.card.proofs.theory.PayloadText.{ok-tests}
-use Rattle.card.proofs.theory.StoredFront.{Stored, stored-all}
+use Rattle.card.proofs.theory.PayloadText.{ok-tests, payloadByte}
+use Rattle.card.proofs.theory.StoredFront.{StoredTo, stored-all}
 
 -- a hexadecimal digit
 module _ (b : ℕ) where
@@ -81,9 +81,6 @@ module _ (s : List ℕ) (at : ℕ) where
 
 -- the bytes of the payload, stored one by one
 module _ (s : List ℕ) (at : ℕ) where
-  unfoldable pub payloadByte : ℕ → ℕ
-  payloadByte j = hexValue (getD s (at + 8 + 2 * j) 0) * 16 + hexValue (getD s (at + 8 + 2 * j + 1) 0)
-
   pub payload-room : payloadOk s at ≡ true → at + 8 < length s
   payload-room ok = ok-tests s at ok .fits
 
@@ -92,7 +89,7 @@ module _ (s : List ℕ) (at : ℕ) where
   payload-digit ok n j i b e l m h = rw h (ok-tests s at ok .each i (omega arith))
 
   pub payload-byte : (j high low x y : ℕ) → x ≡ getD s (at + 8 + 2 * j) 0 → y ≡ getD s (at + 8 + (2 * j + 1)) 0
-      → high ≡ hexValue x → low ≡ hexValue y → high * 16 + low ≡ payloadByte j
+      → high ≡ hexValue x → low ≡ hexValue y → high * 16 + low ≡ payloadByte s at j
   unfolding payloadByte
   payload-byte j high low x y p q e f =
       ap₂ (λ (a b : ℕ). a * 16 + b)
@@ -101,12 +98,12 @@ module _ (s : List ℕ) (at : ℕ) where
 
   pub payload-stored : (xs ys : List ℕ) (n : ℕ)
       → length xs ≡ hexCount s at / 2
-      → Stored payloadByte xs ys n
+      → StoredTo (payloadByte s at) xs ys n
       → n ≤ length ys
       → length ys ≤ n
       → ys ≡ payloadOf s at
   unfolding payloadOf payloadByte
-  payload-stored xs ys n long p l q = stored-all payloadByte xs ys n p (hexCount s at / 2) (sym long) l q
+  payload-stored xs ys n long p l q = stored-all (payloadByte s at) xs ys n p (hexCount s at / 2) (sym long) l q
 
 pub value-below : (b : ℕ) → isHex b ≡ true → (v : ℕ) → v ≡ hexValue b → v < 16
 value-below b p v e = rw e (hex-range b p .0)

@@ -105,7 +105,7 @@ tests-ok s at x =
 hex-count : (s : List ℕ) (at : ℕ) (p : List ℕ) → length s ≡ at + length (payloadText p) → hexCount s at ≡ 2 * length p
 hex-count s at p e = omega (arith, length-payload p)
 
-pub payload-ok : (s : List ℕ) (at : ℕ) (p : List ℕ) → PayloadStands s at p → payloadOk s at ≡ true
+payload-ok : (s : List ℕ) (at : ℕ) (p : List ℕ) → PayloadStands s at p → payloadOk s at ≡ true
 payload-ok s at p x =
     let r = to-parts s at p (x .stands) in
     let n = hex-count s at p (x .ends) in
@@ -119,22 +119,26 @@ payload-ok s at p x =
       each = λ j l. let k : j < length (hexText p) = omega (arith, length-hex p) in rw (r .hex j k) (hex-digits p (x .bytes) j k);
     })
 
--- byte j of what is read at `at`
-byteAt : List ℕ → ℕ → ℕ → ℕ
-byteAt s at j = hexValue (getD s (at + 8 + 2 * j) 0) * 16 + hexValue (getD s (at + 8 + 2 * j + 1) 0)
+-- byte j of what is read at `at`, and how many bytes that is
+unfoldable pub payloadByte : List ℕ → ℕ → ℕ → ℕ
+payloadByte s at j = hexValue (getD s (at + 8 + 2 * j) 0) * 16 + hexValue (getD s (at + 8 + 2 * j + 1) 0)
 
-pub payload-read : (s : List ℕ) (at : ℕ) (p : List ℕ) → PayloadStands s at p → payloadOf s at ≡ p
-unfolding payloadOf byteAt
+pub payload-count : (s : List ℕ) (at : ℕ) → length (payloadOf s at) ≡ hexCount s at / 2
+unfolding payloadOf payloadByte
+payload-count s at = length-listOf (payloadByte s at) (hexCount s at / 2)
+
+payload-read : (s : List ℕ) (at : ℕ) (p : List ℕ) → PayloadStands s at p → payloadOf s at ≡ p
+unfolding payloadOf payloadByte
 payload-read s at p x =
     let r = to-parts s at p (x .stands) in
     let n = hex-count s at p (x .ends) in
     sym
-    (list-field p (byteAt s at) (hexCount s at / 2) (omega arith)
+    (list-field p (payloadByte s at) (hexCount s at / 2) (omega arith)
     (λ j l. sym (pair-read s (at + 8 + 2 * j) (getD p j 0) (x .bytes j) (stands-hex p s (at + 8) (r .hex) j (omega arith)))))
 
 -- the payload that is read stands there
 pub at-payload : (s : List ℕ) (at : ℕ) → payloadOk s at ≡ true → PayloadStands s at (payloadOf s at)
-unfolding payloadOf byteAt
+unfolding payloadOf payloadByte
 at-payload s at p =
     record {
       bytes = λ j. every j (decLt j n);
@@ -144,7 +148,7 @@ at-payload s at p =
             key = at-key payloadKey s at (x .key);
             hex =
                 hex-stands (payloadOf s at) s (at + 8)
-                (λ j l. let k : j < n = omega (arith, long) in rw (getD-listOf (byteAt s at) n j k) (pairs j k .1));
+                (λ j l. let k : j < n = omega (arith, long) in rw (getD-listOf (payloadByte s at) n j k) (pairs j k .1));
             ended = ap (λ (i : ℕ). getD s i 0) last ∙ x .ended;
           });
       ends = omega (arith, length-payload (payloadOf s at), long, x .fits, x .whole);
@@ -157,20 +161,20 @@ at-payload s at p =
     n = hexCount s at / 2
 
     long : length (payloadOf s at) ≡ n
-    long = length-listOf (byteAt s at) n
+    long = payload-count s at
 
     last : at + 8 + 2 * length (payloadOf s at) ≡ length s - 1
     last = omega (arith, long, x .fits, x .whole)
 
-    pairs : (j : ℕ) → j < n → (byteAt s at j < 256) × Pair s (at + 8 + 2 * j) (byteAt s at j)
+    pairs : (j : ℕ) → j < n → (payloadByte s at j < 256) × Pair s (at + 8 + 2 * j) (payloadByte s at j)
     pairs j l =
         let place : at + 8 + 2 * j + 1 ≡ at + 8 + (2 * j + 1) = omega arith in
-        read-pair s (at + 8 + 2 * j) (byteAt s at j) refl (x .each (2 * j) (omega arith))
+        read-pair s (at + 8 + 2 * j) (payloadByte s at j) refl (x .each (2 * j) (omega arith))
         (rw place (x .each (2 * j + 1) (omega arith)))
 
     every : (j : ℕ) → Dec (j < n) → getD (payloadOf s at) j 0 < 256
-    every j (yes l) = rw (getD-listOf (byteAt s at) n j l) (pairs j l .0)
-    every j (no l) = rw (getD-listOf-behind (byteAt s at) n j (omega arith)) (lit≤ tt)
+    every j (yes l) = rw (getD-listOf (payloadByte s at) n j l) (pairs j l .0)
+    every j (no l) = rw (getD-listOf-behind (payloadByte s at) n j (omega arith)) (lit≤ tt)
 
 -- the line behind anything is read back
 pub payload-back : (before p : List ℕ) → Bytes p

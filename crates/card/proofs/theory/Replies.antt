@@ -11,7 +11,7 @@ use Rattle.card.specs.declared.header.Header.{Header}
 use Rattle.card.specs.Text.{headerKeys, numberLine, headerText}
 use Rattle.card.specs.Card.{FieldCells, CardHeader}
 use Rattle.card.specs.Program.{outputLeaves}
-use Rattle.card.specs.Working.{Room, Printed, Answered, headText}
+use Rattle.card.specs.Working.{HasRoom, Printed, Answered, headText}
 use Rattle.card.proofs.theory.CardLimits.{limits, rows-most}
 use Rattle.card.proofs.theory.DecimalText.{digit-count-range}
 use Rattle.card.proofs.theory.HeaderText.{header-most}
@@ -33,7 +33,7 @@ answered-short text before r e l = record { long = e; leaves = rw (lt-leb (lengt
 
 -- one that is long enough has the answer at its front
 pub answered-printed : {text before after : List ℕ} {r : ℕ}
-    → Room before 0 text
+    → HasRoom before 0 text
     → Printed before after 0 text r
     → Answered text before after r
 unfolding outputLeaves
@@ -43,20 +43,20 @@ answered-printed {text} {before} room p =
       leaves = rw (le-leb (length text) (length before) (omega (arith, room .fits))) (printed-front p);
     }
 
-pub room-front : (text before : List ℕ) (r : ℕ) → r ≡ length text → r ≤ length before → Room before 0 text
+pub room-front : (text before : List ℕ) (r : ℕ) → r ≡ length text → r ≤ length before → HasRoom before 0 text
 room-front text before r e l = record { fits = omega arith }
 
 -- the head of a success
-module _ {xs : List ℕ} {at : ℕ} (h : Header) (key : List ℕ) (n : ℕ) (room : Room xs at (headText h key n)) where
-  both : Room xs at (headerText h ++ numberLine key n)
+module _ {xs : List ℕ} {at : ℕ} (h : Header) (key : List ℕ) (n : ℕ) (room : HasRoom xs at (headText h key n)) where
+  both : HasRoom xs at (headerText h ++ numberLine key n)
   unfolding headText
   both = room
 
-  pub header-room : Room xs at (headerText h)
+  pub header-room : HasRoom xs at (headerText h)
   header-room = room-first (numberLine key n) both
 
   module _ {ys : List ℕ} {m : ℕ} (p : Printed xs ys at (headerText h) m) where
-    pub line-room : Room ys m (numberLine key n)
+    pub line-room : HasRoom ys m (numberLine key n)
     line-room = room-next both p
 
     pub head-printed : {zs : List ℕ} {next : ℕ}
@@ -80,9 +80,9 @@ module _ (h : Header) (key : List ℕ) (n : ℕ) (rest : List ℕ) where
   pub length-success : (r k : ℕ) → r ≡ length (headText h key n) → k ≡ length rest → r + k ≡ length (headText h key n ++ rest)
   length-success r k e f = omega (arith, length-append (headText h key n) rest)
 
-  module _ {xs : List ℕ} (room : Room xs 0 (headText h key n ++ rest))
+  module _ {xs : List ℕ} (room : HasRoom xs 0 (headText h key n ++ rest))
       {ys : List ℕ} {m : ℕ} (p : Printed xs ys 0 (headText h key n) m) where
-    pub rest-room : Room ys m rest
+    pub rest-room : HasRoom ys m rest
     rest-room = room-next room p
 
     pub success-answered : {zs : List ℕ} {r : ℕ} → Printed ys zs m rest r → Answered (headText h key n ++ rest) xs zs r

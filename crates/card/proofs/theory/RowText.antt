@@ -1,29 +1,26 @@
 -- The lines `row`: their length, and where each of them and its cells stand.
 use Prim.Native.Nat.{ℕ, zero, suc, _+_, _*_, _<_, _≤_}
 use mathlib.Core.List.{List, [], _∷_, _++_, append-assoc}
-use mathlib.Core.Path.{_≡_, refl, sym, ap, subst, _∙_}
-use native.Mathlib.Nat.{zero-mul, zero-add, not-suc-le-zero, le-of-suc-le-suc}
+use mathlib.Core.Path.{_≡_, sym, ap, subst, _∙_}
+use native.Mathlib.Nat.{zero-mul, zero-add, not-suc-le-zero}
 use native.Mathlib.Omega.{arith}
-use lib.ListN.{length, getD, take, drop, length-append, length-map, length-drop}
-use lib.Seq.{length-take-le, getD-drop}
+use lib.ListN.{length, getD, take, drop, length-append, length-drop}
+use lib.Seq.{length-take-le, getD-take, getD-drop}
 use Rattle.card.specs.Text.{rowKey, cellsText, rowText, rowsText, feed}
 use Rattle.card.specs.Parse.{rowStart}
+use Rattle.card.proofs.theory.CellDigits.{length-cells, cell-text}
 use Rattle.card.proofs.theory.StandsAt.{StandsAt, stands-left, stands-right, stands-both, stands-one, one-stands}
 
 -- the digits of w cells
 abbrev cellDigits : ℕ → List ℕ → List ℕ
 cellDigits w cells = cellsText (take w cells)
 
-length-cells : (w : ℕ) (cells : List ℕ) → w ≤ length cells → length (cellDigits w cells) ≡ w
-unfolding cellsText
-length-cells w cells l = length-map (take w cells) (λ v. 48 + v) ∙ length-take-le w cells l
+row-long : (w : ℕ) (cells : List ℕ) → w ≤ length cells → length (cellDigits w cells) ≡ w
+row-long w cells l = sym (length-cells (take w cells)) ∙ length-take-le w cells l
 
-getD-cells : (w : ℕ) (cells : List ℕ) → w ≤ length cells → (c : ℕ) → c < w → getD (cellDigits w cells) c 0 ≡ 48 + getD cells c 0
-unfolding cellsText
-getD-cells zero cells l c m = absurd (not-suc-le-zero m)
-getD-cells (suc w) [] l c m = absurd (not-suc-le-zero l)
-getD-cells (suc w) (v ∷ cells) l zero m = refl
-getD-cells (suc w) (v ∷ cells) l (suc c) m = getD-cells w cells (le-of-suc-le-suc l) c (le-of-suc-le-suc m)
+row-digit : (w : ℕ) (cells : List ℕ) → w ≤ length cells → (c : ℕ) → c < w → getD (cellDigits w cells) c 0 ≡ 48 + getD cells c 0
+row-digit w cells l c m =
+    sym (cell-text (take w cells) c (omega (arith, length-take-le w cells l))) ∙ ap (λ (v : ℕ). 48 + v) (getD-take w cells c 0 m)
 
 -- the first row and the others behind it
 rows-first : (w k : ℕ) (cells : List ℕ)
@@ -45,7 +42,7 @@ length-rows w (suc k) cells l =
       ap length (rows-first w k cells),
       length-append rowKey (row ++ (feed ∷ rest)),
       length-append row (feed ∷ rest),
-      length-cells w cells (omega arith),
+      row-long w cells (omega arith),
       length-rows w k (drop w cells) (omega (arith, length-drop w cells)),
     )
 
@@ -65,12 +62,12 @@ module _ (s : List ℕ) (at w : ℕ) (cells rest : List ℕ) (fits : w ≤ lengt
   first-row p =
       let behind = stands-right rowKey (cellDigits w cells ++ (feed ∷ rest)) s at p in
       let end : StandsAt (feed ∷ rest) s (at + 4 + w) =
-      rw (length-cells w cells fits) at (stands-right (cellDigits w cells) (feed ∷ rest) s (at + 4) behind) in (
+      rw (row-long w cells fits) at (stands-right (cellDigits w cells) (feed ∷ rest) s (at + 4) behind) in (
         record {
           key = stands-left rowKey (cellDigits w cells ++ (feed ∷ rest)) s at p;
           cell = λ c m.
-              stands-left (cellDigits w cells) (feed ∷ rest) s (at + 4) behind c (omega (arith, length-cells w cells fits))
-              ∙ rw (zero-add c) (getD-cells w cells fits c m);
+              stands-left (cellDigits w cells) (feed ∷ rest) s (at + 4) behind c (omega (arith, row-long w cells fits))
+              ∙ rw (zero-add c) (row-digit w cells fits c m);
           ended = one-stands s (at + 4 + w) feed (stands-left (feed ∷ []) rest s (at + 4 + w) end);
         },
         rw next-row at (stands-right (feed ∷ []) rest s (at + 4 + w) end),
@@ -83,9 +80,9 @@ module _ (s : List ℕ) (at w : ℕ) (cells rest : List ℕ) (fits : w ≤ lengt
       stands-both rowKey (cellDigits w cells ++ (feed ∷ rest)) s at (row .key)
       (stands-both (cellDigits w cells) (feed ∷ rest) s (at + 4)
       (λ c l.
-      let m : c < w = omega (arith, length-cells w cells fits) in
-      row .cell c m ∙ rw (zero-add c) (sym (getD-cells w cells fits c m)))
-      (rw (length-cells w cells fits)
+      let m : c < w = omega (arith, row-long w cells fits) in
+      row .cell c m ∙ rw (zero-add c) (sym (row-digit w cells fits c m)))
+      (rw (row-long w cells fits)
       (stands-both (feed ∷ []) rest s (at + 4 + w) (stands-one s (at + 4 + w) feed (row .ended)) (rw next-row behind))))
 
 -- a row stays where its place and its cells are the same

@@ -12,8 +12,9 @@ use Rattle.lattice.specs.Counting.{allBelow}
 use Rattle.lattice.specs.Shape.{maxSide, maxCells}
 use Rattle.codec.proofs.theory.OneByOne.{Passed, passed-all, failed-at}
 use Rattle.card.specs.Text.{rowKey, feed}
-use Rattle.card.specs.Parse.{keyAt, isCellDigit, rowStart, rowOk, rowsOk, cellPlace, cellsAt}
-use Rattle.card.proofs.theory.StoredFront.{Stored, stored-all}
+use Rattle.card.specs.Parse.{keyAt, isCellDigit, rowStart, rowOk, rowsOk, cellsOfRows}
+use Rattle.card.proofs.theory.RowsRead.{cellByte}
+use Rattle.card.proofs.theory.StoredFront.{StoredTo, stored-all}
 
 -- a row that starts at p
 rowTest : List ℕ → ℕ → ℕ → Bool
@@ -42,7 +43,14 @@ module _ (s : List ℕ) (start w : ℕ) where
     unfolding rowTest
     row-ends p b e = rw (here, key, p, e)
 
+-- line r is tested where it starts
+pub row-moved : (s : List ℕ) (at w r : ℕ) (t : Bool) → t ≡ rowOk s (at + r * (w + 5)) w 0 → t ≡ rowOk s at w r
+row-moved s at w r t e = e ∙ here s (at + r * (w + 5)) w ∙ sym (row-test s at w r (at + r * (w + 5)) (omega arith))
+
 -- the rows, one after the other
+pub rows-product : (w k : ℕ) → k < 4294967296 → w < 65536 → k * (w + 5) ≤ 281496451547136
+rows-product w k p q = let wide : w + 5 ≤ 65541 = omega arith in mul-le-mul (le-of-lt p) wide
+
 module _ (s : List ℕ) (at w k : ℕ) where
   pub rows-behind : length s < at → false ≡ rowsOk s at w k
   unfolding rowsOk
@@ -52,21 +60,12 @@ module _ (s : List ℕ) (at w k : ℕ) where
   unfolding rowsOk
   rows-long l p = rw (ne-eqb (length s) (rowStart at w k) (λ e. p (omega arith)))
 
-  pub rows-product : k < 4294967296 → w < 65536 → k * (w + 5) ≤ 281496451547136
-  rows-product p q = let wide : w + 5 ≤ 65541 = omega arith in mul-le-mul (le-of-lt p) wide
-
   module _ (inside : at ≤ length s) (long : length s - at ≡ k * (w + 5)) where
     same : length s ≡ rowStart at w k
     same = omega arith
 
-    pub row-product : (r : ℕ) → r < k → r * (w + 5) ≤ length s
-    row-product r l = omega (arith, mul-le-mul-right (w + 5) (le-of-lt l))
-
     pub row-inside : (r : ℕ) → r < k → at + r * (w + 5) ≤ length s
     row-inside r l = omega (arith, mul-le-mul-right (w + 5) (le-of-lt l))
-
-    pub row-moved : (r : ℕ) (t : Bool) → t ≡ rowOk s (at + r * (w + 5)) w 0 → t ≡ rowOk s at w r
-    row-moved r t e = e ∙ here s (at + r * (w + 5)) w ∙ sym (row-test s at w r (at + r * (w + 5)) (omega arith))
 
     pub rows-fail : (r : ℕ) → r < k → rowOk s at w r ≡ false → false ≡ rowsOk s at w k
     unfolding rowsOk
@@ -78,10 +77,7 @@ module _ (s : List ℕ) (at w k : ℕ) where
 
 -- the cells, stored one by one
 module _ (s : List ℕ) (at w : ℕ) where
-  unfoldable pub cellByte : ℕ → ℕ
-  cellByte i = getD s (cellPlace at w i) 0 - 48
-
-  pub cell-byte : (i b v : ℕ) → b ≡ getD s (at + i / w * (w + 5) + 4 + i % w) 0 → v ≡ b - 48 → v ≡ cellByte i
+  pub cell-byte : (i b v : ℕ) → b ≡ getD s (at + i / w * (w + 5) + 4 + i % w) 0 → v ≡ b - 48 → v ≡ cellByte s at w i
   unfolding cellByte
   cell-byte i b v e p =
       let wide : w + 5 ≡ 4 + w + 1 = omega arith in
@@ -95,9 +91,9 @@ module _ (s : List ℕ) (at w : ℕ) where
       mul-le-mul far wide
 
   pub cells-stored : (xs ys : List ℕ) (n : ℕ)
-      → Stored cellByte xs ys n
+      → StoredTo (cellByte s at w) xs ys n
       → n ≤ length ys
       → length ys ≤ n
-      → ys ≡ cellsAt s at w (length xs)
-  unfolding cellsAt cellByte
-  cells-stored xs ys n p l q = stored-all cellByte xs ys n p (length xs) refl l q
+      → ys ≡ cellsOfRows s at w (length xs)
+  unfolding cellsOfRows cellByte
+  cells-stored xs ys n p l q = stored-all (cellByte s at w) xs ys n p (length xs) refl l q

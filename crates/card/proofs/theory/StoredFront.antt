@@ -8,16 +8,16 @@ use Rattle.codec.specs.Field.{Field, listOf}
 use Rattle.codec.proofs.theory.FilledLists.{filled-more}
 
 -- the first n bytes of ys are f's, and those behind are as in xs
-pub record Stored (f : Field) (xs ys : List ℕ) (n : ℕ) : Type 0 where
+pub record StoredTo (f : Field) (xs ys : List ℕ) (n : ℕ) : Type 0 where
   pub bytes : ys ≡ listOf f n ++ drop n xs
   pub long : length ys ≡ length xs
 
 module _ (f : Field) (xs : List ℕ) where
-  pub stored-none : Stored f xs xs 0
+  pub stored-none : StoredTo f xs xs 0
   stored-none = record { bytes = refl; long = refl }
 
-  module _ (ys : List ℕ) (n : ℕ) (p : Stored f xs ys n) where
-    pub stored-more : (v : ℕ) → n < length ys → v ≡ f n → Stored f xs (set ys n v) (n + 1)
+  module _ (ys : List ℕ) (n : ℕ) (p : StoredTo f xs ys n) where
+    pub stored-more : (v : ℕ) → n < length ys → v ≡ f n → StoredTo f xs (set ys n v) (n + 1)
     stored-more v l e =
         record { bytes = filled-more f xs n v ys (rw (p .long) at l) e (p .bytes); long = length-set ys n v ∙ p .long }
 

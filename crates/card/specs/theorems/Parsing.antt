@@ -10,7 +10,7 @@ use Rattle.codec.specs.Plan.{planBytes}
 use Rattle.card.specs.declared.header.Header.{Header}
 use Rattle.card.specs.declared.header.HeaderAnswer.the-variants as head
 use Rattle.card.specs.Text.{headerText, payloadText, fieldText}
-use Rattle.card.specs.Card.{maxInput, shapeOf, CardHeader, FieldCells, payloadCard, fieldCard, Small}
+use Rattle.card.specs.Card.{maxInput, shapeOf, CardHeader, FieldCells, payloadCard, fieldCard, FewDigits}
 use Rattle.card.specs.Parse.{headerOf, payloadOk, payloadOf}
 use Rattle.card.specs.Program.{isPayload, rowsFit, cellsIn}
 use Rattle.card.specs.Form.{HeaderFirst}
@@ -41,7 +41,7 @@ pub record TextParses : Type 0 where
 -- read from it.
 pub record ParsedIsText : Type 0 where
   pub header : (s : List ℕ) (h : Header) (next : ℕ) → headerOf s ≡ head.Found h next
-      → Small h × (next ≡ length (headerText h)) × (s ≡ headerText h ++ drop next s)
+      → FewDigits h × (next ≡ length (headerText h)) × (s ≡ headerText h ++ drop next s)
   pub payload : (s : List ℕ) (h : Header) (next : ℕ) → headerOf s ≡ head.Found h next → payloadOk s next ≡ true
       → Bytes (payloadOf s next) × (s ≡ payloadCard h (payloadOf s next))
   pub rows : (s : List ℕ) (h : Header) (next : ℕ) → headerOf s ≡ head.Found h next → rowsFit s h next ≡ true

@@ -29,15 +29,18 @@ as-number-requires c κs = search needs
 
 returns : tie.Need-returns
 returns c =
-    let answer = c .before .before .before .before .before .before .distance-test .ensures .0 in
-    let triple = c .before .before .before .before .before .triple .ensures ∙ answer .triple in
+    let number = c .before .before .before in
+    let tried = number .before in
+    let triple = tried .before in
+    let answer = triple .before .distance-test .ensures .0 in
+    let found = triple .triple .ensures ∙ answer .triple in
     record {
-      number = c .before .before .before .number .ensures ∙ answer .number;
+      number = number .number .ensures ∙ answer .number;
       holds = c .before .as-number .ensures ∙ ap asNumber (c .before .before .holds .ensures ∙ answer .verdict);
-      row = (search needs) ∙ ap (λ (x : Triple). x .row) triple;
-      plane = (search needs) ∙ ap (λ (x : Triple). x .plane) triple;
-      column = (search needs) ∙ ap (λ (x : Triple). x .column) triple;
-      tried = c .before .before .before .before .tried .ensures ∙ answer .tried;
+      row = (search needs) ∙ ap (λ (x : Triple). x .row) found;
+      plane = (search needs) ∙ ap (λ (x : Triple). x .plane) found;
+      column = (search needs) ∙ ap (λ (x : Triple). x .column) found;
+      tried = tried .tried .ensures ∙ answer .tried;
     }
 
 pub varmintfoil-distance-test-spec : {M : Type 1} → statement M

@@ -1,13 +1,16 @@
+-- `fill_cells` meets its contract. The loop's invariant: the first i bytes of the field are cells of the rows, and the others are
+-- as they were.
 use Prim.Native.Nat.{_+_, _-_, _*_, _/_, _≤_, zero-le}
 use native.Mathlib.Omega.{arith}
 use lib.ListN.{length, length-set}
-use Rattle.card.proofs.theory.StoredFront.{Stored, stored-none, stored-more}
-use Rattle.card.proofs.theory.RowsStored.{cellByte, cell-byte, cell-far, cells-stored}
+use Rattle.card.proofs.theory.StoredFront.{StoredTo, stored-none, stored-more}
+use Rattle.card.proofs.theory.RowsRead.{cellByte}
+use Rattle.card.proofs.theory.RowsStored.{cell-byte, cell-far, cells-stored}
 use Rattle.card.proofs.body.fill_cells.Statement.{statement}
 use Rattle.card.proofs.body.fill_cells.Tie as tie
 
 abbrev Inv-loop : tie.InvT-loop
-Inv-loop text at width field₀ i₀ field i = (i ≤ length field) × Stored (cellByte text at width) field₀ field i
+Inv-loop text at width field₀ i₀ field i = (i ≤ length field) × StoredTo (cellByte text at width) field₀ field i
 
 abbrev μ-loop : tie.MeasureT-loop
 μ-loop text at width field₀ i₀ field i = length field - i
@@ -59,9 +62,10 @@ loop-less c = simp length-set (omega arith)
 
 loop-again : tie.Need-loop-again Inv-loop μ-loop
 loop-again c =
-    let a = c .before .before .before .before .before .before .args in (
+    let here = c .before .before .before in
+    let a = here .before .before .before .args in (
       simp length-set (omega arith),
-      stored-more _ _ _ _ (c .before .before .before .loop .inv .1) _ (c .before .before .loop-test .taken)
+      stored-more _ _ _ _ (here .loop .inv .1) _ (c .before .before .loop-test .taken)
           (cell-byte (a .text .now) (a .at) (a .width) _ _ _ (c .before .byte-at .ensures) (c .cell-value .ensures)),
     )
 

@@ -1,3 +1,5 @@
+-- `fill_payload` meets its contract. The loop's invariant: the first j bytes of the payload are those of the line, and the others
+-- are as they were.
 use Prim.Native.Nat.{_+_, _-_, _*_, _≤_, zero-le}
 use mathlib.Core.Bool.{true}
 use mathlib.Core.Path.{_≡_, _∙_}
@@ -5,14 +7,15 @@ use native.Mathlib.Nat.{le-refl}
 use native.Mathlib.Omega.{arith}
 use lib.ListN.{length, length-set}
 use Rattle.card.specs.Parse.{isHex}
-use Rattle.card.proofs.theory.PayloadStored.{payloadByte, payload-room, payload-digit, payload-byte, payload-stored}
+use Rattle.card.proofs.theory.PayloadText.{payloadByte}
+use Rattle.card.proofs.theory.PayloadStored.{payload-room, payload-digit, payload-byte, payload-stored}
 use Rattle.card.proofs.theory.PayloadStored.{value-below}
-use Rattle.card.proofs.theory.StoredFront.{Stored, stored-none, stored-more}
+use Rattle.card.proofs.theory.StoredFront.{StoredTo, stored-none, stored-more}
 use Rattle.card.proofs.body.fill_payload.Statement.{statement}
 use Rattle.card.proofs.body.fill_payload.Tie as tie
 
 abbrev Inv-loop : tie.InvT-loop
-Inv-loop text at payload₀ start j₀ payload j = (j ≤ length payload) × Stored (payloadByte text at) payload₀ payload j
+Inv-loop text at payload₀ start j₀ payload j = (j ≤ length payload) × StoredTo (payloadByte text at) payload₀ payload j
 
 abbrev μ-loop : tie.MeasureT-loop
 μ-loop text at payload₀ start j₀ payload j = length payload - j
@@ -26,11 +29,11 @@ high c =
 
 low : (c : tie.After-byte-at2 Inv-loop μ-loop) → isHex (c .byte-at2 .result) ≡ true
 low c =
-    let e = c .before .before .before .before .before .before .before in
-    let turn = c .before .before .before .before .loop in
+    let test = c .before .before .before in
+    let turn = test .before .loop in
+    let e = test .before .before .before .before in
     payload-digit (e .args .text .now) (e .args .at) (e .pre .0) _ (turn .j) (2 * turn .j + 1) _
-    (turn .inv .1 .long ∙ e .pre .1) (c .before .before .before .loop-test .taken) (le-refl _)
-    (c .byte-at2 .ensures)
+    (turn .inv .1 .long ∙ e .pre .1) (test .loop-test .taken) (le-refl _) (c .byte-at2 .ensures)
 
 add-start : tie.Need-add-start Inv-loop μ-loop
 add-start c = omega (arith, payload-room _ _ (c .before .before .pre .0))
@@ -81,12 +84,13 @@ loop-less c = simp length-set (omega arith)
 
 loop-again : tie.Need-loop-again Inv-loop μ-loop
 loop-again c =
-    let a = c .before .before .before .before .before .before .before .before .args in (
+    let first = c .before .before .before in
+    let test = first .before in
+    let a = test .before .before .before .before .args in (
       simp length-set (omega arith),
-      stored-more _ _ _ _ (c .before .before .before .before .before .loop .inv .1) _
-          (c .before .before .before .before .loop-test .taken)
-          (payload-byte (a .text .now) (a .at) _ _ _ _ _ (c .before .before .before .byte-at .ensures)
-          (c .before .byte-at2 .ensures) (c .before .before .hex-value .ensures) (c .hex-value2 .ensures)),
+      stored-more _ _ _ _ (test .before .loop .inv .1) _ (test .loop-test .taken)
+          (payload-byte (a .text .now) (a .at) _ _ _ _ _ (first .byte-at .ensures) (c .before .byte-at2 .ensures)
+          (c .before .before .hex-value .ensures) (c .hex-value2 .ensures)),
     )
 
 same-length : tie.Need-same-length Inv-loop μ-loop
@@ -94,8 +98,8 @@ same-length c = c .before .loop .inv .1 .long
 
 returns : tie.Need-returns Inv-loop μ-loop
 returns c =
-    payload-stored _ _ _ _ _ (c .before .before .before .before .pre .1) (c .before .loop .inv .1)
-    (c .before .loop .inv .0) (c .loop-test .left)
+    let turn = c .before .loop in
+    payload-stored _ _ _ _ _ (c .before .before .before .before .pre .1) (turn .inv .1) (turn .inv .0) (c .loop-test .left)
 
 pub fill-payload-spec : {M : Type 1} → statement M
 fill-payload-spec =

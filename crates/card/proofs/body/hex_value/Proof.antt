@@ -1,3 +1,4 @@
+-- `hex_value` meets its contract: a digit is at least 48, and one from 58 on at least 87, so that neither difference wraps.
 use mathlib.Core.Path.{sym}
 use Rattle.card.proofs.theory.PayloadStored.{hex-least, hex-letter}
 use Rattle.card.proofs.theory.HexText.{value-low, value-high}

@@ -1,3 +1,4 @@
+-- `is_hex` meets its contract: the first range settles it, or else the second.
 use borrow.Author.Needs.{needs}
 use mathlib.Core.Path.{sym, _∙_}
 use Rattle.card.proofs.theory.PayloadStored.{hex-first, hex-second}

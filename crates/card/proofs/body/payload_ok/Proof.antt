@@ -1,3 +1,4 @@
+-- `payload_ok` meets its contract: the tests of the line come one after the other, in the definition's order.
 use borrow.Author.Needs.{needs}
 use Prim.Native.Nat.{_+_, _≤_}
 use mathlib.Core.Bool.{true}
@@ -48,17 +49,17 @@ sub-digits c = omega arith
 
 returns-4 : tie.Need-returns-4
 returns-4 c =
-    payload-odd _ _ (key (c .before .before .before .before)) (c .before .before .before .if2 .left)
-    (c .before .if3 .left) (c .if4 .taken)
+    let two = c .before .before .before in
+    payload-odd _ _ (key (two .before)) (two .if2 .left) (c .before .if3 .left) (c .if4 .taken)
 
 all-hex-requires : tie.Need-all-hex-requires
 all-hex-requires c κs = search needs
 
 returns-5 : tie.Need-returns-5
 returns-5 c =
-    payload-digits _ _ (key (c .before .before .before .before .before))
-    (c .before .before .before .before .if2 .left) (c .before .before .if3 .left) (c .before .if4 .left) _
-    (c .all-hex .ensures)
+    let two = c .before .before .before .before in
+    payload-digits _ _ (key (two .before)) (two .if2 .left) (c .before .before .if3 .left)
+    (c .before .if4 .left) _ (c .all-hex .ensures)
 
 pub payload-ok-spec : {M : Type 1} → statement M
 payload-ok-spec =

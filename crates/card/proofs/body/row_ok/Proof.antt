@@ -1,3 +1,4 @@
+-- `row_ok` meets its contract: the key, the digits and the line feed are tested one after the other.
 use borrow.Author.Needs.{needs}
 use native.Mathlib.Omega.{arith}
 use Rattle.lattice.proofs.theory.Bools.{failed, passed}
@@ -22,7 +23,8 @@ all-cells-requires c κs = search needs
 
 returns-2 : tie.Need-returns-2
 returns-2 c =
-    row-other _ _ _ (passed _ _ (c .before .before .if1 .left) (c .before .before .before .key-at .ensures))
+    let one = c .before .before in
+    row-other _ _ _ (passed _ _ (one .if1 .left) (one .before .key-at .ensures))
     (failed _ _ (c .if2 .taken) (c .before .all-cells .ensures))
 
 byte-at-requires : tie.Need-byte-at-requires
@@ -30,8 +32,8 @@ byte-at-requires c κs = search needs
 
 returns-3 : tie.Need-returns-3
 returns-3 c =
-    row-ends _ _ _
-    (passed _ _ (c .before .before .before .if1 .left) (c .before .before .before .before .key-at .ensures))
+    let one = c .before .before .before in
+    row-ends _ _ _ (passed _ _ (one .if1 .left) (one .before .key-at .ensures))
     (passed _ _ (c .before .if2 .left) (c .before .before .all-cells .ensures)) _ (c .byte-at .ensures)
 
 pub row-ok-spec : {M : Type 1} → statement M

@@ -1,9 +1,11 @@
-use Prim.Native.Nat.{_-_, _≤_, zero-le}
+-- `rows_ok` meets its contract. The loop's invariant: the first r lines are rows.
+use Prim.Native.Nat.{_+_, _-_, _*_, _≤_, zero-le}
 use native.Mathlib.Omega.{arith}
+use lib.ListN.{length}
 use Rattle.lattice.proofs.theory.Bools.{failed, passed}
 use Rattle.codec.proofs.theory.OneByOne.{Passed, passed-none, passed-more}
 use Rattle.card.specs.Parse.{rowOk}
-use Rattle.card.proofs.theory.RowsStored.{rows-behind, rows-long, rows-product, row-product, row-inside, row-moved}
+use Rattle.card.proofs.theory.RowsStored.{rows-behind, rows-long, rows-product, row-inside, row-moved}
 use Rattle.card.proofs.theory.RowsStored.{rows-fail, rows-pass}
 use Rattle.card.proofs.body.rows_ok.Statement.{statement}
 use Rattle.card.proofs.body.rows_ok.Tie as tie
@@ -13,6 +15,15 @@ Inv-loop text at columns rows width lines r₀ r = (r ≤ lines) × Passed (rowO
 
 abbrev μ-loop : tie.MeasureT-loop
 μ-loop text at columns rows width lines r₀ r = lines - r
+
+-- the line that is next starts inside the text
+inside : (c : tie.In-loop Inv-loop μ-loop)
+    → let a = c .before .before .before .before .before .args in
+    a .at + c .before .loop .r * (a .columns + 5) ≤ length (a .text .now)
+inside c =
+    let two = c .before .before in
+    let a = two .before .before .before .args in
+    row-inside (a .text .now) (a .at) (a .columns) (a .rows) (two .before .if1 .left) (two .if2 .left) _ (c .loop-test .taken)
 
 returns : tie.Need-returns Inv-loop μ-loop
 returns c = rows-behind _ _ _ _ (c .if1 .taken)
@@ -26,11 +37,7 @@ add-if2 c = omega arith
 mul-if2 : tie.Need-mul-if2 Inv-loop μ-loop
 mul-if2 c =
     let e = c .before .before in
-    let a = e .args in
-    omega (
-      arith,
-      rows-product (a .text .now) (a .at) (a .columns) (a .rows) (e .fits .rows .fits) (e .fits .columns .fits),
-    )
+    omega (arith, rows-product (e .args .columns) (e .args .rows) (e .fits .rows .fits) (e .fits .columns .fits))
 
 returns-2 : tie.Need-returns-2 Inv-loop μ-loop
 returns-2 c = rows-long _ _ _ _ (c .before .if1 .left) (c .if2 .taken)
@@ -42,38 +49,20 @@ add-row-ok : tie.Need-add-row-ok Inv-loop μ-loop
 add-row-ok c = omega arith
 
 mul-row-ok : tie.Need-mul-row-ok Inv-loop μ-loop
-mul-row-ok c =
-    let a = c .before .before .before .before .before .args in
-    omega (
-      arith,
-      row-product (a .text .now) (a .at) (a .columns) (a .rows) (c .before .before .before .if1 .left)
-          (c .before .before .if2 .left) _ (c .loop-test .taken),
-    )
+mul-row-ok c = omega (arith, inside c)
 
 add-row-ok-2 : tie.Need-add-row-ok-2 Inv-loop μ-loop
-add-row-ok-2 c =
-    let a = c .before .before .before .before .before .args in
-    omega (
-      arith,
-      row-inside (a .text .now) (a .at) (a .columns) (a .rows) (c .before .before .before .if1 .left)
-          (c .before .before .if2 .left) _ (c .loop-test .taken),
-    )
+add-row-ok-2 c = omega (arith, inside c)
 
 row-ok-requires : tie.Need-row-ok-requires Inv-loop μ-loop
-row-ok-requires c κs =
-    let a = c .before .before .before .before .before .args in
-    row-inside (a .text .now) (a .at) (a .columns) (a .rows) (c .before .before .before .if1 .left)
-    (c .before .before .if2 .left) _ (c .loop-test .taken)
+row-ok-requires c κs = inside c
 
 returns-3 : tie.Need-returns-3 Inv-loop μ-loop
 returns-3 c =
-    let a = c .before .before .before .before .before .before .before .args in
-    let if1 = c .before .before .before .before .before .if1 in
-    let if2 = c .before .before .before .before .if2 in
-    rows-fail (a .text .now) (a .at) (a .columns) (a .rows) (if1 .left) (if2 .left) _
-    (c .before .before .loop-test .taken) (failed _ _ (c .if3 .taken)
-    (row-moved (a .text .now) (a .at) (a .columns) (a .rows) (if1 .left) (if2 .left) _ _
-    (c .before .row-ok .ensures)))
+    let two = c .before .before .before .before in
+    let a = two .before .before .before .args in
+    rows-fail (a .text .now) (a .at) (a .columns) (a .rows) (two .before .if1 .left) (two .if2 .left) _
+    (c .before .before .loop-test .taken) (failed _ _ (c .if3 .taken) (row-moved _ _ _ _ _ (c .before .row-ok .ensures)))
 
 add-r : tie.Need-add-r Inv-loop μ-loop
 add-r c = omega arith
@@ -82,20 +71,19 @@ loop-less : tie.Need-loop-less Inv-loop μ-loop
 loop-less c = omega arith
 
 loop-again : tie.Need-loop-again Inv-loop μ-loop
-loop-again c =
-    let a = c .before .before .before .before .before .before .before .args in (
-      omega arith,
-      passed-more _ _ (c .before .before .before .loop .inv .1)
-          (passed _ _ (c .if3 .left) (row-moved (a .text .now) (a .at) (a .columns) (a .rows)
-          (c .before .before .before .before .before .if1 .left) (c .before .before .before .before .if2 .left) _
-          _ (c .before .row-ok .ensures))),
-    )
+loop-again c = (
+  omega arith,
+  passed-more _ _ (c .before .before .before .loop .inv .1)
+      (passed _ _ (c .if3 .left) (row-moved _ _ _ _ _ (c .before .row-ok .ensures))),
+)
 
 returns-4 : tie.Need-returns-4 Inv-loop μ-loop
 returns-4 c =
-    let a = c .before .before .before .before .before .args in
-    rows-pass (a .text .now) (a .at) (a .columns) (a .rows) (c .before .before .before .if1 .left)
-    (c .before .before .if2 .left) _ (c .before .loop .inv .1) (c .before .loop .inv .0) (c .loop-test .left)
+    let two = c .before .before in
+    let a = two .before .before .before .args in
+    let turn = c .before .loop in
+    rows-pass (a .text .now) (a .at) (a .columns) (a .rows) (two .before .if1 .left) (two .if2 .left) _
+    (turn .inv .1) (turn .inv .0) (c .loop-test .left)
 
 pub rows-ok-spec : {M : Type 1} → statement M
 rows-ok-spec =

@@ -1,3 +1,4 @@
+-- `header_length` meets its contract: lines that are written from 0 on end at their length, and the buffer has room for any.
 use borrow.Author.Needs.{needs}
 use native.Mathlib.Omega.{arith}
 use native.Mathlib.Nat.{zero-add}

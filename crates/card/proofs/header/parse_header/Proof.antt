@@ -33,9 +33,9 @@ enum-told c = search needs
 returns : tie.Need-returns Inv-loop μ-loop
 unfolding headerOf
 returns c =
-    let b = c .before .before .before .before in
+    let test = c .before .before .before in
     ap headerRead
-    (reading-fault headerKeys _ _ _ _ (b .loop .inv) (c .before .before .before .loop-test .taken)
+    (reading-fault headerKeys _ _ _ _ (test .before .loop .inv) (test .loop-test .taken)
     (sym (c .before .before .line-of .ensures) ∙ c .enum-told .given .1))
 
 mul-numbers : tie.Need-mul-numbers Inv-loop μ-loop
@@ -52,9 +52,10 @@ loop-less c = omega arith
 
 loop-again : tie.Need-loop-again Inv-loop μ-loop
 loop-again c =
-    let b = c .before .before .before .before .before in
-    reading-more headerKeys _ _ _ _ (b .loop .inv) (c .before .before .before .before .loop-test .taken) _ _
-    (sym (c .before .before .before .line-of .ensures) ∙ c .before .n .given .1)
+    let line = c .before .before .before in
+    let test = line .before in
+    reading-more headerKeys _ _ _ _ (test .before .loop .inv) (test .loop-test .taken) _ _
+    (sym (line .line-of .ensures) ∙ c .before .n .given .1)
 
 header-from-requires : tie.Need-header-from-requires Inv-loop μ-loop
 header-from-requires c κs = search needs

@@ -5,7 +5,7 @@ use mathlib.Core.Path.{_≡_, ap}
 use native.Mathlib.Omega.{arith}
 use lib.ListN.{length}
 use Rattle.card.specs.Text.{headerKeys, linesText, linesOf, headerText}
-use Rattle.card.specs.Working.{Room}
+use Rattle.card.specs.Working.{HasRoom}
 use Rattle.card.proofs.header.Lines.{Writing, writing-none, writing-long, line-room, writing-more, writing-all}
 use Rattle.card.proofs.header.put_header.Statement.{statement}
 use Rattle.card.proofs.header.put_header.Tie as tie
@@ -21,7 +21,8 @@ count : (c : tie.After-header-numbers Inv-loop μ-loop) → length (c .header-nu
 count c = ap length (c .header-numbers .ensures)
 
 room : (c : tie.After-header-numbers Inv-loop μ-loop)
-    → let a = c .before .before .args in Room (a .out .now) (a .at) (linesText (linesOf headerKeys (c .header-numbers .result)))
+    → let a = c .before .before .args in
+    HasRoom (a .out .now) (a .at) (linesText (linesOf headerKeys (c .header-numbers .result)))
 unfolding headerText
 room c = rw (c .header-numbers .ensures) (c .before .before .pre)
 
@@ -51,10 +52,10 @@ loop-less c = omega arith
 
 loop-again : tie.Need-loop-again Inv-loop μ-loop
 loop-again c =
-    let a = c .before .before .before .before .before .before in
-    writing-more headerKeys (a .header-numbers .result) (count a) (room a) (c .before .before .before .before .before .loop .inv)
-    (c .before .before .before .before .loop-test .taken)
-    (c .before .before .put-line-of .ensures)
+    let test = c .before .before .before .before in
+    let a = test .before .before in
+    writing-more headerKeys (a .header-numbers .result) (count a) (room a)
+    (test .before .loop .inv) (test .loop-test .taken) (c .before .before .put-line-of .ensures)
 
 same-length : tie.Need-same-length Inv-loop μ-loop
 same-length c =

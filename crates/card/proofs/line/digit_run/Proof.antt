@@ -1,12 +1,13 @@
+-- `digit_run` meets its contract. The loop's invariant: the first k bytes are digits.
 use Prim.Native.Nat.{_-_, _≤_, zero-le}
 use native.Mathlib.Omega.{arith}
 use Rattle.lattice.proofs.theory.Bools.{failed, passed}
-use Rattle.card.proofs.line.Digits.{Run, run-none, run-more, run-ends, run-full}
+use Rattle.card.proofs.line.Digits.{DigitsRead, run-none, run-more, run-ends, run-full}
 use Rattle.card.proofs.line.digit_run.Statement.{statement}
 use Rattle.card.proofs.line.digit_run.Tie as tie
 
 abbrev Inv-loop : tie.InvT-loop
-Inv-loop text at k₀ k = (k ≤ 6) × Run text at k
+Inv-loop text at k₀ k = (k ≤ 6) × DigitsRead text at k
 
 abbrev μ-loop : tie.MeasureT-loop
 μ-loop text at k₀ k = 6 - k
@@ -22,8 +23,9 @@ is-digit-requires c κs = tt
 
 returns : tie.Need-returns Inv-loop μ-loop
 returns c =
-    run-ends _ _ _ _ (c .before .before .before .before .loop .inv .1) (c .before .before .before .loop-test .taken)
-    (c .before .before .byte-at .ensures) (failed _ _ (c .if1 .taken) (c .before .is-digit .ensures))
+    let test = c .before .before .before in
+    run-ends _ _ _ _ (test .before .loop .inv .1) (test .loop-test .taken) (c .before .before .byte-at .ensures)
+    (failed _ _ (c .if1 .taken) (c .before .is-digit .ensures))
 
 add-k : tie.Need-add-k Inv-loop μ-loop
 add-k c = omega arith

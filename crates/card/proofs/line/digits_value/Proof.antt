@@ -1,3 +1,4 @@
+-- `digits_value` meets its contract. The loop's invariant: the value is that of the first i digits.
 use Prim.Native.Nat.{_-_, _≤_, zero-le, _<_}
 use mathlib.Core.Path.{_≡_, refl}
 use native.Mathlib.Omega.{arith}
@@ -15,14 +16,14 @@ abbrev μ-loop : tie.MeasureT-loop
 room : (c : tie.In-loop Inv-loop μ-loop) → c .before .loop .value < 10000
 room c =
     let e = c .before .before .before in
-    value-room (e .args .text .now) (e .args .at) _ (e .pre .0) (e .pre .1) _ (c .loop-test .taken) _
-    (c .before .loop .inv .1)
+    let a = e .args in
+    value-room (a .text .now) (a .at) _ (e .pre .0) (e .pre .1) _ (c .loop-test .taken) _ (c .before .loop .inv .1)
 
 high : (c : tie.After-byte-at Inv-loop μ-loop) → c .byte-at .result ≤ 57
 high c =
     let e = c .before .before .before .before in
-    digit-high (e .args .text .now) (e .args .at) _ (e .pre .0) (e .pre .1) _ (c .before .loop-test .taken) _
-    (c .byte-at .ensures)
+    let a = e .args in
+    digit-high (a .text .now) (a .at) _ (e .pre .0) (e .pre .1) _ (c .before .loop-test .taken) _ (c .byte-at .ensures)
 
 loop-holds : tie.Need-loop-holds Inv-loop μ-loop
 loop-holds c = (zero-le, refl)
@@ -36,8 +37,8 @@ byte-at-requires c κs = tt
 sub-value : tie.Need-sub-value Inv-loop μ-loop
 sub-value c =
     let e = c .before .before .before .before in
-    digit-low (e .args .text .now) (e .args .at) _ (e .pre .0) (e .pre .1) _ (c .before .loop-test .taken) _
-    (c .byte-at .ensures)
+    let a = e .args in
+    digit-low (a .text .now) (a .at) _ (e .pre .0) (e .pre .1) _ (c .before .loop-test .taken) _ (c .byte-at .ensures)
 
 cast-value : tie.Need-cast-value Inv-loop μ-loop
 cast-value c = omega (arith, high c)

@@ -1,3 +1,4 @@
+-- `line_at` meets its contract: without its key there is no line, and else the number behind the key is the line's.
 use borrow.Author.Needs.{needs}
 use native.Mathlib.Omega.{arith}
 use Rattle.lattice.proofs.theory.Bools.{failed, passed}

@@ -1,3 +1,4 @@
+-- `number_at` meets its contract: digits that end their line are at most five and stand inside the text.
 use borrow.Author.Needs.{needs}
 use Prim.Native.Nat.{_+_, _<_}
 use native.Mathlib.Omega.{arith}

@@ -1,3 +1,4 @@
+-- `put_digits` meets its contract. The number of digits falls with each call, and the last digit is written behind the others.
 use borrow.Author.Needs.{needs}
 use Prim.Native.Nat.{ℕ, _<_}
 use native.Mathlib.Omega.{arith}
@@ -22,88 +23,48 @@ abbrev put-digits-below : ℕ → In 1 put-digits-kinds.ps
 put-digits-below t =
     and 1 put-digits-kinds.ps (falls 1 put-digits-kinds.ps _<_ μ-put-digits t) put-digits.Pre
 
-put-digits-returns : (t : ℕ) → put-digits-lts.Need-returns (
-  put-digits-below t,
-  put-digits.Post,
-  put-byte-reads.Asked,
-  put-byte-reads.Learnt,
-) (put-digits-at t) put-digits.Post
+-- what the call for fewer digits and that of `put_byte` ask for and give
+abbrev claims : ℕ → put-digits-lts.Claims
+claims t = (put-digits-below t, put-digits.Post, put-byte-reads.Asked, put-byte-reads.Learnt)
+
+put-digits-returns : (t : ℕ) → put-digits-lts.Need-returns (claims t) (put-digits-at t) put-digits.Post
 put-digits-returns t c = digits-done _ _ (c .before .before .pre .1) (c .if1 .taken)
 
-put-digits-sub-put-digits : (t : ℕ) → put-digits-lts.Need-sub-put-digits (
-  put-digits-below t,
-  put-digits.Post,
-  put-byte-reads.Asked,
-  put-byte-reads.Learnt,
-) (put-digits-at t) put-digits.Post
+put-digits-sub-put-digits : (t : ℕ) → put-digits-lts.Need-sub-put-digits (claims t) (put-digits-at t) put-digits.Post
 put-digits-sub-put-digits t c = omega (arith, c .before .if1 .left)
 
-put-digits-put-digits-requires : (t : ℕ) → put-digits-lts.Need-put-digits-requires (
-  put-digits-below t,
-  put-digits.Post,
-  put-byte-reads.Asked,
-  put-byte-reads.Learnt,
-) (put-digits-at t) put-digits.Post
-put-digits-put-digits-requires t c κs = (
-  omega (arith, c .before .if1 .left, c .before .before .before .pre .0),
-  digits-room _ _ (c .before .before .before .pre .1) (c .before .if1 .left),
-)
+put-digits-put-digits-requires : (t : ℕ) → put-digits-lts.Need-put-digits-requires (claims t) (put-digits-at t) put-digits.Post
+put-digits-put-digits-requires t c κs =
+    let some = c .before in
+    let e = some .before .before in
+    (omega (arith, some .if1 .left, e .pre .0), digits-room _ _ (e .pre .1) (some .if1 .left))
 
-put-digits-cast-put-byte : (t : ℕ) → put-digits-lts.Need-cast-put-byte (
-  put-digits-below t,
-  put-digits.Post,
-  put-byte-reads.Asked,
-  put-byte-reads.Learnt,
-) (put-digits-at t) put-digits.Post
+put-digits-cast-put-byte : (t : ℕ) → put-digits-lts.Need-cast-put-byte (claims t) (put-digits-at t) put-digits.Post
 put-digits-cast-put-byte t c = omega arith
 
-put-digits-add-put-byte : (t : ℕ) → put-digits-lts.Need-add-put-byte (
-  put-digits-below t,
-  put-digits.Post,
-  put-byte-reads.Asked,
-  put-byte-reads.Learnt,
-) (put-digits-at t) put-digits.Post
+put-digits-add-put-byte : (t : ℕ) → put-digits-lts.Need-add-put-byte (claims t) (put-digits-at t) put-digits.Post
 put-digits-add-put-byte t c = omega arith
 
-put-digits-put-byte-requires : (t : ℕ) → put-digits-lts.Need-put-byte-requires (
-  put-digits-below t,
-  put-digits.Post,
-  put-byte-reads.Asked,
-  put-byte-reads.Learnt,
-) (put-digits-at t) put-digits.Post
+put-digits-put-byte-requires : (t : ℕ) → put-digits-lts.Need-put-byte-requires (claims t) (put-digits-at t) put-digits.Post
 put-digits-put-byte-requires t c κs =
-    last-room _ _ (c .before .before .before .before .before .before .before .pre .1)
-    (c .before .before .before .before .before .if1 .left) (c .before .before .before .put-digits .ensures)
+    let others = c .before .before .before in
+    let some = others .before .before in
+    last-room _ _ (some .before .before .pre .1) (some .if1 .left) (others .put-digits .ensures)
 
-put-digits-same-length : (t : ℕ) → put-digits-lts.Need-same-length (
-  put-digits-below t,
-  put-digits.Post,
-  put-byte-reads.Asked,
-  put-byte-reads.Learnt,
-) (put-digits-at t) put-digits.Post
+put-digits-same-length : (t : ℕ) → put-digits-lts.Need-same-length (claims t) (put-digits-at t) put-digits.Post
 put-digits-same-length t c = search needs
 
-put-digits-returns-2 : (t : ℕ) → put-digits-lts.Need-returns-2 (
-  put-digits-below t,
-  put-digits.Post,
-  put-byte-reads.Asked,
-  put-byte-reads.Learnt,
-) (put-digits-at t) put-digits.Post
+put-digits-returns-2 : (t : ℕ) → put-digits-lts.Need-returns-2 (claims t) (put-digits-at t) put-digits.Post
 put-digits-returns-2 t c =
-    digits-printed _ _ (c .before .before .before .before .before .before .before .before .before .before .pre .1)
-    (c .before .before .before .before .before .before .before .before .if1 .left)
-    (c .before .before .before .before .before .before .put-digits .ensures)
-    (c .before .before .put-byte .ensures)
+    let others = c .before .before .before .before .before .before in
+    let some = others .before .before in
+    digits-printed _ _ (some .before .before .pre .1)
+    (some .if1 .left) (others .put-digits .ensures) (c .before .before .put-byte .ensures)
 
 pub +put-digits-spec : {M : Type 1} → statement M
-+put-digits-spec = close μ-put-digits λ t. put-digits-lts.spec (
-  put-digits-below t,
-  put-digits.Post,
-  put-byte-reads.Asked,
-  put-byte-reads.Learnt,
-)
-    (put-digits-at t)
-    put-digits.Post
++put-digits-spec =
+    close μ-put-digits λ t.
+    put-digits-lts.spec (claims t) (put-digits-at t) put-digits.Post
     (put-digits-returns t)
     (put-digits-sub-put-digits t)
     (put-digits-put-digits-requires t)

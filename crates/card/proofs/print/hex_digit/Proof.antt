@@ -1,3 +1,4 @@
+-- `hex_digit` meets its contract: below 10 it is a figure, and else a letter.
 use mathlib.Core.Path.{sym}
 use native.Mathlib.Omega.{arith}
 use Rattle.card.proofs.theory.HexText.{digit-low, digit-high}

@@ -1,3 +1,4 @@
+-- `number_line_length` meets its contract: a number has at most five digits, so that no sum wraps.
 use borrow.Author.Needs.{needs}
 use native.Mathlib.Omega.{arith}
 use Rattle.card.proofs.theory.LineText.{length-line}

@@ -1,3 +1,4 @@
+-- `put_byte` meets its contract.
 use borrow.Author.Needs.{needs}
 use native.Mathlib.Omega.{arith}
 use Rattle.card.proofs.theory.Printed.{printed-one}

@@ -1,3 +1,4 @@
+-- `put_bytes` meets its contract. The loop's invariant: the first i bytes are written.
 use Prim.Native.Nat.{_+_, _-_, _≤_, zero-le}
 use mathlib.Core.Path.{refl}
 use native.Mathlib.Omega.{arith}
@@ -35,8 +36,7 @@ loop-less c = omega arith
 loop-again : tie.Need-loop-again Inv-loop μ-loop
 loop-again c = (
   omega arith,
-  prefix-more (c .before .before .before .pre) _ _ (c .before .loop-test .taken) refl
-      (c .before .before .loop .inv .1),
+  prefix-more (c .before .before .before .pre) _ _ (c .before .loop-test .taken) refl (c .before .before .loop .inv .1),
 )
 
 add-result : tie.Need-add-result Inv-loop μ-loop

@@ -1,10 +1,11 @@
+-- `put_cells` meets its contract. The loop's invariant: the digits of the first i cells are written.
 use Prim.Native.Nat.{_+_, _-_, _≤_, _<_, zero-le}
 use native.Mathlib.Omega.{arith}
 use lib.ListN.{length, take}
 use Rattle.card.specs.Text.{cellsText}
 use Rattle.card.specs.Working.{Printed}
 use Rattle.codec.proofs.theory.CellValues.{received-digit}
-use Rattle.card.proofs.print.Text.{length-cells, cell-digit}
+use Rattle.card.proofs.theory.CellDigits.{length-cells, cell-text}
 use Rattle.card.proofs.theory.Printed.{prefix-none, prefix-more, prefix-index, prefix-long, prefix-all}
 use Rattle.card.proofs.print.put_cells.Statement.{statement}
 use Rattle.card.proofs.print.put_cells.Tie as tie
@@ -27,22 +28,10 @@ shared-slice-read-out c = omega arith
 add-out : tie.Need-add-out Inv-loop μ-loop
 add-out c =
     let e = c .before .before .before in
-    omega (
-      arith,
-      length-cells (e .args .cells .now),
-      e .pre .0 .fits,
-      received-digit _ (e .pre .1 (c .before .before .loop .i) (c .before .loop-test .taken)),
-    )
+    omega (arith, received-digit _ (e .pre .1 (c .before .before .loop .i) (c .before .loop-test .taken)))
 
 add-out-2 : tie.Need-add-out-2 Inv-loop μ-loop
-add-out-2 c =
-    let e = c .before .before .before in
-    omega (
-      arith,
-      length-cells (e .args .cells .now),
-      e .pre .0 .fits,
-      received-digit _ (e .pre .1 (c .before .before .loop .i) (c .before .loop-test .taken)),
-    )
+add-out-2 c = omega (arith, inside (c .before), c .before .before .before .pre .0 .fits)
 
 slice-write-out : tie.Need-slice-write-out Inv-loop μ-loop
 slice-write-out c = prefix-index (c .before .before .before .pre .0) _ (inside (c .before)) (c .before .before .loop .inv .1)
@@ -58,7 +47,7 @@ loop-again c =
     let e = c .before .before .before in (
       omega arith,
       prefix-more (e .pre .0) _ _ (inside (c .before))
-          (cell-digit (e .args .cells .now) _ (c .before .loop-test .taken)) (c .before .before .loop .inv .1),
+          (cell-text (e .args .cells .now) _ (c .before .loop-test .taken)) (c .before .before .loop .inv .1),
     )
 
 add-result : tie.Need-add-result Inv-loop μ-loop
@@ -73,9 +62,9 @@ same-length c =
 
 returns : tie.Need-returns Inv-loop μ-loop
 returns c =
+    let turn = c .before .loop in
     let e = c .before .before in
-    prefix-all (e .pre .0) _ _ (length-cells (e .args .cells .now)) (c .before .loop .inv .0) (c .loop-test .left)
-    (c .before .loop .inv .1)
+    prefix-all (e .pre .0) _ _ (length-cells (e .args .cells .now)) (turn .inv .0) (c .loop-test .left) (turn .inv .1)
 
 pub put-cells-spec : {M : Type 1} → statement M
 put-cells-spec =

@@ -1,3 +1,4 @@
+-- `put_number_line` meets its contract: the key, the digits and the line feed are written one behind the other.
 use borrow.Author.Needs.{needs}
 use mathlib.Core.List.{[], _∷_, _++_}
 use mathlib.Core.Path.{_≡_, refl}
@@ -24,28 +25,26 @@ digit-count-requires c κs = search needs
 
 put-digits-requires : tie.Need-put-digits-requires
 put-digits-requires c κs =
-    value-room _ _ (line c) (c .before .before .before .before .before .before .before .before .pre)
-    (c .before .before .before .before .put-bytes .ensures)
+    let key = c .before .before .before .before in
+    value-room _ _ (line c) (key .before .before .before .before .pre) (key .put-bytes .ensures)
 
 put-byte-requires : tie.Need-put-byte-requires
 put-byte-requires c κs =
-    feed-room _ _ (line (c .before .before .before .before))
-    (c .before .before .before .before .before .before .before .before .before .before .before .before .pre)
-    (c .before .before .before .before .before .before .before .before .put-bytes .ensures)
-    (c .before .before .before .put-digits .ensures)
+    let digits = c .before .before .before in
+    let count = digits .before in
+    let key = count .before .before .before .before in
+    feed-room _ _ (line count) (key .before .before .before .before .pre) (key .put-bytes .ensures) (digits .put-digits .ensures)
 
 same-length : tie.Need-same-length
 same-length c = search needs
 
 returns : tie.Need-returns
 returns c =
-    line-printed _ _ (line (c .before .before .before .before .before .before .before))
-    (c .before .before .before .before .before .before .before .before .before .before .before .before .before
-    .before .before .pre)
-    (c .before .before .before .before .before .before .before .before .before .before .before .put-bytes
-    .ensures)
-    (c .before .before .before .before .before .before .put-digits .ensures)
-    (c .before .before .put-byte .ensures)
+    let digits = c .before .before .before .before .before .before in
+    let count = digits .before in
+    let key = count .before .before .before .before in
+    line-printed _ _ (line count) (key .before .before .before .before .pre) (key .put-bytes .ensures)
+    (digits .put-digits .ensures) (c .before .before .put-byte .ensures)
 
 pub put-number-line-spec : {M : Type 1} → statement M
 put-number-line-spec =

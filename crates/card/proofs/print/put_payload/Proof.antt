@@ -1,3 +1,4 @@
+-- `put_payload` meets its contract: the key, the digits and the line feed are written one behind the other.
 use borrow.Author.Needs.{needs}
 use Rattle.card.specs.Text.{payloadKey, hexText}
 use Rattle.card.proofs.print.Lines.{key-room, value-room, feed-room, line-printed, payload-parts}
@@ -14,27 +15,27 @@ put-bytes-requires c κs =
 
 put-hex-requires : tie.Need-put-hex-requires
 put-hex-requires c κs =
-    let e = c .before .before .before .before .before .before .before .before in
-    value-room _ _ (payload-parts (e .args .payload .now)) (e .pre) (c .before .before .before .put-bytes .ensures)
+    let key = c .before .before .before in
+    let e = key .before .before .before .before .before in
+    value-room _ _ (payload-parts (e .args .payload .now)) (e .pre) (key .put-bytes .ensures)
 
 put-byte-requires : tie.Need-put-byte-requires
 put-byte-requires c κs =
-    let e = c .before .before .before .before .before .before .before .before .before .before .before .before in
-    feed-room _ _ (payload-parts (e .args .payload .now)) (e .pre)
-    (c .before .before .before .before .before .before .before .put-bytes .ensures)
-    (c .before .before .before .put-hex .ensures)
+    let digits = c .before .before .before in
+    let key = digits .before .before .before .before in
+    let e = key .before .before .before .before .before in
+    feed-room _ _ (payload-parts (e .args .payload .now)) (e .pre) (key .put-bytes .ensures) (digits .put-hex .ensures)
 
 same-length : tie.Need-same-length
 same-length c = search needs
 
 returns : tie.Need-returns
 returns c =
-    let e =
-    c .before .before .before .before .before .before .before .before .before .before .before .before .before
-    .before .before in
+    let digits = c .before .before .before .before .before .before in
+    let key = digits .before .before .before .before in
+    let e = key .before .before .before .before .before in
     line-printed _ _ (payload-parts (e .args .payload .now)) (e .pre)
-    (c .before .before .before .before .before .before .before .before .before .before .put-bytes .ensures)
-    (c .before .before .before .before .before .before .put-hex .ensures) (c .before .before .put-byte .ensures)
+    (key .put-bytes .ensures) (digits .put-hex .ensures) (c .before .before .put-byte .ensures)
 
 pub put-payload-spec : {M : Type 1} → statement M
 put-payload-spec =

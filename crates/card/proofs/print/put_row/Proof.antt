@@ -1,3 +1,4 @@
+-- `put_row` meets its contract: the key, the digits and the line feed are written one behind the other.
 use borrow.Author.Needs.{needs}
 use Rattle.card.specs.Text.{rowKey, cellsText}
 use Rattle.card.proofs.print.Lines.{key-room, value-room, feed-room, line-printed, row-parts}
@@ -14,29 +15,27 @@ put-bytes-requires c κs =
 
 put-cells-requires : tie.Need-put-cells-requires
 put-cells-requires c κs =
-    let e = c .before .before .before .before .before .before .before .before in (
-      value-room _ _ (row-parts (e .args .cells .now)) (e .pre .0) (c .before .before .before .put-bytes .ensures),
-      e .pre .1,
-    )
+    let key = c .before .before .before in
+    let e = key .before .before .before .before .before in
+    (value-room _ _ (row-parts (e .args .cells .now)) (e .pre .0) (key .put-bytes .ensures), e .pre .1)
 
 put-byte-requires : tie.Need-put-byte-requires
 put-byte-requires c κs =
-    let e = c .before .before .before .before .before .before .before .before .before .before .before .before in
-    feed-room _ _ (row-parts (e .args .cells .now)) (e .pre .0)
-    (c .before .before .before .before .before .before .before .put-bytes .ensures)
-    (c .before .before .before .put-cells .ensures)
+    let digits = c .before .before .before in
+    let key = digits .before .before .before .before in
+    let e = key .before .before .before .before .before in
+    feed-room _ _ (row-parts (e .args .cells .now)) (e .pre .0) (key .put-bytes .ensures) (digits .put-cells .ensures)
 
 same-length : tie.Need-same-length
 same-length c = search needs
 
 returns : tie.Need-returns
 returns c =
-    let e =
-    c .before .before .before .before .before .before .before .before .before .before .before .before .before
-    .before .before in
+    let digits = c .before .before .before .before .before .before in
+    let key = digits .before .before .before .before in
+    let e = key .before .before .before .before .before in
     line-printed _ _ (row-parts (e .args .cells .now)) (e .pre .0)
-    (c .before .before .before .before .before .before .before .before .before .before .put-bytes .ensures)
-    (c .before .before .before .before .before .before .put-cells .ensures) (c .before .before .put-byte .ensures)
+    (key .put-bytes .ensures) (digits .put-cells .ensures) (c .before .before .put-byte .ensures)
 
 pub put-row-spec : {M : Type 1} → statement M
 put-row-spec =

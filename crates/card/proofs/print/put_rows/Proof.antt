@@ -1,3 +1,4 @@
+-- `put_rows` meets its contract. The loop's invariant: the first r rows are written, and end at `next`.
 use Prim.Native.Nat.{_+_, _-_, _*_, _≤_, zero-le}
 use native.Mathlib.Omega.{arith}
 use lib.ListN.{length}
@@ -43,13 +44,12 @@ part-put-row-end c = behind (c .before)
 
 put-row-requires : tie.Need-put-row-requires Inv-loop μ-loop
 put-row-requires c κs =
-    let e = c .before .before .before .before .before .before in
-    let pre = e .pre in
-    let a = e .args in
-    let turn = c .before .before .before .loop in
-    let here = c .before .before in (
-      row-room _ _ _ (pre .1 .1) (pre .0) _ (here .loop-test .taken) (turn .inv .1),
-      part-cells (a .cells .now) (pre .1 .0) (turn .r * a .width) (turn .r * a .width + a .width - turn .r * a .width)
+    let here = c .before .before in
+    let turn = here .before .loop in
+    let e = here .before .before .before .before in
+    let a = e .args in (
+      row-room _ _ _ (e .pre .1 .1) (e .pre .0) _ (here .loop-test .taken) (turn .inv .1),
+      part-cells (a .cells .now) (e .pre .1 .0) (turn .r * a .width) (turn .r * a .width + a .width - turn .r * a .width)
           (omega (arith, behind here)),
     )
 
@@ -61,25 +61,26 @@ loop-less c = omega arith
 
 loop-again : tie.Need-loop-again Inv-loop μ-loop
 loop-again c =
-    let pre = c .before .before .before .before .before .before .before .before .before .pre in (
+    let here = c .before .before .before .before .before in
+    let e = here .before .before .before .before in (
       omega arith,
-      row-printed _ _ _ (pre .1 .1) (pre .0) _ (c .before .before .before .before .before .loop-test .taken)
-          (c .before .before .before .before .before .before .loop .inv .1) (c .before .before .put-row .ensures),
+      row-printed _ _ _ (e .pre .1 .1) (e .pre .0) _ (here .loop-test .taken)
+          (here .before .loop .inv .1) (c .before .before .put-row .ensures),
     )
 
 same-length : tie.Need-same-length Inv-loop μ-loop
 same-length c =
+    let turn = c .before .loop in
     let e = c .before .before .before .before in
     let a = e .args in
-    rows-long (a .width) (a .lines) (a .cells .now) (e .pre .1 .1) (e .pre .0) _ (c .before .loop .inv .0)
-    (c .before .loop .inv .1)
+    rows-long (a .width) (a .lines) (a .cells .now) (e .pre .1 .1) (e .pre .0) _ (turn .inv .0) (turn .inv .1)
 
 returns : tie.Need-returns Inv-loop μ-loop
 returns c =
+    let turn = c .before .loop in
     let e = c .before .before .before .before in
     let a = e .args in
-    rows-all (a .width) (a .lines) (a .cells .now) (e .pre .1 .1) (e .pre .0) _ (c .before .loop .inv .0)
-    (c .loop-test .left) (c .before .loop .inv .1)
+    rows-all (a .width) (a .lines) (a .cells .now) (e .pre .1 .1) (e .pre .0) _ (turn .inv .0) (c .loop-test .left) (turn .inv .1)
 
 pub put-rows-spec : {M : Type 1} → statement M
 put-rows-spec =

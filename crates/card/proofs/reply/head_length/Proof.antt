@@ -1,3 +1,4 @@
+-- `head_length` meets its contract: the head is short, so that the sum of its parts does not wrap.
 use borrow.Author.Needs.{needs}
 use native.Mathlib.Omega.{arith}
 use Rattle.card.proofs.theory.Replies.{length-head, head-most}

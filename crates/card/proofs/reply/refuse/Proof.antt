@@ -33,12 +33,11 @@ same-length c = search needs
 returns-2 : tie.Need-returns-2
 unfolding refusalText
 returns-2 c =
-    answered-same
-    (ap refusalText (c .before .before .before .before .before .before .before .before .number .ensures))
-    (answered-printed
-    (room-front _ _ _ (c .before .before .before .before .before .before .number-line-length .ensures)
-    (c .before .before .before .before .before .if1 .left))
-    (c .before .before .put-number-line .ensures))
+    let one = c .before .before .before .before .before in
+    let long = one .before in
+    let room = room-front _ _ _ (long .number-line-length .ensures) (one .if1 .left) in
+    answered-same (ap refusalText (long .before .before .number .ensures))
+    (answered-printed room (c .before .before .put-number-line .ensures))
 
 pub refuse-spec : {M : Type 1} → statement M
 refuse-spec =

@@ -1,10 +1,12 @@
+-- `reply_field` meets its contract: an output that is too short is left as it was, and else the head and the rows are written,
+-- one behind the other.
 use borrow.Author.Needs.{needs}
 use Prim.Native.Nat.{_+_, _*_}
 use mathlib.Core.Path.{_≡_, sym}
 use mathlib.Core.List.{_++_}
 use native.Mathlib.Omega.{arith}
 use lib.ListN.{length}
-use Rattle.card.specs.Working.{Room, headText}
+use Rattle.card.specs.Working.{HasRoom, headText}
 use Rattle.card.specs.Text.{classesKey, fieldText}
 use Rattle.card.proofs.theory.CardLimits.{limits, rows-most}
 use Rattle.card.proofs.theory.FieldText.{length-field}
@@ -19,12 +21,13 @@ total : (c : tie.After-head-length)
     c .head-length .result + n .planes * n .rows * (n .columns + 5)
     ≡ length (headText (a .header) classesKey (a .classes) ++ fieldText (a .header) (a .cells .now))
 total c =
-    let s = c .before .before .before .before .before in
-    length-success _ _ _ _ _ _ (c .head-length .ensures) (sym (length-field (s .args .header) (s .args .cells .now) (s .pre .1)))
+    let e = c .before .before .before .before .before in
+    length-success _ _ _ _ _ _ (c .head-length .ensures)
+    (sym (length-field (e .args .header) (e .args .cells .now) (e .pre .1 .long)))
 
 room : (c : tie.Else1)
     → let a = c .before .before .before .before .before .before .args in
-    Room (a .output .now) 0 (headText (a .header) classesKey (a .classes) ++ fieldText (a .header) (a .cells .now))
+    HasRoom (a .output .now) 0 (headText (a .header) classesKey (a .classes) ++ fieldText (a .header) (a .cells .now))
 room c = room-front _ _ _ (total (c .before)) (c .if1 .left)
 
 mul-lines : tie.Need-mul-lines
@@ -44,8 +47,8 @@ mul-length c = omega (arith, rows-far _ (c .before .before .before .before .befo
 
 add-length-2 : tie.Need-add-length-2
 add-length-2 c =
-    let s = c .before .before .before .before .before in
-    omega (arith, rows-far _ (s .pre .0), c .head-length .ensures, head-most (s .args .header) classesKey (s .args .classes))
+    let e = c .before .before .before .before .before in
+    omega (arith, rows-far _ (e .pre .0), c .head-length .ensures, head-most (e .args .header) classesKey (e .args .classes))
 
 returns : tie.Need-returns
 returns c = answered-short _ _ _ (total (c .before)) (c .if1 .taken)
@@ -59,11 +62,12 @@ put-head-requires c κs = search needs
 put-rows-requires : tie.Need-put-rows-requires
 unfolding fieldText
 put-rows-requires c κs =
-    let before = c .before .before .before .before .before .before in
-    let s = before .before .before .before .before .before .before in
-    let cells = s .args .cells .now in (
-      rest-room _ _ _ (fieldText (s .args .header) cells) (room before) (c .before .before .before .put-head .ensures),
-      (field-each _ _ (s .pre .1), field-long _ _ (s .pre .1)),
+    let head = c .before .before .before in
+    let one = head .before .before .before in
+    let e = one .before .before .before .before .before .before in
+    let cells = e .args .cells .now in (
+      rest-room _ _ _ (fieldText (e .args .header) cells) (room one) (head .put-head .ensures),
+      (field-each _ _ (e .pre .1), field-long _ _ (e .pre .1)),
     )
 
 same-length : tie.Need-same-length
@@ -72,11 +76,11 @@ same-length c = search needs
 returns-2 : tie.Need-returns-2
 unfolding fieldText
 returns-2 c =
-    let before = c .before .before .before .before .before .before .before .before .before in
-    let a = before .before .before .before .before .before .before .args in
-    success-answered _ _ _ (fieldText (a .header) (a .cells .now)) (room before)
-    (c .before .before .before .before .before .before .put-head .ensures)
-    (c .before .before .put-rows .ensures)
+    let head = c .before .before .before .before .before .before in
+    let one = head .before .before .before in
+    let a = one .before .before .before .before .before .before .args in
+    success-answered _ _ _ (fieldText (a .header) (a .cells .now))
+    (room one) (head .put-head .ensures) (c .before .before .put-rows .ensures)
 
 pub reply-field-spec : {M : Type 1} → statement M
 reply-field-spec =

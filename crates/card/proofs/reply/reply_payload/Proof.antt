@@ -1,3 +1,5 @@
+-- `reply_payload` meets its contract: an output that is too short is left as it was, and else the head and the payload are
+-- written, one behind the other.
 use borrow.Author.Needs.{needs}
 use Prim.Native.Nat.{_+_, _*_}
 use mathlib.Core.List.{_++_}
@@ -6,7 +8,7 @@ use native.Mathlib.Nat.{add-assoc}
 use native.Mathlib.Omega.{arith}
 use lib.ListN.{length}
 use Rattle.card.specs.Text.{mendedKey, payloadText}
-use Rattle.card.specs.Working.{Room, headText}
+use Rattle.card.specs.Working.{HasRoom, headText}
 use Rattle.card.proofs.theory.PayloadText.{length-payload}
 use Rattle.card.proofs.theory.Replies.{answered-short, room-front, head-most, length-success, rest-room, success-answered}
 use Rattle.card.proofs.reply.reply_payload.Statement.{statement}
@@ -23,7 +25,7 @@ total c =
 
 room : (c : tie.Else1)
     → let a = c .before .before .before .before .before .args in
-    Room (a .output .now) 0 (headText (a .header) mendedKey (a .mended) ++ payloadText (a .payload .now))
+    HasRoom (a .output .now) 0 (headText (a .header) mendedKey (a .mended) ++ payloadText (a .payload .now))
 room c = room-front _ _ _ (total (c .before)) (c .if1 .left)
 
 slice-aggregate-head-length : tie.Need-slice-aggregate-head-length
@@ -56,17 +58,17 @@ put-head-requires c κs = search needs
 
 put-payload-requires : tie.Need-put-payload-requires
 put-payload-requires c κs =
-    rest-room _ _ _ _ (room (c .before .before .before .before .before .before))
-    (c .before .before .before .put-head .ensures)
+    let head = c .before .before .before in
+    rest-room _ _ _ _ (room (head .before .before .before)) (head .put-head .ensures)
 
 same-length : tie.Need-same-length
 same-length c = search needs
 
 returns-2 : tie.Need-returns-2
 returns-2 c =
-    success-answered _ _ _ _ (room (c .before .before .before .before .before .before .before .before .before))
-    (c .before .before .before .before .before .before .put-head .ensures)
-    (c .before .before .put-payload .ensures)
+    let head = c .before .before .before .before .before .before in
+    success-answered _ _ _ _ (room (head .before .before .before))
+    (head .put-head .ensures) (c .before .before .put-payload .ensures)
 
 pub reply-payload-spec : {M : Type 1} → statement M
 reply-payload-spec =

@@ -1,3 +1,4 @@
+-- `answer_card` meets its contract: an input that is too long or has no header is refused, and else the header's answer is given.
 use borrow.Author.Needs.{needs}
 use mathlib.Core.Path.{refl, sym, _∙_}
 use Rattle.card.proofs.theory.Replies.{answered-same}
@@ -14,9 +15,8 @@ same-length c = search needs
 
 returns : tie.Need-returns
 returns c =
-    let a =
-    answered-leaves _ _ _ _ (answered-same (too-long _ (c .before .before .before .before .if1 .taken))
-    (c .before .before .refuse .ensures)) in
+    let same = answered-same (too-long _ (c .before .before .before .before .if1 .taken)) (c .before .before .refuse .ensures) in
+    let a = answered-leaves _ _ _ _ same in
     (a .0, (a .1, (refl, refl)))
 
 parse-header-requires : tie.Need-parse-header-requires
@@ -36,26 +36,27 @@ same-length-2 c = search needs
 
 returns-2 : tie.Need-returns-2
 returns-2 c =
-    let a =
-    answered-leaves _ _ _ _ (answered-same
-    (no-header _ (c .before .before .before .before .before .before .before .if1 .left)
-    (sym (c .before .before .before .before .before .before .parse-header .ensures)
-    ∙ c .before .before .before .before .enum-told .given .1))
-    (c .before .before .refuse2 .ensures)) in
+    let fault = c .before .before .before .before in
+    let parsed = fault .before .before in
+    let none = no-header _ (parsed .before .if1 .left) (sym (parsed .parse-header .ensures) ∙ fault .enum-told .given .1) in
+    let a = answered-leaves _ _ _ _ (answered-same none (c .before .before .refuse2 .ensures)) in
     (a .0, (a .1, (refl, refl)))
 
 answer-header-requires : tie.Need-answer-header-requires
 answer-header-requires c κs =
+    let parsed = c .before .before .before .before in
     record {
-      short = c .before .before .before .before .before .if1 .left;
-      found = sym (c .before .before .before .before .parse-header .ensures) ∙ c .before .before .header .given .1;
+      short = parsed .before .if1 .left;
+      found = sym (parsed .parse-header .ensures) ∙ c .before .before .header .given .1;
     }
 
 same-length-3 : tie.Need-same-length-3
 same-length-3 c = search needs
 
 returns-3 : tie.Need-returns-3
-returns-3 c = let a = answered-leaves _ _ _ _ (c .before .before .answer-header .ensures) in (a .0, (a .1, (refl, refl)))
+returns-3 c =
+    let a = answered-leaves _ _ _ _ (c .before .before .answer-header .ensures) in
+    (a .0, (a .1, (refl, refl)))
 
 pub answer-card-spec : {M : Type 1} → statement M
 answer-card-spec =

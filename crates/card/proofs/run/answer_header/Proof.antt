@@ -10,14 +10,17 @@ use Rattle.card.proofs.run.answer_header.Statement.{statement}
 use Rattle.card.proofs.run.answer_header.Tie as tie
 
 read : (c : tie.Else1)
-    → let a = c .before .before .before .before .before .before .before .before .args in
-    BodyRead (a .input .now) (a .header) (a .next) (c .before .before .before .shape .given .0 .0)
+    → let shape = c .before .before .before in
+    let a = shape .before .before .before .before .before .args in
+    BodyRead (a .input .now) (a .header) (a .next) (shape .shape .given .0 .0)
 read c =
-    let e = c .before .before .before .before .before .before .before .before in
+    let shape = c .before .before .before in
+    let made = shape .before .before in
+    let e = made .before .before .before in
+    let given = shape .shape .given .1 in
     record {
       header = e .pre;
-      shaped = new-card (e .args .header) _ (c .before .before .before .before .before .new .ensures .0) _
-          (c .before .before .before .shape .given .1) _ (c .before .cells .ensures) (c .if1 .left);
+      shaped = new-card (e .args .header) _ (made .new .ensures .0) _ given _ (c .before .cells .ensures) (c .if1 .left);
     }
 
 new-requires : tie.Need-new-requires
@@ -43,14 +46,15 @@ same-length c = search needs
 
 returns : tie.Need-returns
 returns c =
-    let e = c .before .before .before .before .before .before .before .before .before .before .before .before in
-    let h = e .args .header in
-    let made = c .before .before .before .before .before .before .before .before .before .new .ensures .0 in
-    let shape = c .before .before .before .before .before .before .before .shape .given .1 in
+    let many = c .before .before .before .before in
+    let shape = many .before .before .before in
+    let made = shape .before .before in
+    let e = made .before .before .before in
+    let new = made .new .ensures .0 in
+    let given = shape .shape .given .1 in
     answered-same
-    (too-many _ _ _ (e .pre) (new-accepted _ _ made _ shape)
-    (new-many h _ made _ shape _ (c .before .before .before .before .before .cells .ensures)
-    (c .before .before .before .before .if1 .taken)))
+    (too-many _ _ _ (e .pre) (new-accepted _ _ new _ given)
+    (new-many (e .args .header) _ new _ given _ (many .before .cells .ensures) (many .if1 .taken)))
     (c .before .before .refuse2 .ensures)
 
 is-payload-requires : tie.Need-is-payload-requires
@@ -75,12 +79,11 @@ same-length-3 c = search needs
 
 returns-3 : tie.Need-returns-3
 returns-3 c =
-    let why = c .before .before .before .before .before .why .given in
-    answered-same
-    (bad-shape _ _ _ (c .before .before .before .before .before .before .before .before .before .before .pre)
-    (why .0 .0) (new-refused _ _ (c .before .before .before .before .before .before .before .new .ensures .0)
-    (why .0 .0) (why .1)))
-    (c .before .before .refuse .ensures)
+    let refused = c .before .before .before .before .before in
+    let made = refused .before .before in
+    let why = refused .why .given in
+    let bad = new-refused _ _ (made .new .ensures .0) (why .0 .0) (why .1) in
+    answered-same (bad-shape _ _ _ (made .before .before .before .pre) (why .0 .0) bad) (c .before .before .refuse .ensures)
 
 same-length-4 : tie.Need-same-length-4
 same-length-4 c = search needs

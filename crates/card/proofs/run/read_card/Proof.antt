@@ -21,8 +21,9 @@ enum-known-count c = search needs
 
 reply-payload-requires : tie.Need-reply-payload-requires
 reply-payload-requires c κs =
-    let p = c .before .before .before .before .before .before .before .before .before .before .before .before .pre in
-    decoded-long _ _ (p .0) _ _ (p .1) _ (c .before .before .before .before .before .before .before .decode .ensures .leaves)
+    let read = c .before .before .before .before .before .before .before in
+    let p = read .before .before .before .before .before .pre in
+    decoded-long _ _ (p .0) _ _ (p .1) _ (read .decode .ensures .leaves)
 
 same-length : tie.Need-same-length
 same-length c = search needs
@@ -32,13 +33,12 @@ same-length-2 c = search needs
 
 returns : tie.Need-returns
 returns c =
-    let p =
-    c .before .before .before .before .before .before .before .before .before .before .before .before .before
-    .before .pre in
-    let why = c .before .before .before .before .before .why .given in
+    let refused = c .before .before .before .before .before in
+    let read = refused .before .before .before .before in
+    let p = read .before .before .before .before .before .pre in
+    let why = refused .why .given in
     answered-same
-    (decoded-refused _ _ (p .0) _ _ (p .1) (why .0 .0) (sym (ap decodeAnswerNumber (why .1))
-    ∙ c .before .before .before .before .before .before .before .before .before .decode .ensures .number))
+    (decoded-refused _ _ (p .0) _ _ (p .1) (why .0 .0) (sym (ap decodeAnswerNumber (why .1)) ∙ read .decode .ensures .number))
     (c .before .before .refuse .ensures)
 
 same-length-3 : tie.Need-same-length-3
@@ -49,14 +49,14 @@ same-length-4 c = search needs
 
 returns-2 : tie.Need-returns-2
 returns-2 c =
-    let p =
-    c .before .before .before .before .before .before .before .before .before .before .before .before .before
-    .before .before .pre in
-    let count = c .before .before .before .before .before .before .count .given .1 in
-    let d = c .before .before .before .before .before .before .before .before .before .before .decode .ensures in
+    let counted = c .before .before .before .before .before .before in
+    let read = counted .before .before .before .before in
+    let p = read .before .before .before .before .before .pre in
+    let count = counted .count .given .1 in
+    let made = read .decode .ensures in
     answered-same
-    (card-decoded _ _ (p .0) _ _ (p .1) _ (d .leaves) _ (sym (ap decodeAnswerNumber count) ∙ d .number)
-    (sym (ap decodeAnswerCount count) ∙ d .count))
+    (card-decoded _ _ (p .0) _ _ (p .1) _ (made .leaves) _ (sym (ap decodeAnswerNumber count) ∙ made .number)
+    (sym (ap decodeAnswerCount count) ∙ made .count))
     (c .before .before .reply-payload .ensures)
 
 pub read-card-spec : {M : Type 1} → statement M

@@ -24,11 +24,12 @@ classes-requires c κs = search needs
 
 reply-field-requires : tie.Need-reply-field-requires
 reply-field-requires c κs =
-    let p = c .before .before .before .before .before .before .before .before .before .before .before .before .pre in
-    let made = c .before .before .before .before .before .before .before .encode .ensures in
-    let long =
-    encoded-length _ _ (p .0) _ _ (p .1 .1)
-    (sym (ap encodeAnswerNumber (c .before .before .before .enum-told .given .1)) ∙ made .number) in
+    let told = c .before .before .before in
+    let written = told .before .before .before .before in
+    let p = written .before .before .before .before .before .pre in
+    let made = written .encode .ensures in
+    let none = sym (ap encodeAnswerNumber (told .enum-told .given .1)) ∙ made .number in
+    let long = encoded-length _ _ (p .0) _ _ (p .1 .1) none in
     (p .0 .card, encoded-cells _ _ (p .0) _ _ _ long (p .1 .1) (made .leaves) (p .1 .0))
 
 same-length : tie.Need-same-length
@@ -39,14 +40,13 @@ same-length-2 c = search needs
 
 returns : tie.Need-returns
 returns c =
-    let p =
-    c .before .before .before .before .before .before .before .before .before .before .before .before .before
-    .before .pre in
-    let why = c .before .before .before .before .before .why .given in
+    let refused = c .before .before .before .before .before in
+    let written = refused .before .before .before .before in
+    let p = written .before .before .before .before .before .pre in
+    let why = refused .why .given in
     answered-same
     (encoded-refused _ _ (p .0) _ _ (p .1 .1) (why .0 .0)
-    (sym (ap encodeAnswerNumber (why .1))
-    ∙ c .before .before .before .before .before .before .before .before .before .encode .ensures .number))
+    (sym (ap encodeAnswerNumber (why .1)) ∙ written .encode .ensures .number))
     (c .before .before .refuse .ensures)
 
 same-length-3 : tie.Need-same-length-3
@@ -57,17 +57,15 @@ same-length-4 c = search needs
 
 returns-2 : tie.Need-returns-2
 returns-2 c =
-    let p =
-    c .before .before .before .before .before .before .before .before .before .before .before .before .before
-    .before .before .pre in
-    let made = c .before .before .before .before .before .before .before .before .before .before .encode .ensures in
-    let none =
-    sym (ap encodeAnswerNumber (c .before .before .before .before .before .before .enum-told .given .1))
-    ∙ made .number in
+    let count = c .before .before .before .before .before in
+    let told = count .before in
+    let written = told .before .before .before .before in
+    let p = written .before .before .before .before .before .pre in
+    let made = written .encode .ensures in
+    let none = sym (ap encodeAnswerNumber (told .enum-told .given .1)) ∙ made .number in
     let long = encoded-length _ _ (p .0) _ _ (p .1 .1) none in
     answered-same
-    (card-written _ _ (p .0) _ _ _ long (p .1 .1) (made .leaves) _
-    (c .before .before .before .before .before .classes .ensures)
+    (card-written _ _ (p .0) _ _ _ long (p .1 .1) (made .leaves) _ (count .classes .ensures)
     ∙ encoded-done _ _ (p .0) _ _ (p .1 .1) none)
     (c .before .before .reply-field .ensures)
 

@@ -1,3 +1,4 @@
+-- `byte_at` meets its contract: past the end of the text stands 0.
 use borrow.Author.Needs.{needs}
 use Prim.Native.Nat.{_+_}
 use native.Mathlib.Omega.{arith}

@@ -1,3 +1,4 @@
+-- `key_at` meets its contract. The loop's invariant: the first j bytes of the key stand at the position.
 use Prim.Native.Nat.{_-_, _≤_, zero-le}
 use native.Mathlib.Omega.{arith}
 use lib.ListN.{length}
@@ -23,8 +24,7 @@ shared-slice-read-if1 c = omega arith
 
 returns : tie.Need-returns Inv-loop μ-loop
 returns c =
-    key-fails _ _ _ _ _ (c .before .before .before .loop-test .taken) (c .before .before .byte-at .ensures)
-    (c .if1 .taken)
+    key-fails _ _ _ _ _ (c .before .before .before .loop-test .taken) (c .before .before .byte-at .ensures) (c .if1 .taken)
 
 add-j : tie.Need-add-j Inv-loop μ-loop
 add-j c = omega arith

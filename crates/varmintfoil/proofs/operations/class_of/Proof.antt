@@ -1,12 +1,7 @@
 -- `class_of` meets its contract: the accepted shape is that of the numbers, and the constructor's refusal is the operation's.
-use mathlib.Core.Path.{_≡_, sym, ap, _∙_}
 use borrow.Author.Needs.{needs}
-use Rattle.lattice.specs.declared.refusal.Refusal.the-variants as reasons
-use Rattle.lattice.specs.Refusal.{refusalNumber}
-use Rattle.lattice.specs.Class.{classNumber, classGiven}
-use Rattle.lattice.proofs.theory.Answers.{earlier-told, refused}
-use Rattle.lattice.proofs.theory.Limits.{number-other}
-use Rattle.lattice.proofs.theory.NewShapes.{new-refused, new-shape}
+use Rattle.lattice.proofs.theory.NewShapes.{new-shape}
+use Rattle.varmintfoil.proofs.operations.Refused.{refused-class}
 use Rattle.varmintfoil.proofs.operations.class_of.Statement.{statement}
 use Rattle.varmintfoil.proofs.operations.class_of.Tie as tie
 
@@ -28,16 +23,9 @@ returns c =
     rw (new-shape _ _ (a .before .before .new .ensures .0) _ (a .accepted .given .1)) at (c .class-of .ensures)
 
 returns-2 : tie.Need-returns-2
-unfolding classNumber classGiven
 returns-2 c =
     let why = c .before .why .given in
-    let e = new-refused _ _ (c .before .before .before .new .ensures .0) (why .0 .0) (why .1) in
-    let n = earlier-told (why .0 .0) _ _ e in
-    record {
-      number = n;
-      class = refused (why .0 .0) _ _ _ n;
-      reason = λ z. let same : why .0 .0 ≡ reasons.FieldLength = cc in number-other _ (sym e ∙ ap refusalNumber same);
-    }
+    refused-class _ _ (c .before .before .before .new .ensures .0) (why .0 .0) (why .1) _
 
 pub class-of-spec : {M : Type 1} → statement M
 class-of-spec =

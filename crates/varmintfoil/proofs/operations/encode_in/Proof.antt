@@ -1,12 +1,7 @@
 -- `encode_in` meets its contract: the accepted shape is that of the numbers, and the constructor's refusal is the operation's.
-use mathlib.Core.Path.{_≡_, sym, ap, _∙_}
 use borrow.Author.Needs.{needs}
-use Rattle.lattice.specs.declared.refusal.Refusal.the-variants as reasons
-use Rattle.lattice.specs.Refusal.{refusalNumber}
-use Rattle.codec.specs.Encode.{encodeNumber, encodeLeaves}
-use Rattle.lattice.proofs.theory.Answers.{earlier-told, refused}
-use Rattle.lattice.proofs.theory.Limits.{number-other}
-use Rattle.lattice.proofs.theory.NewShapes.{new-refused, new-shape}
+use Rattle.lattice.proofs.theory.NewShapes.{new-shape}
+use Rattle.varmintfoil.proofs.operations.Refused.{refused-encode}
 use Rattle.varmintfoil.proofs.operations.encode_in.Statement.{statement}
 use Rattle.varmintfoil.proofs.operations.encode_in.Tie as tie
 
@@ -31,16 +26,9 @@ returns c =
     rw (new-shape _ _ (a .before .before .new .ensures .0) _ (a .accepted .given .1)) at (c .before .before .encode .ensures)
 
 returns-2 : tie.Need-returns-2
-unfolding encodeNumber encodeLeaves
 returns-2 c =
     let why = c .before .why .given in
-    let e = new-refused _ _ (c .before .before .before .new .ensures .0) (why .0 .0) (why .1) in
-    let n = earlier-told (why .0 .0) _ _ e in
-    record {
-      number = n;
-      leaves = refused (why .0 .0) _ _ _ n;
-      reason = λ z. let same : why .0 .0 ≡ reasons.OutsideShape = cc in number-other _ (sym e ∙ ap refusalNumber same);
-    }
+    refused-encode _ _ (c .before .before .before .new .ensures .0) (why .0 .0) (why .1) _ _
 
 pub encode-in-spec : {M : Type 1} → statement M
 encode-in-spec =

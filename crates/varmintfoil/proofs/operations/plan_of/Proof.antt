@@ -1,7 +1,7 @@
 -- `plan_of` meets its contract: the accepted shape is that of the numbers, and the constructor's refusal is the operation's.
 use borrow.Author.Needs.{needs}
-use Rattle.codec.proofs.theory.PlanRefusal.{plan-refused}
-use Rattle.lattice.proofs.theory.NewShapes.{new-refused, new-shape}
+use Rattle.lattice.proofs.theory.NewShapes.{new-shape}
+use Rattle.varmintfoil.proofs.operations.Refused.{refused-plan}
 use Rattle.varmintfoil.proofs.operations.plan_of.Statement.{statement}
 use Rattle.varmintfoil.proofs.operations.plan_of.Tie as tie
 
@@ -25,8 +25,7 @@ returns c =
 returns-2 : tie.Need-returns-2
 returns-2 c =
     let why = c .before .why .given in
-    let e = new-refused _ _ (c .before .before .before .new .ensures .0) (why .0 .0) (why .1) in
-    plan-refused _ (why .0 .0) e
+    refused-plan _ _ (c .before .before .before .new .ensures .0) (why .0 .0) (why .1)
 
 pub plan-of-spec : {M : Type 1} → statement M
 plan-of-spec =

@@ -17,7 +17,7 @@ use Rattle.card.specs.Program.{bodyOk, operationNumber, numberAfter, pro
 use Rattle.card.proofs.theory.ParsedInput.{card-header}
 
 -- the input has a card's header, the lines after it are right, and the operation succeeds
-pub record Passed (s : List ℕ) : Type 0 where
+pub record TakenInput (s : List ℕ) : Type 0 where
   pub header : Header
   pub next : ℕ
   pub found : headerOf s ≡ head.Found header next
@@ -25,9 +25,9 @@ pub record Passed (s : List ℕ) : Type 0 where
   pub right : bodyOk s header next ≡ true
   pub success : operationNumber s header next ≡ 0
 
-after-passed : (s : List ℕ) (a : HeaderAnswer) → headerOf s ≡ a → numberAfter s a ≡ 0 → Passed s
+after-taken : (s : List ℕ) (a : HeaderAnswer) → headerOf s ≡ a → numberAfter s a ≡ 0 → TakenInput s
 unfolding numberAfter
-after-passed s (head.Found h next) found e =
+after-taken s (head.Found h next) found e =
     let shape = or-else-zero (shapeNumber (shapeOf h)) _ e in
     let few = unless-zero (leb (cellsOf (shapeOf h)) maxCardCells) 7 _ (shape .1) in
     let body = unless-zero (bodyOk s h next) 7 _ (few .1) in
@@ -39,9 +39,9 @@ after-passed s (head.Found h next) found e =
       right = body .0;
       success = body .1;
     }
-after-passed s head.Fault found e = absurd (omega arith)
+after-taken s head.Fault found e = absurd (omega arith)
 
 -- the number 0 says that every test has passed
-pub passed : (s : List ℕ) → programNumber s ≡ 0 → Passed s
+pub input-taken : (s : List ℕ) → programNumber s ≡ 0 → TakenInput s
 unfolding programNumber
-passed s e = after-passed s (headerOf s) refl (unless-zero (leb (length s) maxInput) 7 _ e .1)
+input-taken s e = after-taken s (headerOf s) refl (unless-zero (leb (length s) maxInput) 7 _ e .1)

@@ -1,0 +1,2 @@
+-- What the operations use alone.
+mod Refused
