@@ -1,6 +1,7 @@
 -- The terms of the theorems: a file for each file of specs/theorems, of the same name.
 mod Refused
 pub mod Parsing
+mod Cut
 pub mod Outputs
 mod RoundTrip
 mod Examples

@@ -2,6 +2,7 @@
 
 -- what stands at a position of a text
 pub mod StandsAt
+pub mod Feeds
 pub mod ByteTests
 pub mod Digits
 pub mod DecimalText
@@ -18,7 +19,7 @@ pub mod FieldText
 pub mod HeaderText
 pub mod HeaderRest
 pub mod CardLimits
-mod BodyText
+pub mod BodyText
 mod ParsedInput
 mod CardRead
 -- the program

@@ -29,6 +29,12 @@ pub data Body (h : Header) (rest : List ℕ) : Type 0 where
   payload : (p : List ℕ) → Bytes p → rest ≡ payloadText p → Body h rest
   rows : (cells : List ℕ) → FieldCells h cells → rest ≡ fieldText h cells → Body h rest
 
+-- the input is a card text: a card's header, and behind it one payload or the rows of one field
+pub record CardText (s : List ℕ) : Type 0 where
+  pub first : HeaderFirst s
+  pub card : CardHeader (first .header)
+  pub body : Body (first .header) (first .rest)
+
 -- 8: more than 65,536 bytes
 abbrev pub TooLong : List ℕ → Type 0
 TooLong s = maxInput < length s

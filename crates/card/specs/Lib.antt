@@ -1,5 +1,4 @@
--- What the crate `card` promises: the text of a card and of an answer, how a card text is read, and the statements of its
--- theorems.
+-- What the crate `card` promises: the texts of cards and answers, how a card text is read, and the statements of its theorems.
 
 -- definitions
 pub mod Text

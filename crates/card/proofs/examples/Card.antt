@@ -14,7 +14,7 @@ use Rattle.card.specs.Text.{headerText, payloadText}
 use Rattle.card.specs.Card.{shapeOf, FieldCells, CardHeader, payloadCard, fieldCard}
 use Rattle.card.specs.Parse.{headerOf, payloadOk}
 use Rattle.card.specs.Program.{rowsFit}
-use Rattle.card.specs.Form.{HeaderFirst}
+use Rattle.card.specs.Form.{HeaderFirst, Body, CardText}
 use Rattle.card.proofs.theory.CardLimits.{card-small}
 use Rattle.card.proofs.theory.PrintedRows.{written-cells}
 use Rattle.card.proofs.theorems.Parsing.{textParses}
@@ -48,3 +48,8 @@ rows-found = textParses .field-header header card cells .0
 
 pub rows-right : rowsFit (fieldCard header cells) header (length (headerText header)) ≡ true
 rows-right = textParses .field-back header cells field-cells .0
+
+-- it is a card text
+pub card-text : CardText (payloadCard header payload)
+unfolding header-first
+card-text = record { first = header-first; card = card; body = Body.payload payload payload-bytes refl }

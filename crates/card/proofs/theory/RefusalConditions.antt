@@ -98,7 +98,8 @@ module _ (s : List ℕ) (h : Header) (next : ℕ) (found : headerOf s ≡ head.F
               let same : q ≡ p =
               sym (payload-read s h next found card q (r .2) t .1)
               ∙ payload-read s h next found card p bytes text .1 in
-              subst₂ (λ (g : Header) (l : List ℕ). WrongPayloadLength (shapeOf g) l) (same-header s h next found (r .0)) same (r .4)
+              subst₂ (λ (g : Header) (l : List ℕ). WrongPayloadLength (shapeOf g) l)
+              (same-header s h next found (r .0)) same (r .4)
 
       pub no-field : (C : Shape → Field → Type 0) → ¬ FieldRefused C s
       no-field C r = let d = rows-of s h next found (r .0) (r .1) (r .2) (r .3) in one-kind p (r .1) (d .0) text (d .1)
