@@ -3,13 +3,13 @@ use Prim.Native.Nat.{ℕ, _<_, _≤_}
 use mathlib.Core.Bool.{true, false}
 use mathlib.Core.List.{List}
 use mathlib.Core.Path.{_≡_, sym, ap, _∙_}
-use lib.ListN.{length}
 use borrow.Author.Tests.{le-leb, lt-leb, ne-eqb}
+use lib.ListN.{length}
 use Rattle.lattice.specs.declared.refusal.Refusal.{Refusal}
 use Rattle.lattice.specs.declared.refusal.Refusal.the-variants as why
 use Rattle.lattice.specs.Refusal.{refusalNumber}
-use Rattle.lattice.specs.Shape.{shapeNumber, Accepted, cellsOf}
-use Rattle.lattice.proofs.theory.Answers.{some-number, earlier-told}
+use Rattle.lattice.specs.Shape.{Accepted, cellsOf, afterShape}
+use Rattle.lattice.proofs.theory.Answers.{some-number}
 use Rattle.codec.specs.Plan.{planBytes}
 use Rattle.codec.specs.Encode.{encodeNumber}
 use Rattle.card.specs.declared.header.Header.{Header}
@@ -39,9 +39,10 @@ module _ (s : List ℕ) (h : Header) (next : ℕ) (x : HeaderRead s h next) wher
   unfolding programNumber
   number-after = rw (le-leb (length s) maxInput (x .short), x .found)
 
-  pub bad-shape : (r : Refusal) → refusalNumber r ≡ shapeNumber (shapeOf h) → refusalText (refusalNumber r) ≡ answer s
+  pub bad-shape : (r : Refusal) → ((later : ℕ) → refusalNumber r ≡ afterShape (shapeOf h) later)
+      → refusalText (refusalNumber r) ≡ answer s
   unfolding numberAfter
-  bad-shape r e = refused s r (earlier-told r (shapeNumber (shapeOf h)) _ e ∙ sym number-after)
+  bad-shape r e = refused s r (e _ ∙ sym number-after)
 
   pub too-many : Accepted (shapeOf h) → maxCardCells < cellsOf (shapeOf h) → refusalText 8 ≡ answer s
   unfolding numberAfter

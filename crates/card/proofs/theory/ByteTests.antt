@@ -9,7 +9,7 @@ use lib.ListN.{length, getD, List·getD-eq-default}
 use borrow.Author.Tests.{eq-eqb, ne-eqb}
 use Rattle.lattice.specs.Counting.{allBelow}
 use Rattle.lattice.proofs.theory.Bools.{failed, passed}
-use Rattle.codec.proofs.theory.OneByOne.{Passed, passed-none, passed-more, passed-all, failed-at}
+use Rattle.codec.proofs.theory.OneByOne.{PassedTo, passed-none, passed-more, passed-all, failed-at}
 use Rattle.card.specs.Parse.{keyAt}
 
 -- past the end stands 0
@@ -29,7 +29,7 @@ module _ (key s : List ℕ) (at : ℕ) where
   unfolding keyAt keyByte
   key-fails j b l e h = failed-at keyByte j (length key) l (ne-eqb _ _ (λ q. h (e ∙ q)))
 
-  pub key-all : (j : ℕ) → Passed keyByte j → j ≤ length key → length key ≤ j → true ≡ keyAt key s at
+  pub key-all : (j : ℕ) → PassedTo keyByte j → j ≤ length key → length key ≤ j → true ≡ keyAt key s at
   unfolding keyAt keyByte
   key-all j p l q = passed-all keyByte j (length key) p l q
 
@@ -40,7 +40,7 @@ module _ (P : ℕ → Bool) (s : List ℕ) (start n : ℕ) where
 
   pub record TestedTo (j : ℕ) : Type 0 where
     pub some : j ≤ n
-    pub each : Passed testAt j
+    pub each : PassedTo testAt j
 
   pub tested-none : TestedTo 0
   tested-none = record { some = zero-le; each = passed-none testAt }

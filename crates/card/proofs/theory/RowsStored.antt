@@ -10,7 +10,7 @@ use lib.ListN.{length, getD}
 use borrow.Author.Tests.{eq-eqb, ne-eqb}
 use Rattle.lattice.specs.Counting.{allBelow}
 use Rattle.lattice.specs.Shape.{maxSide, maxCells}
-use Rattle.codec.proofs.theory.OneByOne.{Passed, passed-all, failed-at}
+use Rattle.codec.proofs.theory.OneByOne.{PassedTo, passed-all, failed-at}
 use Rattle.card.specs.Text.{rowKey, feed}
 use Rattle.card.specs.Parse.{keyAt, isCellDigit, rowStart, rowOk, rowsOk, cellsOfRows}
 use Rattle.card.proofs.theory.RowsRead.{cellByte}
@@ -71,7 +71,7 @@ module _ (s : List ℕ) (at w k : ℕ) where
     unfolding rowsOk
     rows-fail r l p = rw (eq-eqb (length s) (rowStart at w k) same) (failed-at (rowOk s at w) r k l p)
 
-    pub rows-pass : (r : ℕ) → Passed (rowOk s at w) r → r ≤ k → k ≤ r → true ≡ rowsOk s at w k
+    pub rows-pass : (r : ℕ) → PassedTo (rowOk s at w) r → r ≤ k → k ≤ r → true ≡ rowsOk s at w k
     unfolding rowsOk
     rows-pass r p l q = rw (eq-eqb (length s) (rowStart at w k) same) (passed-all (rowOk s at w) r k p l q)
 

@@ -3,7 +3,7 @@ use Prim.Native.Nat.{_+_, _-_, _*_, _≤_, zero-le}
 use native.Mathlib.Omega.{arith}
 use lib.ListN.{length}
 use Rattle.lattice.proofs.theory.Bools.{failed, passed}
-use Rattle.codec.proofs.theory.OneByOne.{Passed, passed-none, passed-more}
+use Rattle.codec.proofs.theory.OneByOne.{PassedTo, passed-none, passed-more}
 use Rattle.card.specs.Parse.{rowOk}
 use Rattle.card.proofs.theory.RowsStored.{rows-behind, rows-long, rows-product, row-inside, row-moved}
 use Rattle.card.proofs.theory.RowsStored.{rows-fail, rows-pass}
@@ -11,7 +11,7 @@ use Rattle.card.proofs.body.rows_ok.Statement.{statement}
 use Rattle.card.proofs.body.rows_ok.Tie as tie
 
 abbrev Inv-loop : tie.InvT-loop
-Inv-loop text at columns rows width lines r₀ r = (r ≤ lines) × Passed (rowOk text at columns) r
+Inv-loop text at columns rows width lines r₀ r = (r ≤ lines) × PassedTo (rowOk text at columns) r
 
 abbrev μ-loop : tie.MeasureT-loop
 μ-loop text at columns rows width lines r₀ r = lines - r

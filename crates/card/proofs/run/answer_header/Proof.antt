@@ -1,7 +1,7 @@
 -- `answer_header` meets its contract: a refusal is the constructor's, and else the later tests follow.
 use mathlib.Core.Path.{sym, _∙_}
 use borrow.Author.Needs.{needs}
-use Rattle.lattice.proofs.theory.NewShapes.{new-refused, new-accepted}
+use Rattle.lattice.proofs.theory.NewShapes.{new-first, new-accepted}
 use Rattle.card.specs.Working.{BodyRead}
 use Rattle.card.proofs.run.Program.{bad-shape, too-many}
 use Rattle.card.proofs.run.Card.{new-many, new-card}
@@ -82,7 +82,7 @@ returns-3 c =
     let refused = c .before .before .before .before .before in
     let made = refused .before .before in
     let why = refused .why .given in
-    let bad = new-refused _ _ (made .new .ensures .0) (why .0 .0) (why .1) in
+    let bad = new-first _ _ (made .new .ensures .0) (why .0 .0) (why .1) in
     answered-same (bad-shape _ _ _ (made .before .before .before .pre) (why .0 .0) bad) (c .before .before .refuse .ensures)
 
 same-length-4 : tie.Need-same-length-4

@@ -2,13 +2,13 @@
 use Prim.Native.Nat.{_-_, _≤_, zero-le}
 use native.Mathlib.Omega.{arith}
 use lib.ListN.{length}
-use Rattle.codec.proofs.theory.OneByOne.{Passed, passed-none, passed-more}
+use Rattle.codec.proofs.theory.OneByOne.{PassedTo, passed-none, passed-more}
 use Rattle.card.proofs.theory.ByteTests.{keyByte, key-passes, key-fails, key-all}
 use Rattle.card.proofs.scan.key_at.Statement.{statement}
 use Rattle.card.proofs.scan.key_at.Tie as tie
 
 abbrev Inv-loop : tie.InvT-loop
-Inv-loop key text at j₀ j = (j ≤ length key) × Passed (keyByte key text at) j
+Inv-loop key text at j₀ j = (j ≤ length key) × PassedTo (keyByte key text at) j
 
 abbrev μ-loop : tie.MeasureT-loop
 μ-loop key text at j₀ j = length key - j
