@@ -38,7 +38,8 @@ pub record Recovered (s : Shape) (p F G buffer : List ℕ) : Type 0 where
   pub corrected-field : correctLeaves s G ≡ F
   pub corrected-count : correctCount s G ≡ differences (fieldOf F) (fieldOf G) (cellsOf s)
 
--- what correcting flips looks like one cluster of at most t cells: at most t cells differ from what it leaves, and any two of them are
+-- what correcting flips looks like one cluster of at most t cells: at most t cells differ from what it leaves, and any two of
+-- them are
 -- less than t apart
 pub record WithinPromise (s : Shape) (before after : List ℕ) : Type 0 where
   pub few : differences (fieldOf before) (fieldOf after) (cellsOf s) ≤ s .strength

@@ -14,7 +14,8 @@ use Rattle.codec.specs.Plan.{planBytes}
 use Rattle.codec.specs.Correct.{correctLeaves}
 use Rattle.codec.specs.Damage.{damagedField, WithinPromise}
 
--- Theorem. Where the damage to a field that was written lies in one cluster of at most t cells, correcting flips at most t cells, and
+-- Theorem. Where the damage to a field that was written lies in one cluster of at most t cells, correcting flips at most t cells,
+-- and
 -- any two of them are less than t apart. So where it flips others, the field is none that was written with such damage.
 pub record DamageTold : Type 1 where
   pub within : (s : Shape) → Accepted s

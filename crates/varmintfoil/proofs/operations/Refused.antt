@@ -31,14 +31,22 @@ module _ (n : ShapeNumbers) (r : NewShape) (x : IsNewShape n r) (why : Refusal) 
   pub refused-class : (c : Cell) → IsCellClass (shapeFrom n) c (cls.Refused why)
   unfolding classNumber classGiven
   refused-class c =
-      record { number = new-first n r x why e _; class = refused why _ _ _ (new-first n r x why e _); reason = λ z. new-other n r x why e reasons.FieldLength refl cc }
+      record {
+        number = new-first n r x why e _;
+        class = refused why _ _ _ (new-first n r x why e _);
+        reason = λ z. new-other n r x why e reasons.FieldLength refl cc;
+      }
 
   -- and the bytes that are lent stay as they were
   module _ (payload field : List ℕ) where
     pub refused-encode : IsEncoded (shapeFrom n) payload field field (enc.Refused why)
     unfolding encodeNumber encodeLeaves
     refused-encode =
-        record { number = new-first n r x why e _; leaves = refused why _ _ _ (new-first n r x why e _); reason = λ z. new-other n r x why e reasons.OutsideShape refl cc }
+        record {
+          number = new-first n r x why e _;
+          leaves = refused why _ _ _ (new-first n r x why e _);
+          reason = λ z. new-other n r x why e reasons.OutsideShape refl cc;
+        }
 
     pub refused-decode : IsDecoded (shapeFrom n) payload field payload (dec.Refused why)
     unfolding decodeNumber decodeCount decodeLeaves
