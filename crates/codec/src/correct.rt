@@ -13,10 +13,10 @@ use crate::damage::count_damaged;
 use crate::damage::flip_cells;
 use crate::examine::examine;
 use lattice::capacity::class_sizes;
-use lattice::cell_places::cells_at;
 use lattice::refusal::Refusal;
 use lattice::refusal::Tested;
 use lattice::shape::Shape;
+use passes::cell_places::cells_at;
 
 // The number of cells flipped, or the refusal 1, 2, 4, 5, 6 or 7.
 pub enum CorrectAnswer {

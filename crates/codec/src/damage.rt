@@ -13,8 +13,8 @@ ghost use Rattle.codec.specs.Packing.{BitFlipped, HoldsBits, flippedAt, 
 use crate::hamming::flip;
 use crate::index::wide_16;
 use crate::index::wide_32;
-use lattice::check_cells::MAX_CHECKS;
 use lattice::shape::Shape;
+use passes::check_cells::MAX_CHECKS;
 
 // One more where the test holds.
 fn count_if(test: bool, n: usize) -> usize

@@ -18,12 +18,12 @@ use crate::damage::flip_bits;
 use crate::examine::examine;
 use crate::gather::gather;
 use crate::lengths::length_tests;
-use lattice::cell_places::cells_at;
-use lattice::check_cells::MAX_CHECKS;
-use lattice::check_cells::check_cells;
 use lattice::refusal::Refusal;
 use lattice::refusal::Tested;
 use lattice::shape::Shape;
+use passes::cell_places::cells_at;
+use passes::check_cells::MAX_CHECKS;
+use passes::check_cells::check_cells;
 
 // The number of cells flipped, or the refusal 1, 2, 3, 4, 5, 6 or 7.
 pub enum DecodeAnswer {

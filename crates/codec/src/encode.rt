@@ -15,11 +15,11 @@ use crate::fill::fill_planes;
 use crate::index::wide_16;
 use crate::lengths::length_tests;
 use crate::syndromes::field_syndromes;
-use lattice::check_cells::MAX_CHECKS;
-use lattice::check_cells::check_cells;
 use lattice::refusal::Refusal;
 use lattice::refusal::Tested;
 use lattice::shape::Shape;
+use passes::check_cells::MAX_CHECKS;
+use passes::check_cells::check_cells;
 
 // Done, or the refusal 1, 2, 3 or 4.
 pub enum EncodeAnswer {

@@ -20,10 +20,10 @@ use crate::hamming::holds_data;
 use crate::payload::padding_value;
 use crate::syndromes::field_syndromes;
 use lattice::capacity::data_in;
-use lattice::place::place_back;
 use lattice::refusal::Refusal;
 use lattice::refusal::Tested;
 use lattice::shape::Shape;
+use passes::place::place_back;
 
 // The greater of two bytes.
 fn greater(a: u8, b: u8) -> u8

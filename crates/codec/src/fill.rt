@@ -7,8 +7,8 @@ ghost use Rattle.lattice.specs.Shape.{cellsOf};
 ghost use Rattle.codec.specs.Filling.{RunEnd, ChecksListed, AtPlane, Filled, planeCells, dataBuffer};
 use crate::index::wide_16;
 use crate::scatter::scatter_run;
-use lattice::check_cells::MAX_CHECKS;
 use lattice::shape::Shape;
+use passes::check_cells::MAX_CHECKS;
 
 // The number of cells of a plane.
 fn plane_cells(shape: Shape) -> usize

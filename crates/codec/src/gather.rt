@@ -11,8 +11,8 @@ ghost use Rattle.codec.specs.Field.{fieldOf, Cells};
 ghost use Rattle.codec.specs.Packing.{BeginsByte, fourAt, eightAt, HoldsBytes, BitStored};
 ghost use Rattle.codec.specs.Working.{FieldFits};
 use crate::cell::cell_value;
-use lattice::check_cells::MAX_CHECKS;
 use lattice::shape::Shape;
+use passes::check_cells::MAX_CHECKS;
 
 // Does a byte of the payload begin at the cell of this rank, with room for its eight cells?
 pub(crate) fn begins_byte(rank: usize, room: usize, bytes: usize) -> bool

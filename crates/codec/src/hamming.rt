@@ -8,8 +8,8 @@ ghost use Rattle.lattice.specs.Shape.{maxClasses};
 ghost use Rattle.lattice.specs.Check.{isCheck};
 ghost use Rattle.codec.specs.Field.{flip};
 use lattice::capacity::is_check;
-use lattice::place::Place;
 use lattice::shape::Shape;
+use passes::place::Place;
 
 // Does the cell at a place hold no check, where `sizes` holds the size of each class?
 pub(crate) fn holds_data(sizes: &[u32; Shape::MAX_CLASSES], place: Place) -> bool

@@ -15,8 +15,8 @@ use crate::cell::cell_value;
 use lattice::line::Line;
 use lattice::line::Pass;
 use lattice::line::next_place;
-use lattice::line_positions::first_line;
-use lattice::line_positions::next_positions;
+use passes::line_positions::first_line;
+use passes::line_positions::next_positions;
 
 // Takes in the line of w cells that begins at cell n, from the place `start` on.
 fn take_line(t: &mut [u16], e: &[u16], field: &[u8], start: usize, n: usize, w: usize)

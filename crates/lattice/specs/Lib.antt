@@ -23,4 +23,3 @@ pub mod Sizes
 pub mod Scanning
 pub mod Lines
 pub mod Listing
-pub mod CheckList

@@ -73,7 +73,7 @@ impl Shape {
 }
 
 // (start − step) mod m, where both are below m.
-pub(crate) fn next_start(start: usize, step: usize, m: usize) -> usize
+pub fn next_start(start: usize, step: usize, m: usize) -> usize
     ensures { λ r. ⌜ (start < m → step < m → r ≡ minusMod start step m) ⌝ }
 {
     if step <= start {

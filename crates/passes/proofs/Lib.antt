@@ -1,0 +1,1 @@
+-- The proofs of the crate `passes`: for each module of src a room of its name. The other laws are those of the crate `lattice`.
