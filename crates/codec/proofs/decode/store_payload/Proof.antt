@@ -68,15 +68,14 @@ same-length c = search needs
 
 returns : tie.Need-returns
 returns c =
-    let e =
-    c .before .before .before .before .before .before .before .before .before .before .before .before .before
-    .before .before .before .before .before .before .before in
+    let gathered = c .before .before .before .before .before .before .before in
+    let cleared = gathered .before .before .before .before .before in
+    let e = cleared .before .before .before .before .before .before .before .before in
     let made = c .before .before .correct-payload in
     let long =
     made .kept .1 .1 .1 .1 .1 .1 .0
-    ∙ c .before .before .before .before .before .before .before .gather .kept .1 .1 .1 .1 .1 .0
-    ∙ c .before .before .before .before .before .before .before .before .before .before .before .before .clear
-    .kept .0
+    ∙ gathered .gather .kept .1 .1 .1 .1 .1 .0
+    ∙ cleared .clear .kept .0
     ∙ e .pre .1 .1 in (
       bits-all _ _ (made .last .1 .1 .1 .1 .1 .1 .0)
           (corrected-cells _ (tagsAt (e .args .shape)) _ (received-cells _ _ (e .pre .0 .cells))) long

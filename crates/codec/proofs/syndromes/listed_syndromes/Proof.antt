@@ -12,12 +12,11 @@ first-line-requires c κs = tt
 
 take-lines-requires : tie.Need-take-lines-requires
 take-lines-requires c κs =
-    let e =
-    c .before .before .before .before .before .before .before .before .before .before .before .before .before
-    .before .before .before .before .before .before .before in
+    let listed = c .before .before .before .before .before .before .before .before .before .before in
+    let e = listed .before .before .before .before .before .before .before .before .before .before in
     let p = e .pre .0 .0 in
     let room = e .pre .1 .1 .1 .0 in
-    let first = c .before .before .before .before .before .before .before .before .before .before .first-line in
+    let first = listed .first-line in
     let long = first .kept .1 .0 in (
       (p, e .pre .0 .1, e .pre .0 .2, room .1 ∙ sym long),
       (
@@ -31,10 +30,9 @@ take-lines-requires c κs =
 
 fold-requires : tie.Need-fold-requires
 fold-requires c κs =
-    let e =
-    c .before .before .before .before .before .before .before .before .before .before .before .before .before
-    .before .before .before .before .before .before .before .before .before .before .before .before .before
-    .before in
+    let taken = c .before .before .before .before .before .before in
+    let listed = taken .before .before .before .before .before .before .before .before .before .before .before in
+    let e = listed .before .before .before .before .before .before .before .before .before .before in
     let p = e .pre .0 .0 in
     let high = most (p .shape) (p .accepted) _ (p .same) in (
       (some (p .shape) (p .accepted) _ (p .same), high, omega (arith, high)),
@@ -58,11 +56,10 @@ same-length-5 c = search needs
 
 returns : tie.Need-returns
 returns c =
-    let e =
-    c .before .before .before .before .before .before .before .before .before .before .before .before .before
-    .before .before .before .before .before .before .before .before .before .before .before .before .before
-    .before .before .before .before in
-    let taken = c .before .before .before .before .before .before .before .before .before .take-lines in
+    let lines = c .before .before .before .before .before .before .before .before .before in
+    let listed = lines .before .before .before .before .before .before .before .before .before .before .before in
+    let e = listed .before .before .before .before .before .before .before .before .before .before in
+    let taken = lines .take-lines in
     let fold = c .before .before .fold in
     λ s ok same. pass-folded s ok _ same _ (taken .last .1 .1 .1 .1 .1 .1 .0) (e .args .syndromes .now)
     (fold .last .1 .1 .0) (taken .ensures s ok same) (e .pre .1 .1 .0) (fold .ensures .0) (fold .ensures .1)

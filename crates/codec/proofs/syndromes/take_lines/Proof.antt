@@ -53,13 +53,11 @@ next-positions-requires c κs = search needs
 
 add-n : tie.Need-add-n Inv-loop μ-loop
 add-n c =
-    let e =
-    c .before .before .before .before .before .before .before .before .before .before .before .before .before
-    .before .before .before .before .before in
+    let d = c .before .before .before .before .before .before .before .before .before .before in
+    let e = d .before .before .before .before .before .before .before .before in
     let p = e .pre .0 .0 in
-    let turn =
-    c .before .before .before .before .before .before .before .before .before .before .before .before .loop in
-    let inside = c .before .before .before .before .before .before .before .before .before .before .if1 .taken in
+    let turn = d .before .before .loop in
+    let inside = d .if1 .taken in
     omega (
       arith,
       pass-room (p .shape) (p .accepted) _ (p .same) (turn .l) (turn .n) (turn .inv .1) inside,

@@ -97,11 +97,11 @@ same-length c = search needs
 returns : tie.Need-returns
 returns c =
     let spread = c .before .before .spread in
-    let e = c .before .before .before .before .before .before .before .before .before .before .before .before .before
-    .before .before .before in
-    let sums = c .before .before .before .before .before .before .before .before .before .sum-starts in
-    let counts = c .before .before .before .before .before .before .before .before .before .before .before .before
-    .before .count-starts in
+    let summed = c .before .before .before .before .before .before .before .before .before in
+    let counted = summed .before .before .before .before in
+    let e = counted .before .before .before in
+    let sums = summed .sum-starts in
+    let counts = counted .count-starts in
     λ s accepted same. sizes-right s accepted _ same (counts .last .1 .0) (sums .last .1 .1 .0)
     (counts .ensures s accepted same) (sums .ensures) (e .args .sizes .now) (spread .last .1 .1 .1 .1 .0)
     (e .pre .1) (spread .ensures .0) (spread .ensures .1)
