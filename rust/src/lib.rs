@@ -24,19 +24,13 @@
 //! assert_eq!(damaged, field);
 //! # Ok::<(), Refusal>(())
 //! ```
-//!
-//! Beside the wrapper stand [`reference`], a reference implementation that the tests compare it with, and two that the benchmark
-//! does: [`same`], the library's own text as Rust, and [`plain`], the fastest plain Rust.
 
 #![deny(unsafe_code)]
 
 #[cfg(feature = "archive")]
 #[allow(unsafe_code)]
 pub mod ffi;
-pub mod plain;
-pub mod reference;
 mod refusal;
-pub mod same;
 #[cfg(feature = "archive")]
 mod wrapper;
 

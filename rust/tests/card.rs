@@ -7,7 +7,6 @@ use common::*;
 use std::io::Write;
 use std::path::PathBuf;
 use std::process::{Command, Stdio};
-use varmintfoil::reference;
 
 fn program() -> PathBuf {
     let path = match std::env::var_os("VARMINTFOIL_CARD") {

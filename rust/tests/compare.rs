@@ -4,7 +4,7 @@
 mod common;
 
 use common::*;
-use varmintfoil::{ffi, reference, Distance, Refusal, Shape};
+use varmintfoil::{ffi, Distance, Refusal, Shape};
 
 /// How often each operation is compared.
 const TIMES: usize = 200_000;

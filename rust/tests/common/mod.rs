@@ -3,8 +3,8 @@
 #![allow(dead_code)]
 
 pub mod edges;
-
-use varmintfoil::reference;
+#[path = "../../others/reference.rs"]
+pub mod reference;
 
 /// A xorshift generator.
 pub struct Random(u64);
