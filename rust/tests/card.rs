@@ -325,9 +325,9 @@ fn break_text(random: &mut Random, text: &mut Vec<u8>) {
 
 #[test]
 fn generated_cards() {
-    let mut random = Random::new(10);
+    let mut random = outside::random(10);
     let (mut written, mut read, mut refused) = (0, 0, [0; 10]);
-    for _ in 0..1500 {
+    for _ in 0..outside::rounds(1500) {
         let mut shape = lawful_shape(&mut random);
         if random.once_in(8) {
             let other = random.pick(&[0, 9, 17, 33, 257, 65_537, 65_539, 99_999, 100_000]);
@@ -357,9 +357,9 @@ fn generated_cards() {
         }
     }
     println!("written {written}, read {read}, refused {refused:?}");
-    assert!(written >= 100 && read >= 100);
+    assert!(written >= 100 && read >= 100 || outside::fewer());
     for number in [1, 2, 3, 6, 7, 8] {
-        assert!(refused[number] >= 10, "{number} came up {} times", refused[number]);
+        assert!(refused[number] >= 10 || outside::fewer(), "{number} came up {} times", refused[number]);
     }
     assert_eq!([refused[0], refused[4], refused[5], refused[9]], [0; 4]);
 }
