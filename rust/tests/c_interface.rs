@@ -145,6 +145,56 @@ fn a_dropped_answer() {
     }
 }
 
+/// The names of a listing of `nm -P`, each with the letter of its kind.
+fn symbols(file: &Path) -> Vec<(String, String)> {
+    let listing = Command::new("nm").arg("-P").arg(file).output().expect("nm");
+    assert!(listing.status.success(), "{}", text(&listing.stderr));
+    let lines = text(&listing.stdout);
+    lines.lines().filter_map(|line| line.split_once(' ')).map(|(name, rest)| (name.into(), rest[..1].into())).collect()
+}
+
+/// The names of one kind among symbols, in order.
+fn of_kind<'a>(symbols: &'a [(String, String)], kind: &str) -> Vec<&'a str> {
+    let mut names: Vec<&str> = symbols.iter().filter(|symbol| symbol.1 == kind).map(|symbol| symbol.0.as_str()).collect();
+    names.sort_unstable();
+    names
+}
+
+/// The six functions, in the order of their names.
+const FUNCTIONS: [&str; 6] = [
+    "varmintfoil_class",
+    "varmintfoil_correct",
+    "varmintfoil_decode",
+    "varmintfoil_distance_test",
+    "varmintfoil_encode",
+    "varmintfoil_plan",
+];
+
+/// An object that calls each function needs no library: the header is that of freestanding C and C++, and the names are C's in
+/// both.
+#[test]
+fn freestanding() {
+    let source = r#"
+        #include "varmintfoil.h"
+        size_t all(varmintfoil_shape_t shape, uint8_t *payload, uint8_t *field);
+        size_t all(varmintfoil_shape_t shape, uint8_t *payload, uint8_t *field) {
+            varmintfoil_plan_t plan = varmintfoil_plan(shape);
+            size_t sum = plan.number;
+            sum += varmintfoil_class(shape, 0, 0, 0).number;
+            sum += varmintfoil_encode(shape, payload, plan.bytes, field, plan.cells);
+            sum += varmintfoil_decode(shape, payload, plan.bytes, field, plan.cells).number;
+            sum += varmintfoil_correct(shape, field, plan.cells).number;
+            return sum + varmintfoil_distance_test(7, 2, 3, 3).number;
+        }
+    "#;
+    for (language, standard) in standards(&["c99", "c11"], &["c++98", "c++11", "c++14", "c++17", "c++20"]) {
+        let object = scratch(&format!("freestanding-{standard}.o"));
+        let compiled = language.compile(standard, source, &object, &["-Werror", "-ffreestanding", "-nostdlib", "-O1", "-c"]);
+        assert!(compiled.status.success(), "{standard}: {}", text(&compiled.stderr));
+        assert_eq!(of_kind(&symbols(&object), "U"), FUNCTIONS, "{standard}");
+    }
+}
+
 /// A program that needs libffi, where there is one, can link this archive too, by its name.
 #[test]
 fn beside_libffi() {
@@ -172,13 +222,10 @@ fn beside_libffi() {
 /// The archive has the six functions, needs memset and nothing else, and has no data but constants.
 #[test]
 fn the_symbols() {
-    let listing = text(&Command::new("nm").args(["-P", ARCHIVE]).output().expect("nm").stdout);
-    let symbols = listing.lines().filter_map(|line| line.split_once(' ')).map(|(name, rest)| (name, &rest[..1]));
-    let of = |kind: &str| -> Vec<&str> { symbols.clone().filter(|symbol| symbol.1 == kind).map(|symbol| symbol.0).collect() };
-    let functions = ["class", "correct", "decode", "distance_test", "encode", "plan"].map(|name| format!("varmintfoil_{name}"));
-    assert_eq!(of("T"), functions);
-    assert_eq!(of("U"), ["memset"]);
-    assert!(symbols.clone().all(|(_, kind)| "TtrU".contains(kind)), "{listing}");
+    let symbols = symbols(Path::new(ARCHIVE));
+    assert_eq!(of_kind(&symbols, "T"), FUNCTIONS);
+    assert_eq!(of_kind(&symbols, "U"), ["memset"]);
+    assert!(symbols.iter().all(|(_, kind)| "TtrU".contains(kind)), "{symbols:?}");
     let sizes = text(&Command::new("size").arg(ARCHIVE).output().expect("size").stdout);
     let figures: Vec<&str> = sizes.lines().nth(1).unwrap().split_whitespace().collect();
     assert_eq!(figures[1..3], ["0", "0"], "no initialised data and none that starts as 0: {sizes}");
