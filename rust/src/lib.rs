@@ -24,6 +24,9 @@
 //! assert_eq!(damaged, field);
 //! # Ok::<(), Refusal>(())
 //! ```
+//!
+//! Damage beyond one such hole is mostly not refused but read as another payload. The function `within_promise` of the example
+//! `beyond` tells most of it, from the field before and after `correct`.
 
 #![deny(unsafe_code)]
 

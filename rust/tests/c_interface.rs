@@ -88,6 +88,60 @@ fn the_smoke_test() {
     }
 }
 
+/// The program in C and the example in Rust tell damage beyond the promise, in the same words.
+#[test]
+fn beyond_the_promise() {
+    let expected = "one hole: abcdefghijklmnopqrstuvwxyz, 4 cells flipped, within the promise\n\
+                    two holes: abcdefkhejklmnopqrstuzwtyz, 4 cells flipped, beyond the promise\n";
+    for (language, standard) in standards(&["c99", "c11"], &["c++20"]) {
+        assert_eq!(language.run(standard, &source("beyond.c"), "beyond", &["-O1", ARCHIVE]), expected);
+    }
+    let example = Command::new(env!("CARGO"))
+        .args(["run", "--release", "--offline", "--quiet", "--example", "beyond"])
+        .current_dir(env!("CARGO_MANIFEST_DIR"))
+        .output()
+        .unwrap();
+    assert_eq!(text(&example.stdout), expected, "{}", text(&example.stderr));
+}
+
+/// The bounds of the program's test, in each direction of a stack of strength 3: at most 3 cells, any two less than 3 apart.
+#[test]
+fn the_bounds_of_the_promise() {
+    let source = r#"
+        #define main the_program
+        #include "../rust/c/beyond.c"
+        #undef main
+        static void flipped(size_t count, const size_t *cells) {
+            varmintfoil_shape_t cube = VARMINTFOIL_SHAPE(.columns = 9, .rows = 9, .planes = 9, .strength = 3);
+            uint8_t before[729] = {0}, after[729] = {0};
+            for (size_t i = 0; i < 3 * count; i += 3) {
+                after[(cells[i + 1] * 9 + cells[i]) * 9 + cells[i + 2]] = 1;
+            }
+            printf("%d", within_promise(cube, before, after));
+        }
+        int main(void) {
+            static const size_t near[3][6] = {{4, 4, 4, 4, 4, 6}, {4, 4, 4, 4, 6, 4}, {4, 4, 4, 6, 4, 4}};
+            static const size_t far[3][6] = {{4, 4, 4, 4, 4, 7}, {4, 4, 4, 4, 7, 4}, {4, 4, 4, 7, 4, 4}};
+            static const size_t aslant[6] = {4, 4, 4, 5, 5, 3}, next_line[6] = {4, 4, 8, 5, 4, 0};
+            static const size_t square[12] = {4, 4, 4, 4, 4, 5, 5, 4, 4, 5, 4, 5}, ends[9] = {4, 4, 3, 4, 4, 5, 4, 4, 7};
+            for (size_t i = 0; i < 3; i++) {
+                flipped(2, near[i]);
+                flipped(2, far[i]);
+            }
+            flipped(2, aslant);
+            flipped(2, next_line);
+            flipped(0, square);
+            flipped(3, square);
+            flipped(4, square);
+            flipped(3, ends);
+            return 0;
+        }
+    "#;
+    for (language, standard) in standards(&["c99"], &["c++20"]) {
+        assert_eq!(language.run(standard, source, "bounds", &["-O1", ARCHIVE]), "101010001100");
+    }
+}
+
 /// Before C++20 a shape is made with all members 0, and its members are set by their names.
 #[test]
 fn a_shape_before_cpp20() {
