@@ -25,8 +25,8 @@
 //! # Ok::<(), Refusal>(())
 //! ```
 //!
-//! Damage beyond one such hole is mostly not refused but read as another payload. The function `within_promise` of the example
-//! `beyond` tells most of it, from the field before and after `correct`.
+//! Two such holes are mostly not refused but read as another payload. The function `within_promise` of the example `beyond` tells
+//! most of them, from the field before and after `correct`.
 
 #![deny(unsafe_code)]
 
