@@ -8,5 +8,9 @@ use std::io::{Read, Write};
 fn main() -> std::io::Result<()> {
     let mut input = Vec::new();
     std::io::stdin().take(65_537).read_to_end(&mut input)?;
-    std::io::stdout().write_all(&reference::card(&input))
+    let mut output = std::io::stdout();
+    if output.write_all(&reference::card(&input)).and_then(|()| output.flush()).is_err() {
+        eprintln!("card: not all of the answer could be written");
+    }
+    Ok(())
 }
