@@ -25,8 +25,8 @@
 //! # Ok::<(), Refusal>(())
 //! ```
 //!
-//! Two such holes are mostly not refused but read as another payload. The function `within_promise` of the example `beyond` tells
-//! most of them, from the field before and after `correct`.
+//! Two holes of t cells are mostly not refused but read as another payload. The function `within_promise` of the example `beyond`
+//! tells most of them, from the field before and after `correct`.
 
 #![deny(unsafe_code)]
 

@@ -49,7 +49,7 @@ fn one_cluster() {
             before[cell] ^= 1;
         }
         let mut after = before.clone();
-        assert_eq!(correct(&shape, &mut after), Ok(cells.len()));
+        assert_eq!(guards::lend(&mut after, |field| correct(&shape, field)), Ok(cells.len()));
         assert!(within_promise(&shape, &before, &after), "{numbers:?} {cells:?}");
     }
 }
