@@ -1,6 +1,6 @@
 //! Links the proved library, libvarmintfoil.a, from the folder that `VARMINTFOIL_LIB_DIR` names, or from target/staticlib at the
 //! repository's root, where `rt staticlib varmintfoil` writes it. Writes the text of the proved crates as Rust, for
-//! `src/same.rs`. Sets the condition `liquid` where liquid-dsp can be linked, which the benchmark alone does.
+//! `others/same.rs`. Sets the condition `liquid` where liquid-dsp can be linked, which the benchmark alone does.
 
 #[path = "build/same.rs"]
 mod same;

@@ -88,6 +88,60 @@ fn the_smoke_test() {
     }
 }
 
+/// The program in C and the example in Rust tell damage beyond the promise, in the same words.
+#[test]
+fn beyond_the_promise() {
+    let expected = "one hole: abcdefghijklmnopqrstuvwxyz, 4 cells flipped, within the promise\n\
+                    two holes: abcdefkhejklmnopqrstuzwtyz, 4 cells flipped, beyond the promise\n";
+    for (language, standard) in standards(&["c99", "c11"], &["c++20"]) {
+        assert_eq!(language.run(standard, &source("beyond.c"), "beyond", &["-O1", ARCHIVE]), expected);
+    }
+    let example = Command::new(env!("CARGO"))
+        .args(["run", "--release", "--offline", "--quiet", "--example", "beyond"])
+        .current_dir(env!("CARGO_MANIFEST_DIR"))
+        .output()
+        .unwrap();
+    assert_eq!(text(&example.stdout), expected, "{}", text(&example.stderr));
+}
+
+/// The bounds of the program's test, in each direction of a stack of strength 3: at most 3 cells, any two less than 3 apart.
+#[test]
+fn the_bounds_of_the_promise() {
+    let source = r#"
+        #define main the_program
+        #include "../rust/c/beyond.c"
+        #undef main
+        static void flipped(size_t count, const size_t *cells) {
+            varmintfoil_shape_t cube = VARMINTFOIL_SHAPE(.columns = 9, .rows = 9, .planes = 9, .strength = 3);
+            uint8_t before[729] = {0}, after[729] = {0};
+            for (size_t i = 0; i < 3 * count; i += 3) {
+                after[(cells[i + 1] * 9 + cells[i]) * 9 + cells[i + 2]] = 1;
+            }
+            printf("%d", within_promise(cube, before, after));
+        }
+        int main(void) {
+            static const size_t near[3][6] = {{4, 4, 4, 4, 4, 6}, {4, 4, 4, 4, 6, 4}, {4, 4, 4, 6, 4, 4}};
+            static const size_t far[3][6] = {{4, 4, 4, 4, 4, 7}, {4, 4, 4, 4, 7, 4}, {4, 4, 4, 7, 4, 4}};
+            static const size_t aslant[6] = {4, 4, 4, 5, 5, 3}, next_line[6] = {4, 4, 8, 5, 4, 0};
+            static const size_t square[12] = {4, 4, 4, 4, 4, 5, 5, 4, 4, 5, 4, 5}, ends[9] = {4, 4, 3, 4, 4, 5, 4, 4, 7};
+            for (size_t i = 0; i < 3; i++) {
+                flipped(2, near[i]);
+                flipped(2, far[i]);
+            }
+            flipped(2, aslant);
+            flipped(2, next_line);
+            flipped(0, square);
+            flipped(3, square);
+            flipped(4, square);
+            flipped(3, ends);
+            return 0;
+        }
+    "#;
+    for (language, standard) in standards(&["c99"], &["c++20"]) {
+        assert_eq!(language.run(standard, source, "bounds", &["-O1", ARCHIVE]), "101010001100");
+    }
+}
+
 /// Before C++20 a shape is made with all members 0, and its members are set by their names.
 #[test]
 fn a_shape_before_cpp20() {
@@ -145,6 +199,56 @@ fn a_dropped_answer() {
     }
 }
 
+/// The names of a listing of `nm -P`, each with the letter of its kind.
+fn symbols(file: &Path) -> Vec<(String, String)> {
+    let listing = Command::new("nm").arg("-P").arg(file).output().expect("nm");
+    assert!(listing.status.success(), "{}", text(&listing.stderr));
+    let lines = text(&listing.stdout);
+    lines.lines().filter_map(|line| line.split_once(' ')).map(|(name, rest)| (name.into(), rest[..1].into())).collect()
+}
+
+/// The names of one kind among symbols, in order.
+fn of_kind<'a>(symbols: &'a [(String, String)], kind: &str) -> Vec<&'a str> {
+    let mut names: Vec<&str> = symbols.iter().filter(|symbol| symbol.1 == kind).map(|symbol| symbol.0.as_str()).collect();
+    names.sort_unstable();
+    names
+}
+
+/// The six functions, in the order of their names.
+const FUNCTIONS: [&str; 6] = [
+    "varmintfoil_class",
+    "varmintfoil_correct",
+    "varmintfoil_decode",
+    "varmintfoil_distance_test",
+    "varmintfoil_encode",
+    "varmintfoil_plan",
+];
+
+/// An object that calls each function needs no library: the header is that of freestanding C and C++, and the names are C's in
+/// both.
+#[test]
+fn freestanding() {
+    let source = r#"
+        #include "varmintfoil.h"
+        size_t all(varmintfoil_shape_t shape, uint8_t *payload, uint8_t *field);
+        size_t all(varmintfoil_shape_t shape, uint8_t *payload, uint8_t *field) {
+            varmintfoil_plan_t plan = varmintfoil_plan(shape);
+            size_t sum = plan.number;
+            sum += varmintfoil_class(shape, 0, 0, 0).number;
+            sum += varmintfoil_encode(shape, payload, plan.bytes, field, plan.cells);
+            sum += varmintfoil_decode(shape, payload, plan.bytes, field, plan.cells).number;
+            sum += varmintfoil_correct(shape, field, plan.cells).number;
+            return sum + varmintfoil_distance_test(7, 2, 3, 3).number;
+        }
+    "#;
+    for (language, standard) in standards(&["c99", "c11"], &["c++98", "c++11", "c++14", "c++17", "c++20"]) {
+        let object = scratch(&format!("freestanding-{standard}.o"));
+        let compiled = language.compile(standard, source, &object, &["-Werror", "-ffreestanding", "-nostdlib", "-O1", "-c"]);
+        assert!(compiled.status.success(), "{standard}: {}", text(&compiled.stderr));
+        assert_eq!(of_kind(&symbols(&object), "U"), FUNCTIONS, "{standard}");
+    }
+}
+
 /// A program that needs libffi, where there is one, can link this archive too, by its name.
 #[test]
 fn beside_libffi() {
@@ -172,13 +276,10 @@ fn beside_libffi() {
 /// The archive has the six functions, needs memset and nothing else, and has no data but constants.
 #[test]
 fn the_symbols() {
-    let listing = text(&Command::new("nm").args(["-P", ARCHIVE]).output().expect("nm").stdout);
-    let symbols = listing.lines().filter_map(|line| line.split_once(' ')).map(|(name, rest)| (name, &rest[..1]));
-    let of = |kind: &str| -> Vec<&str> { symbols.clone().filter(|symbol| symbol.1 == kind).map(|symbol| symbol.0).collect() };
-    let functions = ["class", "correct", "decode", "distance_test", "encode", "plan"].map(|name| format!("varmintfoil_{name}"));
-    assert_eq!(of("T"), functions);
-    assert_eq!(of("U"), ["memset"]);
-    assert!(symbols.clone().all(|(_, kind)| "TtrU".contains(kind)), "{listing}");
+    let symbols = symbols(Path::new(ARCHIVE));
+    assert_eq!(of_kind(&symbols, "T"), FUNCTIONS);
+    assert_eq!(of_kind(&symbols, "U"), ["memset"]);
+    assert!(symbols.iter().all(|(_, kind)| "TtrU".contains(kind)), "{symbols:?}");
     let sizes = text(&Command::new("size").arg(ARCHIVE).output().expect("size").stdout);
     let figures: Vec<&str> = sizes.lines().nth(1).unwrap().split_whitespace().collect();
     assert_eq!(figures[1..3], ["0", "0"], "no initialised data and none that starts as 0: {sizes}");

@@ -4,10 +4,10 @@
 mod common;
 
 use common::*;
+use std::fs::File;
 use std::io::Write;
 use std::path::PathBuf;
-use std::process::{Command, Stdio};
-use varmintfoil::reference;
+use std::process::{Command, Output, Stdio};
 
 fn program() -> PathBuf {
     let path = match std::env::var_os("VARMINTFOIL_CARD") {
@@ -18,11 +18,11 @@ fn program() -> PathBuf {
     path
 }
 
-/// What the program writes to its standard output for an input. It must end by itself and write nothing else.
-fn run(input: &[u8]) -> Vec<u8> {
+/// Runs the program on an input; it must end by itself, with the exit status 0.
+fn run_into(input: &[u8], stdout: Stdio) -> Output {
     let mut child = Command::new(program())
         .stdin(Stdio::piped())
-        .stdout(Stdio::piped())
+        .stdout(stdout)
         .stderr(Stdio::piped())
         .spawn()
         .expect("the card program starts");
@@ -34,8 +34,14 @@ fn run(input: &[u8]) -> Vec<u8> {
     });
     let output = child.wait_with_output().unwrap();
     writer.join().unwrap();
-    assert!(output.status.code().is_some(), "the program was stopped by a signal: {:?}", output.status);
-    assert!(output.stderr.is_empty(), "{}", String::from_utf8_lossy(&output.stderr));
+    assert_eq!(output.status.code(), Some(0), "{:?}", output.status);
+    output
+}
+
+/// What the program writes to its standard output for an input. It must write nothing else.
+fn run(input: &[u8]) -> Vec<u8> {
+    let output = run_into(input, Stdio::piped());
+    assert_eq!(String::from_utf8_lossy(&output.stderr), "");
     output.stdout
 }
 
@@ -275,6 +281,45 @@ fn long_inputs() {
     assert_output(&vec![0; 1_000_000], "refusal=8\n", "a million zero bytes");
 }
 
+/// An input for each kind of answer and for each refusal, one with the longest answer, one that ends at once and one that is too long.
+fn all_kinds() -> Vec<String> {
+    let zeros = "00".repeat(reference::plan(1, 256, 16, 6).unwrap().bytes);
+    vec![
+        format!("{HEAD}payload=a5\n"),
+        format!("{HEAD}row=11011\nrow=00101\nrow=10010\nrow=00001\nrow=10100\n"),
+        first_lines("1", "256", "16", "6") + &format!("payload={zeros}\n"),
+        first_lines("257", "1", "1", "1") + "payload=\n",
+        first_lines("5", "5", "1", "33") + "payload=a5\n",
+        format!("{HEAD}payload=\n"),
+        first_lines("2", "1", "1", "1") + "row=11\n",
+        first_lines("3", "1", "1", "1") + "row=111\n",
+        format!("{HEAD}payload=A5\n"),
+        String::new(),
+        "\n".repeat(100_000),
+    ]
+}
+
+#[test]
+fn nothing_on_standard_error() {
+    for text in all_kinds() {
+        let output = run_into(text.as_bytes(), Stdio::piped());
+        assert_eq!(String::from_utf8_lossy(&output.stderr), "", "{text}");
+        assert_eq!(output.stdout, reference::card(text.as_bytes()), "{text}");
+    }
+}
+
+/// A full device takes no byte of the answer.
+#[test]
+#[ignore = "until the program says so"]
+fn an_answer_that_cannot_be_written() {
+    for text in all_kinds() {
+        let full = File::options().write(true).open("/dev/full").unwrap();
+        let output = run_into(text.as_bytes(), full.into());
+        let said = String::from_utf8_lossy(&output.stderr).into_owned();
+        assert_eq!(said, "card: not all of the answer could be written\n", "{text}");
+    }
+}
+
 /// A card text of a random shape: a payload to write, or rows to read.
 fn whole_card(random: &mut Random, shape: &Numbers) -> Vec<u8> {
     let head = format!("columns={}\nrows={}\nplanes={}\nstrength={}\n", shape.w, shape.h, shape.d, shape.t);
@@ -326,9 +371,9 @@ fn break_text(random: &mut Random, text: &mut Vec<u8>) {
 
 #[test]
 fn generated_cards() {
-    let mut random = Random::new(10);
+    let mut random = outside::random(10);
     let (mut written, mut read, mut refused) = (0, 0, [0; 10]);
-    for _ in 0..1500 {
+    for _ in 0..outside::rounds(1500) {
         let mut shape = lawful_shape(&mut random);
         if random.once_in(8) {
             let other = random.pick(&[0, 9, 17, 33, 257, 65_537, 65_539, 99_999, 100_000]);
@@ -358,9 +403,9 @@ fn generated_cards() {
         }
     }
     println!("written {written}, read {read}, refused {refused:?}");
-    assert!(written >= 100 && read >= 100);
+    assert!(written >= 100 && read >= 100 || outside::fewer());
     for number in [1, 2, 3, 6, 7, 8] {
-        assert!(refused[number] >= 10, "{number} came up {} times", refused[number]);
+        assert!(refused[number] >= 10 || outside::fewer(), "{number} came up {} times", refused[number]);
     }
     assert_eq!([refused[0], refused[4], refused[5], refused[9]], [0; 4]);
 }

@@ -1,10 +1,10 @@
-//! The proved library against the reference implementation: every operation, at least 200,000 times each, numbers, figures and the final
-//! bytes of every buffer.
+//! The proved library against the reference implementation: every operation, 200,000 times each where `VARMINTFOIL_ROUNDS` does not say
+//! otherwise, numbers, figures and the final bytes of every buffer.
 
 mod common;
 
 use common::*;
-use varmintfoil::{ffi, reference, Distance, Refusal, Shape};
+use varmintfoil::{ffi, Distance, Refusal, Shape};
 
 /// How often each operation is compared.
 const TIMES: usize = 200_000;
@@ -84,10 +84,10 @@ impl Codec for Wrapper {
 
 #[test]
 fn plans() {
-    let mut random = Random::new(1);
+    let mut random = outside::random(1);
     let mut tally = Tally::default();
     let listed: Vec<Numbers> = large_shapes().into_iter().chain(edges::edge_shapes()).collect();
-    for round in 0..TIMES {
+    for round in 0..outside::rounds(TIMES) {
         let shape = if round < listed.len() { listed[round] } else { any_shape(&mut random) };
         let answer = shape.plan();
         let figures = ffi::plan(numbers(&shape));
@@ -171,10 +171,11 @@ fn clusters_are_undone() {
 
 #[test]
 fn distance_tests() {
-    let mut random = Random::new(9);
+    let mut random = outside::random(9);
     let mut numbers = [0usize; 10];
     let mut holds = 0;
-    for _ in 0..TIMES {
+    let rounds = outside::rounds(TIMES);
+    for _ in 0..rounds {
         let t = match random.below(8) {
             0 => random.pick(&[0, 19, 256 + 3, 65_537, (1 << 32) + 3, usize::MAX]),
             1 => random.from(1, 18),
@@ -203,8 +204,9 @@ fn distance_tests() {
         }
     }
     println!("distance test: {numbers:?}, {holds} hold");
-    assert!(holds >= 1000 && numbers[0] >= holds + 1000 && numbers[2] >= 1000 && numbers[9] >= 1000);
-    assert_eq!(numbers[0] + numbers[2] + numbers[9], TIMES + 9 * 20);
+    let often = holds >= 1000 && numbers[0] >= holds + 1000 && numbers[2] >= 1000 && numbers[9] >= 1000;
+    assert!(often || outside::fewer());
+    assert_eq!(numbers[0] + numbers[2] + numbers[9], rounds + 9 * 20);
 }
 
 /// The number, the verdict, the triple and the number of triples tried.

@@ -1,9 +1,10 @@
 //! The baseline of the benchmark against the reference implementation. Needs no archive.
 
 mod common;
+#[path = "../others/plain/mod.rs"]
+mod plain;
 
 use common::*;
-use varmintfoil::{plain, reference};
 
 codec!(Plain, plain);
 

@@ -1,6 +1,9 @@
 //! The reference implementation against the examples of document 01, and against itself where a class is small enough to try everything.
 
-use varmintfoil::reference::*;
+#[path = "../others/reference.rs"]
+mod reference;
+
+use reference::*;
 
 const CARD: &str = "columns=5\nrows=5\nplanes=1\nstrength=3\npayload=a5\n";
 const WRITTEN: &str =

@@ -1,9 +1,10 @@
 //! The proved library's text as Rust, against the reference implementation. Needs no archive.
 
 mod common;
+#[path = "../others/same.rs"]
+mod same;
 
 use common::*;
-use varmintfoil::same;
 
 codec!(Same, same);
 

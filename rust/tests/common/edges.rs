@@ -52,11 +52,11 @@ fn field_with_hole(random: &mut Random, shape: &Numbers) -> Vec<u8> {
 /// Each such shape, a few times: written, read and corrected with a hole, with other damage, and with lengths that may be
 /// refused.
 pub fn compare_edges<C: Codec>(rounds: usize) {
-    let mut random = Random::new(10);
+    let mut random = outside::random(10);
     let [mut encoded, mut decoded, mut corrected] = [(); 3].map(|()| Tally::default());
     for shape in edge_shapes() {
         let plan = shape.plan().unwrap();
-        for _ in 0..rounds {
+        for _ in 0..outside::rounds(rounds) {
             let (payload, before) = (random.bytes(plan.bytes), random.bytes(plan.cells));
             compare_encode::<C>(&shape, &payload, &before, &mut encoded);
             let field = field_with_hole(&mut random, &shape);

@@ -2,10 +2,11 @@
 
 use crate::liquid::Liquid;
 use crate::turns::{contest, Contestant, Standing};
+use crate::{plain, same};
 use std::hint::black_box;
 use std::ops::Range;
 use varmintfoil::ffi::{self, ShapeNumbers};
-use varmintfoil::{plain, same, Shape};
+use varmintfoil::Shape;
 
 /// A thing of each contestant, in the order of the tables: the proved library, the same text as Rust, plain Rust, liquid-dsp, a
 /// copy.

@@ -4,7 +4,11 @@
 
 mod contest;
 mod liquid;
+#[path = "../../../others/plain/mod.rs"]
+mod plain;
 mod program;
+#[path = "../../../others/same.rs"]
+mod same;
 mod turns;
 
 use contest::{Card, Each};

@@ -3,8 +3,9 @@
 //!
 //! The modules are the files of `crates/lattice/src` and `crates/codec/src` and `crates/varmintfoil/src/operations.rt` with
 //! their contracts left out; the build translates them (`build/same.rs`). A refusal is the number that `include/varmintfoil.h`
-//! lists.
+//! lists. Who includes this file names the module `same` and puts it at the root of a crate.
 
+#![deny(unsafe_code)]
 #![allow(dead_code, unused_variables)]
 #![allow(clippy::all)]
 

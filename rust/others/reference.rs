@@ -3,6 +3,10 @@
 //! It is written to be read and to be compared with, not to be fast. A class is corrected by search, not by its syndrome: the class
 //! as it is and with each one cell flipped is tried, and the codeword among them is taken. A refusal is the number that the document lists.
 
+#![deny(unsafe_code)]
+// Who includes this file may call a part of it.
+#![allow(dead_code)]
+
 /// The number of a refusal.
 pub type Number = usize;
 

@@ -4,6 +4,8 @@
 //! syndromes are taken in row by row, over a vector with the positions of all columns. A refusal is the number that
 //! `include/varmintfoil.h` lists.
 
+#![deny(unsafe_code)]
+
 mod lanes;
 mod layout;
 mod narrow;
