@@ -3,12 +3,14 @@
 
 use std::path::Path;
 
-/// Writes the crates `lattice` and `codec` and the module `operations` of `varmintfoil`, each as a module of `crate::same`.
+/// Writes the crates `lattice`, `passes` and `codec` and the module `operations` of `varmintfoil`, each as a module of `crate::same`.
 pub fn write(crates: &Path, to: &Path) {
     let lattice = module(crates, "lattice", "lib", 0);
+    let passes = module(crates, "passes", "lib", 0);
     let codec = module(crates, "codec", "lib", 0);
     let operations = module(crates, "varmintfoil", "operations", 0);
-    let text = format!("pub mod lattice {{\n{lattice}}}\npub mod codec {{\n{codec}}}\npub mod operations {{\n{operations}}}\n");
+    let modules = [("lattice", lattice), ("passes", passes), ("codec", codec), ("operations", operations)];
+    let text: String = modules.iter().map(|(name, text)| format!("pub mod {name} {{\n{text}}}\n")).collect();
     std::fs::write(to, text).unwrap();
 }
 
@@ -60,7 +62,7 @@ fn without_contracts(text: &str) -> Vec<&str> {
 fn path_in_rust(name: &str, used: &str) -> String {
     match used.split_once("::") {
         Some(("crate", rest)) => format!("crate::same::{name}::{rest}"),
-        Some(("lattice" | "codec", _)) => format!("crate::same::{used}"),
+        Some(("lattice" | "passes" | "codec", _)) => format!("crate::same::{used}"),
         _ => used.to_string(),
     }
 }

@@ -1,9 +1,10 @@
 //! The text of the proved library as safe Rust, for the benchmark: what the same functions, loops and arrays cost where nothing
 //! is proved.
 //!
-//! The modules are the files of `crates/lattice/src` and `crates/codec/src` and `crates/varmintfoil/src/operations.rt` with
-//! their contracts left out; the build translates them (`build/same.rs`). A refusal is the number that `include/varmintfoil.h`
-//! lists. Who includes this file names the module `same` and puts it at the root of a crate.
+//! The modules are the files of `src` in `crates/lattice`, `crates/passes` and `crates/codec`, and
+//! `crates/varmintfoil/src/operations.rt`, with their contracts left out; the build translates them (`build/same.rs`). A refusal
+//! is the number that `include/varmintfoil.h` lists. Who includes this file names the module `same` and puts it at the root of a
+//! crate.
 
 #![deny(unsafe_code)]
 #![allow(dead_code, unused_variables)]

@@ -310,7 +310,6 @@ fn nothing_on_standard_error() {
 
 /// A full device takes no byte of the answer.
 #[test]
-#[ignore = "until the program says so"]
 fn an_answer_that_cannot_be_written() {
     for text in all_kinds() {
         let full = File::options().write(true).open("/dev/full").unwrap();
