@@ -8,3 +8,4 @@ pub mod Labels
 pub mod Capacity
 mod Order
 mod Testing
+mod Examples

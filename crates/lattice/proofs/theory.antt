@@ -4,7 +4,7 @@
 pub mod Bools
 pub mod Counting
 pub mod Remainder
-mod Integers
+pub mod Integers
 pub mod Words
 pub mod Widths
 pub mod Stores
@@ -19,6 +19,7 @@ pub mod Limits
 pub mod RefusalTests
 pub mod NewShapes
 -- cells, clusters and labels
+pub mod InField
 pub mod ByteNumbers
 pub mod Distances
 pub mod ClusterPaths

@@ -4,6 +4,7 @@ use mathlib.Core.Logic.{_≢_}
 use mathlib.Core.Path.{_≡_}
 use lib.IntN.{ℤ, pos, natAbs, _-ℤ_, _*ℤ_}
 use Rattle.lattice.specs.declared.settings.Settings.{Settings}
+use Rattle.lattice.specs.declared.distance.Triple.{Triple}
 use Rattle.lattice.specs.Cell.{Cell}
 
 -- a cell of the endless stack
@@ -15,6 +16,10 @@ pub record Point : Type 0 where
 -- a cell of a field, in the endless stack
 abbrev pub pointOf : Cell → Point
 pointOf x = record { row = pos (x .row); plane = pos (x .plane); column = pos (x .column) }
+
+-- the point with the coordinates of a triple
+abbrev pub pointAt : Triple → Point
+pointAt x = record { row = x .row; plane = x .plane; column = x .column }
 
 -- the sum of the absolute differences of the coordinates
 unfoldable pub pointDistance : Point → Point → ℕ

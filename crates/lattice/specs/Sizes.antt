@@ -1,6 +1,5 @@
 -- Arrays with an entry for each class, and the place of a cell that is found from them. Only contracts of functions that pass
--- over
--- the cells cite this file.
+-- over the cells cite this file.
 use Prim.Native.Nat.{ℕ, _+_, _<_}
 use mathlib.Core.List.{List}
 use mathlib.Core.Path.{_≡_}

@@ -8,3 +8,4 @@ pub mod Labels
 pub mod Capacity
 pub mod Order
 pub mod Testing
+pub mod Examples

@@ -27,8 +27,7 @@ fn count_back(behind: &mut [u32], class: usize, size: u32) -> u32
 }
 
 // The place of a cell of an accepted shape, where `sizes` holds the size of each class and `behind` the number of its cells
-// behind
-// the cell; the cell is counted. Where the arrays do not hold that, the position may be 0, and nothing is counted.
+// behind the cell; the cell is counted. Where the arrays do not hold that, the position may be 0, and nothing is counted.
 pub fn place_back(
     behind: &mut [u32; Shape::MAX_CLASSES],
     sizes: &[u32; Shape::MAX_CLASSES],

@@ -137,3 +137,8 @@ mate-class = rw mates (class-point field accepted mate)
 -- every class of the field is below m
 pub classes-below : (i : ℕ) → i < cellsOf field → classAt field i < classesOf field
 classes-below i h = class-below field accepted (cellAt field i)
+
+-- the class of the first cell is given
+pub corner-given : classNumber field corner ≡ 0
+unfolding classNumber inside shapeNumber sizeOk strengthOk maxStrength inRange
+corner-given = refl

@@ -14,7 +14,7 @@ use Rattle.lattice.specs.Class.{inside, classNumber, classGiven, placeme
 use Rattle.lattice.specs.Answer.{IsCellClass}
 use Rattle.lattice.proofs.theory.Answers.{done, earlier-told, unless-zero, or-else-zero}
 use Rattle.lattice.proofs.theory.ClassAt.{placed}
-use Rattle.lattice.proofs.shape.InField.{inside-field}
+use Rattle.lattice.proofs.theory.InField.{inside-field}
 
 module _ (s : Shape) (x : Cell) where
   -- the shape's refusal stands; an accepted shape leaves the number to the cell

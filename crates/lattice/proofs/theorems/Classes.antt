@@ -1,11 +1,13 @@
 -- The classes of cells: the terms of the theorems.
-use Rattle.lattice.specs.Shape.{cellsOf}
+use Rattle.lattice.specs.Shape.{cellsOf, shapeNumber}
 use Rattle.lattice.specs.Cell.{cellAt}
-use Rattle.lattice.specs.Class.{classesOf, classAt}
-use Rattle.lattice.specs.theorems.Classes.{ClassIsRemainder, ClassesBelow}
-use Rattle.lattice.proofs.theory.ClassRemainder.{is, only}
+use Rattle.lattice.specs.Class.{classesOf, classAt, classNumber, classGiven, classOf, inside}
+use Rattle.lattice.specs.theorems.Classes.{ClassIsRemainder, ClassesBelow, ClassIsGiven}
+use Rattle.lattice.proofs.theory.ClassRemainder.{is, only, class-point}
 use Rattle.lattice.proofs.theory.ClassBelow.{class-below, classes-limit}
 use Rattle.lattice.proofs.theory.Pigeonhole.{different-values-few}
+use Rattle.lattice.proofs.theory.Answers.{or-else-zero, beside-zero, unless-zero}
+use Rattle.lattice.proofs.theory.InField.{inside-field}
 
 -- Theorem. With m of at least 1 the class of a cell is the one number r below m for which column − b × row − c × plane − r is a
 -- multiple of m.
@@ -21,3 +23,11 @@ classesBelow =
       limit = classes-limit;
       most = λ s a. different-values-few (classAt s) (classesOf s) (cellsOf s) (λ i h. class-below s a (cellAt s i));
     }
+
+-- Theorem. The class that is given with the number 0 is the cell's, and the cell lies in the field.
+pub classIsGiven : ClassIsGiven
+unfolding classNumber classGiven
+classIsGiven s x e =
+    let zero = or-else-zero (shapeNumber s) _ e in
+    let given = beside-zero (classNumber s x) (classOf s x) 0 e in
+    (inside-field s x (unless-zero (inside s x) 3 0 (zero .1) .0), rw given (class-point s (zero .0) x))

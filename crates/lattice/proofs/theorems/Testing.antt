@@ -1,19 +1,21 @@
 -- The distance test: the terms of the theorems.
-use Prim.Native.Nat.{ℕ, _<_, _≤_}
-use mathlib.Core.Path.{sym, _∙_, _≡_, refl}
+use Prim.Native.Nat.{ℕ, _<_, _≤_, _%_}
+use mathlib.Core.Path.{sym, _∙_, _≡_, refl, subst}
 use mathlib.Core.Bool.{Bool, true, false}
 use mathlib.Core.Logic.{inl}
 use native.Mathlib.Nat.{lt-of-not-le}
 use native.Mathlib.Decide.{decLe}
-use borrow.Author.Tests.{not-true, not-false}
+use borrow.Author.Tests.{not-true, not-false, eqb-true, eq-eqb}
+use lib.IntN.{ℤ, pos, natAbs, _-ℤ_, _*ℤ_, +ℤ-idr}
 use Rattle.lattice.specs.Order.{order}
-use Rattle.lattice.specs.DistanceTest.{outcome, verdict, triplesTried, testNumber, BadTestSettings}
+use Rattle.lattice.specs.DistanceTest.{outcome, verdict, triplesTried, testNumber, BadTestSettings, failsAt}
 use Rattle.lattice.specs.Settings.{settings}
-use Rattle.lattice.specs.Endless.{Apart}
-use Rattle.lattice.specs.theorems.Testing.{TestAtOne, TestFinds, TestHolds, TestMeaning}
+use Rattle.lattice.specs.Endless.{Apart, Multiple}
+use Rattle.lattice.specs.theorems.Testing.{TestAtOne, TestFinds, TestHolds, TestMeaning, FailsMeans}
 use Rattle.lattice.proofs.theory.ScanMeaning.{found, missed}
 use Rattle.lattice.proofs.theory.TestAnswer.{accepted-verdict, accepted-triple, accepted-tried}
 use Rattle.lattice.proofs.theory.PointTriples.{apart-of-none, close-of-fails}
+use Rattle.lattice.proofs.theory.Integers.{multiple-divides}
 use Rattle.lattice.proofs.theorems.Order.{orderLength, orderLists}
 use Rattle.lattice.proofs.theorems.Refused.{testRefused}
 
@@ -76,3 +78,14 @@ testMeaning m b c t ok = (far, sound)
 
     sound : Apart (settings m b c) t → verdict m b c t ≡ true
     sound apart = decided (verdict m b c t) refl apart
+
+-- Theorem. Settings fail at a triple exactly when the point with those coordinates has class 0.
+pub failsMeans : FailsMeans
+unfolding failsAt
+failsMeans k x some =
+    let z : ℤ = x .column -ℤ pos (k .b) *ℤ x .row -ℤ pos (k .c) *ℤ x .plane in
+    let same : z -ℤ pos 0 ≡ z = +ℤ-idr z in
+    let iff = multiple-divides (k .m) z in (
+      λ e. record { below = some; rest = subst (Multiple (k .m)) (sym same) (iff .1 (eqb-true (natAbs z % k .m) 0 e)) },
+      λ h. eq-eqb (natAbs z % k .m) 0 (iff .0 (subst (Multiple (k .m)) same (h .rest))),
+    )

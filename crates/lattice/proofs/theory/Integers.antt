@@ -166,7 +166,7 @@ divides-sub m a b = rw natAbs-sub (go (decLe a b))
         )
 
 -- z is a multiple of m exactly when m divides its absolute value
-multiple-divides : (m : ℕ) (z : ℤ) → Multiple m z ↔ (natAbs z % m ≡ 0)
+pub multiple-divides : (m : ℕ) (z : ℤ) → Multiple m z ↔ (natAbs z % m ≡ 0)
 multiple-divides m z = (
   (λ d. ap (λ y. natAbs y % m) (d .1)
       ∙ ap (λ y. y % m) (natAbs-mul (d .0) (pos m))

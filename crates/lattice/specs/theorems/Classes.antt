@@ -4,10 +4,11 @@ use mathlib.Core.Path.{_≡_}
 use Rattle.lattice.specs.declared.settings.Settings.{Settings}
 use Rattle.lattice.specs.declared.shape.Shape.{Shape}
 use Rattle.lattice.specs.Shape.{Accepted, cellsOf, maxClasses}
-use Rattle.lattice.specs.Cell.{Cell}
+use Rattle.lattice.specs.Cell.{Cell, InField}
 use Rattle.lattice.specs.Labelling.{differentValues}
-use Rattle.lattice.specs.Class.{classWith, classesOf, classOf, classAt}
+use Rattle.lattice.specs.Class.{classWith, classesOf, classOf, classAt, classNumber, classGiven}
 use Rattle.lattice.specs.Endless.{pointOf, HasClass}
+use Rattle.lattice.specs.Settings.{settingsOf}
 
 -- Theorem. With m of at least 1, the class of a cell is the one number r below m for which column − b × row − c × plane − r is a
 -- multiple of m.
@@ -21,3 +22,10 @@ pub record ClassesBelow : Type 0 where
   pub below : (s : Shape) → Accepted s → (x : Cell) → classOf s x < classesOf s
   pub limit : (s : Shape) → Accepted s → classesOf s ≤ maxClasses
   pub most : (s : Shape) → Accepted s → differentValues (classAt s) (cellsOf s) ≤ classesOf s
+
+-- Theorem. Where the class of a cell is given with the number 0, the cell lies in the field, and the class is the one number r
+-- below m
+-- for which column − b × row − c × plane − r is a multiple of m.
+abbrev pub ClassIsGiven : Type 0
+ClassIsGiven =
+    (s : Shape) (x : Cell) → classNumber s x ≡ 0 → InField s x × HasClass (settingsOf s) (pointOf x) (classGiven s x)

@@ -4,8 +4,10 @@ use mathlib.Core.Bool.{true, false}
 use mathlib.Core.Logic.{_↔_}
 use mathlib.Core.Path.{_≡_}
 use lib.ListN.{length, getD}
+use Rattle.lattice.specs.declared.settings.Settings.{Settings}
+use Rattle.lattice.specs.declared.distance.Triple.{Triple}
 use Rattle.lattice.specs.Settings.{settings}
-use Rattle.lattice.specs.Endless.{Apart}
+use Rattle.lattice.specs.Endless.{Apart, pointAt, HasClass}
 use Rattle.lattice.specs.Order.{order, origin}
 use Rattle.lattice.specs.DistanceTest.{failsAt, testNumber, verdict, foundTriple, triplesTried}
 
@@ -37,3 +39,7 @@ TestHolds =
     → (triplesTried m b c t ≡ (t - 1) * (2 * (t * t) - t + 3) / 3)
     × (foundTriple m b c t ≡ origin)
     × ((k : ℕ) → k < length (order t) → failsAt (settings m b c) (getD (order t) k origin) ≡ false)
+
+-- Theorem. With m of at least 1, settings fail at a triple exactly when the point with those coordinates has class 0.
+abbrev pub FailsMeans : Type 0
+FailsMeans = (k : Settings) (x : Triple) → 0 < k .m → (failsAt k x ≡ true) ↔ HasClass k (pointAt x) 0

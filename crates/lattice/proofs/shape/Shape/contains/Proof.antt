@@ -1,7 +1,7 @@
 -- `Shape::contains` meets its contract.
 use mathlib.Core.Path.{sym}
 use borrow.Author.Needs.{needs}
-use Rattle.lattice.proofs.shape.InField.{outside-row, outside-plane, inside-column}
+use Rattle.lattice.proofs.theory.InField.{outside-row, outside-plane, inside-column}
 use Rattle.lattice.proofs.shape.Shape.contains.Statement.{statement}
 use Rattle.lattice.proofs.shape.Shape.contains.Tie as tie
 
