@@ -1,10 +1,12 @@
 -- The terms of the theorems: a file for each file of specs/theorems, of the same name.
 mod Values
 mod Refused
+mod Plan
 pub mod Payload
 pub mod Writing
-mod Reading
+pub mod Reading
 pub mod Recovery
 pub mod Undamaged
 mod Told
 mod Examples
+pub mod Worked

@@ -27,9 +27,8 @@ abbrev pub OneInEachClass : Layout → (ℕ → Bool) → Type 0
 OneInEachClass L selected =
     (i j : ℕ) → i < L .cells → j < L .cells → selected i ≡ true → selected j ≡ true → L .class i ≡ L .class j → i ≡ j
 
--- from G the payload p and the field F come back: reading G into a payload buffer gives 0 and leaves exactly p; correcting G
--- gives 0
--- and leaves exactly F; and the count of each is the number of cells where F and G differ
+-- from G the payload p and the field F come back: decoding G into a payload buffer gives 0 and leaves exactly p; correcting G
+-- gives 0 and leaves exactly F; and the count of each is the number of cells where F and G differ
 pub record Recovered (s : Shape) (p F G buffer : List ℕ) : Type 0 where
   pub decoded-number : decodeNumber s buffer G ≡ 0
   pub decoded-payload : decodeLeaves s buffer G ≡ p
@@ -39,8 +38,7 @@ pub record Recovered (s : Shape) (p F G buffer : List ℕ) : Type 0 where
   pub corrected-count : correctCount s G ≡ differences (fieldOf F) (fieldOf G) (cellsOf s)
 
 -- what correcting flips looks like one cluster of at most t cells: at most t cells differ from what it leaves, and any two of
--- them are
--- less than t apart
+-- them are less than t apart
 pub record WithinPromise (s : Shape) (before after : List ℕ) : Type 0 where
   pub few : differences (fieldOf before) (fieldOf after) (cellsOf s) ≤ s .strength
   pub near : (i j : ℕ) → i < cellsOf s → j < cellsOf s → fieldOf before i ≢ fieldOf after i → fieldOf before j ≢ fieldOf after j

@@ -37,7 +37,7 @@ Received f n = (i : ℕ) → i < n → isReceived (f i) ≡ true
 unfoldable pub cellsOk : Field → ℕ → Bool
 cellsOk f n = allBelow (λ i. isReceived (f i)) n
 
--- to turn a cell over is to make 0 of 1 or 1 of 0
+-- to flip a cell, the papers' turning it over, is to make 0 of 1 or 1 of 0
 abbrev pub flip : ℕ → ℕ
 flip v = 1 - v
 

@@ -1,8 +1,7 @@
 -- The code in a class: the shortened Hamming code, for any layout of cells in classes and any tags of the cells.
--- For example, a class of three cells with their positions 1, 2 and 3 as tags. The cells 1 1 1 are a codeword: the exclusive or
--- of
--- 1, 2 and 3 is 0. Where 1 0 1 is read, the exclusive or of 1 and 3 is 2, so the cell at position 2 is flipped; so is the second
--- of 0 1 0, where it is 2 as well, and the codeword is 0 0 0.
+-- For example, a class of three cells with their positions 1, 2 and 3 as tags. The cells 1 1 1 are a codeword, as the exclusive
+-- or of 1, 2 and 3 is 0. Where 1 0 1 is read, the exclusive or of 1 and 3 is 2, so the cell at position 2 is flipped. Of 0 1 0
+-- the same cell is flipped, as the exclusive or is 2 again, and the codeword is 0 0 0.
 use Prim.Native.Nat.{ℕ, zero, suc, _<_}
 use mathlib.Core.Bool.{Bool, cond, _&&_, _||_}
 use mathlib.Core.Logic.{_≢_}

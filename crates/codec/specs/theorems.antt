@@ -1,6 +1,7 @@
 -- The statements of the theorems. Each has one proof, a term of exactly this type, in proofs/theorems.
 pub mod Values
 pub mod Refused
+pub mod Plan
 pub mod Payload
 pub mod Writing
 pub mod Reading
@@ -8,3 +9,4 @@ pub mod Recovery
 pub mod Undamaged
 pub mod Told
 pub mod Examples
+pub mod Worked

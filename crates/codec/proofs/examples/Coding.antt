@@ -33,6 +33,7 @@ use Rattle.codec.specs.Damage.{OneInEachClass, WithinPromise}
 use Rattle.codec.proofs.theory.CellValues.{cells-received}
 use Rattle.codec.proofs.theory.Correction.{lawful-nearest}
 use Rattle.codec.proofs.theory.PaddingCells.{carries-padding}
+use Rattle.codec.proofs.theory.Accepted.{encode-number}
 use Rattle.codec.proofs.theorems.Undamaged.{nothingToCorrect}
 use Rattle.codec.proofs.theorems.Writing.{encodeMeaning}
 
@@ -78,33 +79,38 @@ written-padding =
     carries-padding (layoutOf field) (fieldOf written) payload
     (encodeMeaning .carries field accepted payload payload-long payload-bytes)
 
--- a selection of one cell of the cluster of three
-abbrev pub isCorner : Cell → Bool
-isCorner x = eqb (x .row) 0 && (eqb (x .plane) 0 && eqb (x .column) 0)
+-- a selection of one cell
+abbrev pub isAt : Cell → Cell → Bool
+isAt y x = eqb (x .row) (y .row) && (eqb (x .plane) (y .plane) && eqb (x .column) (y .column))
 
-corner-is : (x : Cell) → isCorner x ≡ true → x ≡ corner
-corner-is x e = λ i. record { row = row i; plane = plane i; column = column i }
+pub at-is : (y x : Cell) → isAt y x ≡ true → x ≡ y
+at-is y x e = λ i. record { row = row i; plane = plane i; column = column i }
   where
-    rest : (eqb (x .plane) 0 && eqb (x .column) 0) ≡ true
-    rest = and-right (eqb (x .row) 0) (eqb (x .plane) 0 && eqb (x .column) 0) e
+    rest : (eqb (x .plane) (y .plane) && eqb (x .column) (y .column)) ≡ true
+    rest = and-right (eqb (x .row) (y .row)) (eqb (x .plane) (y .plane) && eqb (x .column) (y .column)) e
 
-    row : x .row ≡ 0
-    row = eqb-true (x .row) 0 (and-left (eqb (x .row) 0) (eqb (x .plane) 0 && eqb (x .column) 0) e)
+    row : x .row ≡ y .row
+    row =
+        eqb-true (x .row) (y .row) (and-left (eqb (x .row) (y .row)) (eqb (x .plane) (y .plane) && eqb (x .column) (y .column)) e)
 
-    plane : x .plane ≡ 0
-    plane = eqb-true (x .plane) 0 (and-left (eqb (x .plane) 0) (eqb (x .column) 0) rest)
+    plane : x .plane ≡ y .plane
+    plane = eqb-true (x .plane) (y .plane) (and-left (eqb (x .plane) (y .plane)) (eqb (x .column) (y .column)) rest)
 
-    column : x .column ≡ 0
-    column = eqb-true (x .column) 0 (and-right (eqb (x .plane) 0) (eqb (x .column) 0) rest)
+    column : x .column ≡ y .column
+    column = eqb-true (x .column) (y .column) (and-right (eqb (x .plane) (y .plane)) (eqb (x .column) (y .column)) rest)
+
+-- one cell of the cluster of three
+abbrev pub isCorner : Cell → Bool
+isCorner = isAt corner
 
 pub corner-selected : (x : Cell) → isCorner x ≡ true → OfThree x
-corner-selected x e = List·Memᴰ·head (corner-is x e)
+corner-selected x e = List·Memᴰ·head (at-is corner x e)
 
 -- it is at most one cell of each class
 pub corner-one : OneInEachClass (layoutOf field) (λ i. isCorner (cellAt field i))
 corner-one i j hi hj si sj same =
     sym (numbering .at field i hi .1)
-    ∙ ap (cellNumber field) (corner-is (cellAt field i) si ∙ sym (corner-is (cellAt field j) sj))
+    ∙ ap (cellNumber field) (at-is corner (cellAt field i) si ∙ sym (at-is corner (cellAt field j) sj))
     ∙ numbering .at field j hj .1
 
 -- the field written is corrected, and is lawful and carries the payload
@@ -160,3 +166,7 @@ unfolding
     isCheck cellAt classesOf classOf classWith minusMod settingsFor flatSettings oddSettings distance apart
 corners-beyond told =
     let far : _<_ 8 3 = told .near 0 24 (lit< tt) (lit< tt) (λ e. omega (arith, e)) (λ e. omega (arith, e)) in omega (arith, far)
+
+-- a payload and a field of the plan's lengths are written
+pub written-zero : encodeNumber field payload written ≡ 0
+written-zero = encode-number field accepted payload written payload-long (encodeMeaning .long field payload)

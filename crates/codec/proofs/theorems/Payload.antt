@@ -1,10 +1,11 @@
 -- Payloads and padding: the terms of the theorems.
 use Prim.Native.Nat.{ℕ, _+_, _-_, _*_, _/_, _%_, _^_, _<_}
-use mathlib.Core.Path.{_≡_, sym, _∙_}
+use mathlib.Core.Path.{_≡_, sym, _∙_, refl}
 use native.Mathlib.Omega.{arith}
 use lib.ListN.{getD, length}
 use lib.Seq.{ext-getD}
-use Rattle.codec.specs.theorems.Payload.{BitsTell, PaddingFew}
+use Rattle.codec.specs.Payload.{padding}
+use Rattle.codec.specs.theorems.Payload.{BitsTell, PaddingFew, PaddingIsZero}
 use Rattle.codec.proofs.theory.BinaryDigits.{bits-same}
 use Rattle.codec.proofs.theory.ByteBits.{payload-bit}
 use Rattle.codec.proofs.theory.Ranks.{bytes-least, rank-all}
@@ -23,3 +24,8 @@ bitsTell p q a b l h = ext-getD 0 p q l byte
 -- Theorem. For any layout, at most 7 cells are padding.
 pub paddingFew : PaddingFew
 paddingFew L = omega (arith, counted L (L .cells), rank-all L, bytes-least L)
+
+-- Theorem. Padding is 0.
+pub paddingIsZero : PaddingIsZero
+unfolding padding
+paddingIsZero j = refl

@@ -1,10 +1,11 @@
 -- Damage beyond the promise: the term of the theorem.
 use Prim.Native.Nat.{ℕ, _<_, _≤_}
-use mathlib.Core.Bool.{Bool, true, not}
+use mathlib.Core.Bool.{Bool, true, not, false}
 use mathlib.Core.List.{List, List·Memᴰ}
 use mathlib.Core.Logic.{_≢_}
 use mathlib.Core.Path.{_≡_, sym, ap, _∙_, subst}
 use native.Mathlib.Nat.{le-trans}
+use native.Mathlib.Omega.{arith}
 use borrow.Author.Tests.{not-true, eqb-false}
 use lib.Dec.{eqb}
 use lib.ListN.{length, replicate, length-replicate}
@@ -12,6 +13,7 @@ use Rattle.lattice.specs.declared.shape.Shape.{Shape}
 use Rattle.lattice.specs.Shape.{Accepted, cellsOf}
 use Rattle.lattice.specs.Cell.{Cell, cellAt, cellNumber}
 use Rattle.lattice.specs.Cluster.{Cluster, AtMost, distance}
+use Rattle.lattice.specs.Class.{layoutOf}
 use Rattle.lattice.proofs.theory.ClusterPaths.{together-near}
 use Rattle.lattice.proofs.theory.Pigeonhole.{count-covered}
 use Rattle.lattice.proofs.theorems.Numbering.{numbering}
@@ -21,9 +23,12 @@ use Rattle.codec.specs.Plan.{planBytes}
 use Rattle.codec.specs.Encode.{encodedField}
 use Rattle.codec.specs.Damage.{damaged, damagedField, WithinPromise}
 use Rattle.codec.specs.Correct.{correctLeaves}
-use Rattle.codec.specs.theorems.Told.{DamageTold}
-use Rattle.codec.proofs.theory.Damage.{damaged-selected}
+use Rattle.codec.specs.theorems.Told.{DamageTold, DamageDiffers}
+use Rattle.codec.proofs.theory.Damage.{damaged-selected, damaged-kept, damaged-flipped}
 use Rattle.codec.proofs.theory.FieldLists.{getD-listOf}
+use Rattle.codec.proofs.theory.WrittenCells.{written-cells}
+use Rattle.codec.proofs.theory.CellValues.{cell-most}
+use Rattle.codec.proofs.theory.EncodedField.{encoded-cells}
 use Rattle.codec.proofs.theorems.Recovery.{recovery}
 
 module _ (s : Shape) (p : List ℕ) (S : Cell → Type 0) (cluster : Cluster s S) (small : AtMost (s .strength) S)
@@ -85,3 +90,31 @@ damageTold =
         recovery s accepted p long bytes S cluster small selected inside buffer (length-replicate (planBytes s) 0) in
         subst (λ (f : List ℕ). WithinPromise s (damagedField s p selected) f) (sym (back .corrected-field))
         (told s p S cluster small selected inside)
+
+-- Theorem. A selected cell of a damaged field differs from the field written, and the others do not.
+pub damageDiffers : DamageDiffers
+damageDiffers = record { selected = differs; others = stays }
+  where
+    held : (s : Shape) (p : List ℕ) (selected : Cell → Bool) (i : ℕ) → i < cellsOf s
+        → fieldOf (damagedField s p selected) i ≡ damaged (fieldOf (encodedField s p)) (λ j. selected (cellAt s j)) i
+    held s p selected i h =
+        getD-listOf (damaged (fieldOf (encodedField s p)) (λ j. selected (cellAt s j))) (cellsOf s) i h
+
+    stays : (s : Shape) (p : List ℕ) (selected : Cell → Bool) (i : ℕ) → i < cellsOf s → selected (cellAt s i) ≡ false
+        → fieldOf (damagedField s p selected) i ≡ fieldOf (encodedField s p) i
+    stays s p selected i h e =
+        held s p selected i h ∙ damaged-kept (fieldOf (encodedField s p)) (λ j. selected (cellAt s j)) i e
+
+    differs : (s : Shape) (p : List ℕ) (selected : Cell → Bool) (i : ℕ) → i < cellsOf s → selected (cellAt s i) ≡ true
+        → fieldOf (damagedField s p selected) i ≢ fieldOf (encodedField s p) i
+    differs s p selected i h e same =
+        let f = fieldOf (encodedField s p) in
+        let turned = damaged-flipped f (λ j. selected (cellAt s j)) i e in
+        omega (
+          arith,
+          same,
+          held s p selected i h,
+          turned,
+          written-cells s p i h,
+          cell-most _ (encoded-cells (layoutOf s) p (cellsOf s) i h),
+        )

@@ -1,13 +1,18 @@
 -- Demand 2, writing: the term of the theorem.
 use mathlib.Core.Path.{_∙_}
-use Rattle.lattice.specs.Shape.{cellsOf}
+use borrow.Author.Tests.{eqb-true}
+use lib.Dec.{eqb}
+use lib.ListN.{length}
+use Rattle.lattice.specs.Shape.{cellsOf, shapeNumber}
 use Rattle.lattice.specs.Class.{layoutOf}
+use Rattle.lattice.proofs.theory.Answers.{or-else-zero, unless-zero, beside-zero}
 use Rattle.codec.specs.Field.{fieldOf}
 use Rattle.codec.specs.Payload.{encoded}
-use Rattle.codec.specs.Encode.{encodedField}
+use Rattle.codec.specs.Encode.{encodedField, encodeNumber, encodeLeaves}
 use Rattle.codec.specs.Code.{tagsAt}
-use Rattle.codec.specs.theorems.Writing.{EncodeMeaning}
-use Rattle.codec.proofs.theory.Accepted.{plan-bytes}
+use Rattle.codec.specs.Plan.{planBytes, planCells}
+use Rattle.codec.specs.theorems.Writing.{EncodeMeaning, EncodeLeaves}
+use Rattle.codec.proofs.theory.Accepted.{plan-bytes, plan-cells}
 use Rattle.codec.proofs.theory.FieldLists.{length-listOf, same-listOf}
 use Rattle.codec.proofs.theory.Correction.{lawful-same}
 use Rattle.codec.proofs.theory.EncodedField.{encoded-lawful, encoded-carries, encoded-only}
@@ -33,3 +38,16 @@ encodeMeaning =
           encoded-different (layoutOf s) p q p-bytes q-bytes (p-long ∙ plan-bytes s accepted) (q-long ∙ plan-bytes s accepted)
           (same-listOf (encoded (layoutOf s) p) (encoded (layoutOf s) q) (cellsOf s) e);
     }
+
+-- Theorem (demand 2). Writing that succeeds leaves the field written.
+pub encodeLeavesField : EncodeLeaves
+unfolding encodeNumber encodeLeaves
+encodeLeavesField s p field e =
+    let shape = or-else-zero (shapeNumber s) _ e in
+    let first = unless-zero (eqb (length p) (planBytes s)) 2 _ (shape .1) in
+    let second = unless-zero (eqb (length field) (planCells s)) 3 0 (first .1) in (
+      shape .0,
+      eqb-true (length p) (planBytes s) (first .0),
+      eqb-true (length field) (planCells s) (second .0) ∙ plan-cells s (shape .0),
+      beside-zero (encodeNumber s p field) (encodedField s p) field e,
+    )

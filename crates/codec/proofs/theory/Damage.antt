@@ -11,11 +11,11 @@ use Rattle.codec.specs.Damage.{damaged, OneInEachClass}
 use Rattle.codec.proofs.theory.CellValues.{most-cell}
 
 module _ (f : Field) (selected : ℕ → Bool) where
-  damaged-flipped : (i : ℕ) → selected i ≡ true → damaged f selected i ≡ flip (f i)
+  pub damaged-flipped : (i : ℕ) → selected i ≡ true → damaged f selected i ≡ flip (f i)
   unfolding damaged
   damaged-flipped i e = rw e
 
-  damaged-kept : (i : ℕ) → selected i ≡ false → damaged f selected i ≡ f i
+  pub damaged-kept : (i : ℕ) → selected i ≡ false → damaged f selected i ≡ f i
   unfolding damaged
   damaged-kept i e = rw e
 

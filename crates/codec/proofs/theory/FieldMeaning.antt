@@ -1,6 +1,5 @@
 -- What the tests of a field of cells mean: the number 0, 6 or 7 by the lawful fields in reach, the corrected field, its payload
--- and
--- its count.
+-- and its count.
 use Prim.Native.Nat.{ℕ}
 use mathlib.Core.Bool.{Bool, true, false, true≢false}
 use mathlib.Core.Logic.{_↔_}

@@ -5,7 +5,7 @@ use mathlib.Core.Path.{_≡_}
 use lib.ListN.{length}
 use Rattle.lattice.specs.Position.{Layout}
 use Rattle.lattice.specs.Counting.{count}
-use Rattle.codec.specs.Payload.{Bytes, payloadBit, isPadding}
+use Rattle.codec.specs.Payload.{Bytes, payloadBit, isPadding, padding}
 
 -- Theorem. A payload is told by its bits: two of one length with the same bits are one.
 abbrev pub BitsTell : Type 0
@@ -16,3 +16,7 @@ BitsTell =
 -- Theorem. For any layout, at most 7 cells are padding.
 abbrev pub PaddingFew : Type 0
 PaddingFew = (L : Layout) → count (isPadding L) (L .cells) ≤ 7
+
+-- Theorem. Padding is 0.
+abbrev pub PaddingIsZero : Type 0
+PaddingIsZero = (j : ℕ) → padding j ≡ 0

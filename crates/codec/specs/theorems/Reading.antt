@@ -34,8 +34,8 @@ OneNearest =
     (s : Shape) (field : List ℕ) → Readable s field
     → (g h : Field) → NearestTo s (fieldOf field) g → NearestTo s (fieldOf field) h → Same g h (cellsOf s)
 
--- Theorem (demand 2). Decoding gives 0 exactly when there is one with right padding, and then leaves the payload that it carries
--- and the number of cells where it differs; 6 exactly when there is none; 7 exactly when there is one with wrong padding.
+-- what decoding means: it gives 0 exactly when there is one with right padding, and then leaves the payload that it carries and
+-- the number of cells where it differs; 6 exactly when there is none; 7 exactly when there is one with wrong padding
 pub record DecodingMeans (s : Shape) (payload field : List ℕ) : Type 0 where
   pub success : (decodeNumber s payload field ≡ 0) ↔ RightInReach s (fieldOf field)
   pub none : (decodeNumber s payload field ≡ 6) ↔ ((g : Field) → ¬ NearestTo s (fieldOf field) g)
@@ -47,11 +47,12 @@ pub record DecodingMeans (s : Shape) (payload field : List ℕ) : Type 0 where
   pub count : (g : Field) → NearestTo s (fieldOf field) g → PaddingRight (layoutOf s) g
       → decodeCount s payload field ≡ differences (fieldOf field) g (cellsOf s)
 
+-- Theorem (demand 2). So it means for every field that is readable, with a payload buffer of the plan's length.
 abbrev pub DecodeMeaning : Type 0
 DecodeMeaning =
     (s : Shape) (payload field : List ℕ) → Readable s field → length payload ≡ planBytes s → DecodingMeans s payload field
 
--- Theorem (demand 2). Correcting likewise, leaving that field.
+-- what correcting means: likewise, leaving that field
 pub record CorrectingMeans (s : Shape) (field : List ℕ) : Type 0 where
   pub success : (correctNumber s field ≡ 0) ↔ RightInReach s (fieldOf field)
   pub none : (correctNumber s field ≡ 6) ↔ ((g : Field) → ¬ NearestTo s (fieldOf field) g)
@@ -62,5 +63,6 @@ pub record CorrectingMeans (s : Shape) (field : List ℕ) : Type 0 where
   pub count : (g : Field) → NearestTo s (fieldOf field) g → PaddingRight (layoutOf s) g
       → correctCount s field ≡ differences (fieldOf field) g (cellsOf s)
 
+-- Theorem (demand 2). So it means for every field that is readable.
 abbrev pub CorrectMeaning : Type 0
 CorrectMeaning = (s : Shape) (field : List ℕ) → Readable s field → CorrectingMeans s field

@@ -1,6 +1,5 @@
 -- Demand 3: what was written is read and corrected again after any damage to one cluster of at most t cells, and the classes are
--- no
--- more than needed.
+-- no more than needed.
 use Prim.Native.Nat.{ℕ, _≤_}
 use mathlib.Core.Bool.{Bool, true}
 use mathlib.Core.List.{List}

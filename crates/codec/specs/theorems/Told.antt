@@ -1,22 +1,23 @@
 -- Damage beyond the promise can be told from what correcting flips.
-use Prim.Native.Nat.{ℕ}
-use mathlib.Core.Bool.{Bool, true}
+use Prim.Native.Nat.{ℕ, _<_}
+use mathlib.Core.Bool.{Bool, true, false}
 use mathlib.Core.List.{List}
 use mathlib.Core.Logic.{_≢_}
 use mathlib.Core.Path.{_≡_}
 use lib.ListN.{length}
 use Rattle.lattice.specs.declared.shape.Shape.{Shape}
-use Rattle.lattice.specs.Shape.{Accepted}
-use Rattle.lattice.specs.Cell.{Cell}
+use Rattle.lattice.specs.Shape.{Accepted, cellsOf}
+use Rattle.lattice.specs.Cell.{Cell, cellAt}
 use Rattle.lattice.specs.Cluster.{Cluster, AtMost}
 use Rattle.codec.specs.Payload.{Bytes}
 use Rattle.codec.specs.Plan.{planBytes}
 use Rattle.codec.specs.Correct.{correctLeaves}
 use Rattle.codec.specs.Damage.{damagedField, WithinPromise}
+use Rattle.codec.specs.Field.{fieldOf}
+use Rattle.codec.specs.Encode.{encodedField}
 
 -- Theorem. Where the damage to a field that was written lies in one cluster of at most t cells, correcting flips at most t cells,
--- and
--- any two of them are less than t apart. So where it flips others, the field is none that was written with such damage.
+-- and any two of them are less than t apart. So where it flips others, the field is none that was written with such damage.
 pub record DamageTold : Type 1 where
   pub within : (s : Shape) → Accepted s
       → (p : List ℕ) → length p ≡ planBytes s → Bytes p
@@ -28,3 +29,10 @@ pub record DamageTold : Type 1 where
       → (S : Cell → Type 0) → Cluster s S → AtMost (s .strength) S
       → (selected : Cell → Bool) → ((x : Cell) → selected x ≡ true → S x)
       → G ≢ damagedField s p selected
+
+-- Theorem. A selected cell of a damaged field differs from the field written, and the others do not.
+pub record DamageDiffers : Type 0 where
+  pub selected : (s : Shape) (p : List ℕ) (selected : Cell → Bool) (i : ℕ) → i < cellsOf s → selected (cellAt s i) ≡ true
+      → fieldOf (damagedField s p selected) i ≢ fieldOf (encodedField s p) i
+  pub others : (s : Shape) (p : List ℕ) (selected : Cell → Bool) (i : ℕ) → i < cellsOf s → selected (cellAt s i) ≡ false
+      → fieldOf (damagedField s p selected) i ≡ fieldOf (encodedField s p) i

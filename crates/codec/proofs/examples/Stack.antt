@@ -1,0 +1,91 @@
+-- Examples in a stack and in single classes that meet the hypotheses of the theorems on coding: the stack of our own worked example,
+-- a hole across both of its planes, and fields that are refused with 6 and with 7.
+use Prim.Native.Nat.{ℕ, zero, suc}
+use mathlib.Core.Bool.{Bool, true, _||_}
+use mathlib.Core.List.{List, [], _∷_, List·Memᴰ·head, List·Memᴰ·tail}
+use mathlib.Core.Logic.{_⊎_, inl, inr}
+use mathlib.Core.Path.{_≡_, refl, sym}
+use lib.Dec.{lit<}
+use lib.ListN.{length}
+use Rattle.lattice.specs.Range.{inRange}
+use Rattle.lattice.specs.Shape.{maxStrength, sizeOk, strengthOk, shapeNumber}
+use Rattle.lattice.specs.Cell.{Cell, cell}
+use Rattle.lattice.proofs.theory.Bools.{or-cases}
+use Rattle.lattice.proofs.examples.Stack.{stack-accepted, OfHole, hole-cluster, hole-few}
+use Rattle.codec.specs.Field.{Field, fieldOf, isCell, isReceived}
+use Rattle.codec.specs.Payload.{Bytes}
+use Rattle.codec.specs.Plan.{planBytes}
+use Rattle.codec.specs.Encode.{encodedField}
+use Rattle.codec.specs.Code.{NearestTo}
+use Rattle.codec.specs.Reach.{Readable, WrongInReach}
+use Rattle.codec.specs.Damage.{damagedField, Recovered}
+use Rattle.codec.specs.theorems.Worked.{stack, bytes, strip}
+use Rattle.codec.proofs.examples.Coding.{isAt, at-is}
+use Rattle.codec.proofs.theorems.Reading.{decodeMeaning}
+use Rattle.codec.proofs.theorems.Recovery.{recovery}
+use Rattle.codec.proofs.theorems.Worked.{codingExamples}
+
+pub bytes-long : length bytes ≡ planBytes stack
+bytes-long = sym (codingExamples .plan .2)
+
+pub bytes-are : Bytes bytes
+bytes-are zero = lit< tt
+bytes-are (suc zero) = lit< tt
+bytes-are (suc (suc zero)) = lit< tt
+bytes-are (suc (suc (suc zero))) = lit< tt
+bytes-are (suc (suc (suc (suc zero)))) = lit< tt
+bytes-are (suc (suc (suc (suc (suc j))))) = lit< tt
+
+-- the whole hole is selected
+abbrev pub isHole : Cell → Bool
+isHole x = isAt (cell 2 0 3) x || (isAt (cell 2 1 3) x || isAt (cell 2 1 4) x)
+
+pub hole-selected : (x : Cell) → isHole x ≡ true → OfHole x
+hole-selected x e = at (or-cases (isAt (cell 2 0 3) x) (isAt (cell 2 1 3) x || isAt (cell 2 1 4) x) e)
+  where
+    behind : (isAt (cell 2 1 3) x ≡ true) ⊎ (isAt (cell 2 1 4) x ≡ true) → OfHole x
+    behind (inl p) = List·Memᴰ·tail (List·Memᴰ·head (at-is (cell 2 1 3) x p))
+    behind (inr p) = List·Memᴰ·tail (List·Memᴰ·tail (List·Memᴰ·head (at-is (cell 2 1 4) x p)))
+
+    at : (isAt (cell 2 0 3) x ≡ true) ⊎ ((isAt (cell 2 1 3) x || isAt (cell 2 1 4) x) ≡ true) → OfHole x
+    at (inl p) = List·Memᴰ·head (at-is (cell 2 0 3) x p)
+    at (inr p) = behind (or-cases (isAt (cell 2 1 3) x) (isAt (cell 2 1 4) x) p)
+
+-- demand 3, applied: with those three cells flipped the payload and the field come back
+pub hole-recovered : Recovered stack bytes (encodedField stack bytes) (damagedField stack bytes isHole) bytes
+hole-recovered =
+    recovery stack stack-accepted bytes bytes-long bytes-are OfHole hole-cluster hole-few isHole hole-selected bytes bytes-long
+
+-- a class of five cells with no codeword in reach: reading gives 6
+pub none-readable : Readable (strip 5) (0 ∷ 0 ∷ 1 ∷ 0 ∷ 1 ∷ [])
+unfolding shapeNumber sizeOk strengthOk maxStrength inRange isReceived isCell
+none-readable = record { accepted = refl; long = refl; cells = λ i h. cells i }
+  where
+    cells : (i : ℕ) → isReceived (fieldOf (0 ∷ 0 ∷ 1 ∷ 0 ∷ 1 ∷ []) i) ≡ true
+    cells zero = refl
+    cells (suc zero) = refl
+    cells (suc (suc zero)) = refl
+    cells (suc (suc (suc zero))) = refl
+    cells (suc (suc (suc (suc zero)))) = refl
+    cells (suc (suc (suc (suc (suc i))))) = refl
+
+pub none-in-reach : (g : Field) → ¬ NearestTo (strip 5) (fieldOf (0 ∷ 0 ∷ 1 ∷ 0 ∷ 1 ∷ [])) g
+none-in-reach =
+    decodeMeaning (strip 5) [] (0 ∷ 0 ∷ 1 ∷ 0 ∷ 1 ∷ []) none-readable (sym (codingExamples .empty .0)) .none .0
+    (codingExamples .six)
+
+-- a class of three cells whose padding cell is lost: reading gives 7
+pub wrong-readable : Readable (strip 3) (1 ∷ 1 ∷ 0 ∷ [])
+unfolding shapeNumber sizeOk strengthOk maxStrength inRange isReceived isCell
+wrong-readable = record { accepted = refl; long = refl; cells = λ i h. cells i }
+  where
+    cells : (i : ℕ) → isReceived (fieldOf (1 ∷ 1 ∷ 0 ∷ []) i) ≡ true
+    cells zero = refl
+    cells (suc zero) = refl
+    cells (suc (suc zero)) = refl
+    cells (suc (suc (suc i))) = refl
+
+pub wrong-in-reach : WrongInReach (strip 3) (fieldOf (1 ∷ 1 ∷ 0 ∷ []))
+wrong-in-reach =
+    decodeMeaning (strip 3) [] (1 ∷ 1 ∷ 0 ∷ []) wrong-readable (sym (codingExamples .empty .1)) .wrong .0
+    (codingExamples .seven)

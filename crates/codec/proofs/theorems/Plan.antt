@@ -1,0 +1,22 @@
+-- The plan's figures: the term of the theorem.
+use Prim.Native.Nat.{ℕ, _/_}
+use mathlib.Core.Path.{_≡_, sym, ap, _∙_}
+use Rattle.lattice.specs.Check.{capacity}
+use Rattle.lattice.specs.Class.{layoutOf}
+use Rattle.lattice.proofs.theory.Answers.{beside-zero}
+use Rattle.lattice.proofs.theorems.Labels.{boundAttained}
+use Rattle.codec.specs.Plan.{planNumber, planCapacity, planBytes}
+use Rattle.codec.specs.theorems.Plan.{PlanMeaning}
+use Rattle.codec.proofs.theory.Accepted.{plan-cells, plan-classes}
+
+-- Theorem. The plan's figures are those of the shape, and the lower bound on labels is attained at its classes.
+pub planMeaning : PlanMeaning
+unfolding planCapacity planBytes capacity
+planMeaning =
+    record {
+      classes = plan-classes;
+      capacity = λ s a. beside-zero (planNumber s) (capacity (layoutOf s)) 0 a;
+      bytes = λ s a. ap (λ (k : ℕ). k / 8) (beside-zero (planNumber s) (capacity (layoutOf s)) 0 a);
+      cells = plan-cells;
+      attained = λ s a flat wide high. boundAttained s a flat wide high ∙ sym (plan-classes s a);
+    }

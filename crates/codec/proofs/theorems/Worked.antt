@@ -1,0 +1,28 @@
+-- Our own examples of coding: the term of the theorem, by computation of the definitions.
+use mathlib.Core.Path.{refl}
+use Rattle.lattice.specs.Range.{inRange}
+use Rattle.lattice.specs.Shape.{maxStrength, sizeOk, strengthOk, shapeNumber}
+use Rattle.lattice.specs.Settings.{oddSettings, evenSettings, flatSettings, stackTable, stackSettings, settingsFor}
+use Rattle.lattice.specs.Cell.{cellAt}
+use Rattle.lattice.specs.Class.{minusMod, classWith, classesOf, classOf}
+use Rattle.lattice.specs.Position.{sizeTo, position}
+use Rattle.lattice.specs.Check.{isPower, isCheck, holdsData, capacity}
+use Rattle.codec.specs.Field.{isCell, isReceived, cellsOk}
+use Rattle.codec.specs.Hamming.{tagsOf, isTag, inReach, allInReach, corrected}
+use Rattle.codec.specs.Payload.{payloadBytes, rank, payloadBit, padding, dataValue, dataField, encoded, paddingOk}
+use Rattle.codec.specs.Plan.{planClasses, planCapacity, planBytes, planCells}
+use Rattle.codec.specs.Encode.{encodedField}
+use Rattle.codec.specs.Decode.{fieldNumber, decodeNumber}
+use Rattle.codec.specs.theorems.Worked.{CodingExamples}
+
+-- Theorem. The examples hold.
+pub codingExamples : CodingExamples
+unfolding
+    inRange maxStrength sizeOk strengthOk shapeNumber
+    oddSettings evenSettings flatSettings stackTable stackSettings settingsFor
+    cellAt minusMod classWith classesOf classOf sizeTo position isPower isCheck holdsData capacity
+    isCell isReceived cellsOk tagsOf isTag inReach allInReach corrected
+    payloadBytes rank payloadBit padding dataValue dataField encoded paddingOk
+    planClasses planCapacity planBytes planCells encodedField fieldNumber decodeNumber
+codingExamples =
+    record { plan = (refl, refl, refl, refl); written = refl; empty = (refl, refl); six = refl; seven = refl; none = refl }

@@ -1,0 +1,23 @@
+-- The theorem on the plan's figures.
+use Prim.Native.Nat.{ℕ, _/_, _≤_}
+use mathlib.Core.Path.{_≡_}
+use Rattle.lattice.specs.declared.shape.Shape.{Shape}
+use Rattle.lattice.specs.Shape.{Accepted, cellsOf}
+use Rattle.lattice.specs.Class.{classesOf, classOf, layoutOf}
+use Rattle.lattice.specs.Check.{holdsData}
+use Rattle.lattice.specs.Counting.{count}
+use Rattle.lattice.specs.Labelling.{labels}
+use Rattle.codec.specs.Plan.{planClasses, planCapacity, planBytes, planCells}
+
+-- Theorem. For a shape that the plan accepts its classes are m, its capacity is the number of cells that hold no check, its bytes
+-- are an
+-- eighth of that, rounded down, and its cells are W × H × D. Where both sides of a flat field are at least t, the classes are as
+-- many
+-- labels as the plan gives classes.
+pub record PlanMeaning : Type 0 where
+  pub classes : (s : Shape) → Accepted s → planClasses s ≡ classesOf s
+  pub capacity : (s : Shape) → Accepted s → planCapacity s ≡ count (holdsData (layoutOf s)) (cellsOf s)
+  pub bytes : (s : Shape) → Accepted s → planBytes s ≡ count (holdsData (layoutOf s)) (cellsOf s) / 8
+  pub cells : (s : Shape) → Accepted s → planCells s ≡ cellsOf s
+  pub attained : (s : Shape) → Accepted s → s .planes ≡ 1 → s .strength ≤ s .columns → s .strength ≤ s .rows
+      → labels s (classOf s) ≡ planClasses s
