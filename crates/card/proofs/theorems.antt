@@ -5,3 +5,4 @@ mod Cut
 pub mod Outputs
 mod RoundTrip
 mod Examples
+mod Worked

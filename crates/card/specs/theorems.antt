@@ -5,3 +5,4 @@ pub mod Cut
 pub mod Outputs
 pub mod RoundTrip
 pub mod Examples
+pub mod Worked

@@ -1,2 +1,4 @@
 -- What the crate `varmintfoil` promises: the structs that C is given.
 pub mod Boundary
+-- theorems
+pub mod theorems

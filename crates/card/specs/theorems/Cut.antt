@@ -7,8 +7,7 @@ use Rattle.card.specs.Form.{CardText}
 use Rattle.card.specs.Program.{programNumber, answer}
 
 -- Theorem. A card text whose end was cut off is no card text, and is refused with 8: a file or a pipe that was cut, or a read
--- that
--- failed, cannot pass for a card. And an answer whose end was cut off is no answer.
+-- that failed, cannot pass for a card. And an answer whose end was cut off is no answer.
 pub record CutIsRefused : Type 0 where
   pub card : (s cut : List ℕ) → cut ≢ [] → CardText (s ++ cut) → ¬ CardText s
   pub refused : (s cut : List ℕ) → cut ≢ [] → CardText (s ++ cut) → programNumber s ≡ 8

@@ -1,12 +1,13 @@
 -- The theorem on the form and the length of the output.
 use Prim.Native.Nat.{ℕ, _<_, _≤_}
 use mathlib.Core.List.{List}
-use lib.ListN.{length}
+use mathlib.Core.Path.{_≡_}
+use lib.ListN.{length, take, drop}
 use Rattle.codec.specs.Plan.{planClasses}
 use Rattle.codec.specs.Decode.{decodeCount}
 use Rattle.card.specs.declared.header.Header.{Header}
 use Rattle.card.specs.Card.{maxAnswer, shapeOf, CardHeader}
-use Rattle.card.specs.Program.{blankPayload, answer}
+use Rattle.card.specs.Program.{blankPayload, answer, outputLeaves}
 use Rattle.card.specs.Form.{OneOfThree}
 
 -- Theorem. The output is one of the three forms and never longer than 36,915 bytes, and the numbers in it have at most five
@@ -16,3 +17,12 @@ pub record OutputForms : Type 0 where
   pub short : (s : List ℕ) → length (answer s) ≤ maxAnswer
   pub classes : (h : Header) → CardHeader h → planClasses (shapeOf h) < 100000
   pub count : (h : Header) → CardHeader h → (cells : List ℕ) → decodeCount (shapeOf h) (blankPayload h) cells < 100000
+
+-- Theorem. An answer that fits stands at the front of the lent output, and the bytes behind it are as they were; where it does
+-- not fit,
+-- all of them are.
+pub record AnswerStands : Type 0 where
+  pub front : (text output : List ℕ) → length text ≤ length output → take (length text) (outputLeaves text output) ≡ text
+  pub behind : (text output : List ℕ) → length text ≤ length output
+      → drop (length text) (outputLeaves text output) ≡ drop (length text) output
+  pub short : (text output : List ℕ) → length output < length text → outputLeaves text output ≡ output

@@ -1,0 +1,38 @@
+-- Our own examples of the program, worked by hand: a card that is not square and has two planes, with a payload that reads
+-- differently from both ends; and the limits.
+use Prim.Native.Nat.{ℕ}
+use Prim.Native.String.{String, _++_}
+use mathlib.Core.List.{List}
+use mathlib.Core.Path.{_≡_}
+use lib.ListN.{length}
+use Rattle.card.specs.declared.header.Header.{Header}
+use Rattle.card.specs.Card.{maxInput, maxCardCells, CardHeader}
+use Rattle.card.specs.Program.{programNumber}
+use Rattle.card.specs.theorems.Examples.{Answers}
+
+-- the first four lines
+abbrev pub lines : String
+lines = "columns=7\nrows=5\nplanes=2\nstrength=3\n"
+
+-- a header of w columns and h rows in one plane, of strength 3
+abbrev pub flat : ℕ → ℕ → Header
+flat w h = record { numbers = record { columns = w; rows = h; planes = 1; strength = 3 } }
+
+-- Theorem. The examples hold.
+pub record ProgramExamples : Type 0 where
+  pub written :
+      Answers (lines ++ "payload=0b3c71e64a\n")
+      (lines ++ "classes=7\nrow=1000001\nrow=1011000\nrow=0000101\nrow=1010000\nrow=1001111\n"
+      ++ "row=0001110\nrow=0011110\nrow=1001100\nrow=0110010\nrow=0101000\n")
+  -- three cells lost: row 2, column 3 in both planes, and its neighbour in the second
+  pub read :
+      Answers
+      (lines ++ "row=1000001\nrow=1011000\nrow=0001101\nrow=1010000\nrow=1001111\n"
+      ++ "row=0001110\nrow=0011110\nrow=1000000\nrow=0110010\nrow=0101000\n")
+      (lines ++ "mended=3\npayload=0b3c71e64a\n")
+  -- the limits
+  pub input : maxInput ≡ 65536
+  pub cells : maxCardCells ≡ 16384
+  pub too-long : (s : List ℕ) → length s ≡ 65537 → programNumber s ≡ 8
+  pub most-cells : CardHeader (flat 128 128)
+  pub more-cells : ¬ CardHeader (flat 129 128)

@@ -1,0 +1,2 @@
+-- The terms of the theorems: a file for each file of specs/theorems, of the same name.
+mod Verdict

@@ -1,0 +1,2 @@
+-- The statements of the theorems. Each has one proof, a term of exactly this type, in proofs/theorems.
+pub mod Verdict
