@@ -19,8 +19,7 @@ pub record OutputForms : Type 0 where
   pub count : (h : Header) → CardHeader h → (cells : List ℕ) → decodeCount (shapeOf h) (blankPayload h) cells < 100000
 
 -- Theorem. An answer that fits stands at the front of the lent output, and the bytes behind it are as they were; where it does
--- not fit,
--- all of them are.
+-- not fit, all of them are.
 pub record AnswerStands : Type 0 where
   pub front : (text output : List ℕ) → length text ≤ length output → take (length text) (outputLeaves text output) ≡ text
   pub behind : (text output : List ℕ) → length text ≤ length output

@@ -9,11 +9,9 @@ use Rattle.lattice.specs.Counting.{count}
 use Rattle.lattice.specs.Labelling.{labels}
 use Rattle.codec.specs.Plan.{planClasses, planCapacity, planBytes, planCells}
 
--- Theorem. For a shape that the plan accepts its classes are m, its capacity is the number of cells that hold no check, its bytes
--- are an
--- eighth of that, rounded down, and its cells are W × H × D. Where both sides of a flat field are at least t, the classes are as
--- many
--- labels as the plan gives classes.
+-- Theorem. For a shape that the plan accepts its classes are m, its capacity is the number of cells that hold no check, its
+-- bytes are an eighth of that, rounded down, and its cells are W × H × D. Where both sides of a flat field are at least t, the
+-- classes are as many labels as the plan gives classes.
 pub record PlanMeaning : Type 0 where
   pub classes : (s : Shape) → Accepted s → planClasses s ≡ classesOf s
   pub capacity : (s : Shape) → Accepted s → planCapacity s ≡ count (holdsData (layoutOf s)) (cellsOf s)

@@ -27,8 +27,7 @@ pub record EncodeMeaning : Type 0 where
       → encodedField s p ≡ encodedField s q → p ≡ q
 
 -- Theorem (demand 2). Writing that succeeds leaves the field written: where the number is 0 the payload has the plan's length,
--- the field
--- the plan's cells, and what is left in the lent field is the field written from the payload.
+-- the field the plan's cells, and what is left in the lent field is the field written from the payload.
 abbrev pub EncodeLeaves : Type 0
 EncodeLeaves =
     (s : Shape) (p field : List ℕ) → encodeNumber s p field ≡ 0

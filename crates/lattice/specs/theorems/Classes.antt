@@ -24,8 +24,7 @@ pub record ClassesBelow : Type 0 where
   pub most : (s : Shape) → Accepted s → differentValues (classAt s) (cellsOf s) ≤ classesOf s
 
 -- Theorem. Where the class of a cell is given with the number 0, the cell lies in the field, and the class is the one number r
--- below m
--- for which column − b × row − c × plane − r is a multiple of m.
+-- below m for which column − b × row − c × plane − r is a multiple of m.
 abbrev pub ClassIsGiven : Type 0
 ClassIsGiven =
     (s : Shape) (x : Cell) → classNumber s x ≡ 0 → InField s x × HasClass (settingsOf s) (pointOf x) (classGiven s x)
