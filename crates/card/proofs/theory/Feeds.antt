@@ -12,7 +12,7 @@ use Rattle.lattice.proofs.theory.Bools.{and-true, and-left, and-right}
 use Rattle.card.specs.Text.{payloadKey, hexDigit, hexText, payloadText, digits, decimal, numberLine, feed, digitCount}
 
 -- the text has no line feed
-abbrev pub noFeed : List ℕ → Bool
+abbrev noFeed : List ℕ → Bool
 noFeed [] = true
 noFeed (b ∷ bs) = not (eqb b feed) && noFeed bs
 
@@ -30,7 +30,7 @@ first-other : (b : ℕ) (bs : List ℕ) → noFeed (b ∷ bs) ≡ true → b ≢
 first-other b bs p = eqb-false b feed (not-true (eqb b feed) (and-left (not (eqb b feed)) (noFeed bs) p))
 
 -- what comes behind the first line feed
-pub after-feed : (a b x y : List ℕ) → noFeed a ≡ true → noFeed b ≡ true → a ++ (feed ∷ x) ≡ b ++ (feed ∷ y) → x ≡ y
+after-feed : (a b x y : List ℕ) → noFeed a ≡ true → noFeed b ≡ true → a ++ (feed ∷ x) ≡ b ++ (feed ∷ y) → x ≡ y
 after-feed [] [] x y p q e = ap (drop 1) e
 after-feed [] (c ∷ b) x y p q e = absurd (first-other c b q (sym (ap (λ (l : List ℕ). getD l 0 0) e)))
 after-feed (c ∷ a) [] x y p q e = absurd (first-other c a p (ap (λ (l : List ℕ). getD l 0 0) e))
