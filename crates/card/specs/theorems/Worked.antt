@@ -2,11 +2,12 @@
 -- differently from both ends; and the limits.
 use Prim.Native.Nat.{ℕ}
 use Prim.Native.String.{String, _++_}
-use mathlib.Core.List.{List}
+use mathlib.Core.List.{List, [], _∷_}
 use mathlib.Core.Path.{_≡_}
 use lib.ListN.{length}
 use Rattle.card.specs.declared.header.Header.{Header}
-use Rattle.card.specs.Card.{maxInput, maxCardCells, CardHeader}
+use Rattle.card.specs.Text.{ascii, decimal, hexText}
+use Rattle.card.specs.Card.{maxInput, maxCardCells, maxAnswer, CardHeader}
 use Rattle.card.specs.Program.{programNumber}
 use Rattle.card.specs.theorems.Examples.{Answers}
 
@@ -36,3 +37,12 @@ pub record ProgramExamples : Type 0 where
   pub too-long : (s : List ℕ) → length s ≡ 65537 → programNumber s ≡ 8
   pub most-cells : CardHeader (flat 128 128)
   pub more-cells : ¬ CardHeader (flat 129 128)
+  pub longest : maxAnswer ≡ 36915
+  -- what the program says at the limit: 16,384 cells are taken, so that an empty payload is refused for its length; of 16,385
+  -- none is; and a strength that is refused comes before them
+  pub cells-taken : Answers "columns=128\nrows=128\nplanes=1\nstrength=3\npayload=\n" "refusal=3\n"
+  pub cells-refused : Answers "columns=145\nrows=113\nplanes=1\nstrength=3\npayload=\n" "refusal=8\n"
+  pub strength-first : Answers "columns=129\nrows=128\nplanes=1\nstrength=0\npayload=\n" "refusal=2\n"
+  -- every digit
+  pub decimal-digits : (decimal 12345 ≡ ascii "12345") × (decimal 67890 ≡ ascii "67890")
+  pub hex-digits : hexText (1 ∷ 35 ∷ 69 ∷ 103 ∷ 137 ∷ 171 ∷ 205 ∷ 239 ∷ []) ≡ ascii "0123456789abcdef"

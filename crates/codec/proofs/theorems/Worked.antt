@@ -7,12 +7,13 @@ use Rattle.lattice.specs.Cell.{cellAt}
 use Rattle.lattice.specs.Class.{minusMod, classWith, classesOf, classOf}
 use Rattle.lattice.specs.Position.{sizeTo, position}
 use Rattle.lattice.specs.Check.{isPower, isCheck, holdsData, capacity}
-use Rattle.codec.specs.Field.{isCell, isReceived, cellsOk}
+use Rattle.codec.specs.Field.{isCell, isReceived, cellsOk, differences}
 use Rattle.codec.specs.Hamming.{tagsOf, isTag, inReach, allInReach, corrected}
 use Rattle.codec.specs.Payload.{payloadBytes, rank, payloadBit, padding, dataValue, dataField, encoded, paddingOk}
 use Rattle.codec.specs.Plan.{planClasses, planCapacity, planBytes, planCells}
-use Rattle.codec.specs.Encode.{encodedField}
+use Rattle.codec.specs.Encode.{encodeNumber, encodedField}
 use Rattle.codec.specs.Decode.{fieldNumber, decodeNumber}
+use Rattle.codec.specs.Correct.{correctNumber}
 use Rattle.codec.specs.theorems.Worked.{CodingExamples}
 
 -- Theorem. The examples hold.
@@ -21,8 +22,20 @@ unfolding
     inRange maxStrength sizeOk strengthOk shapeNumber
     oddSettings evenSettings flatSettings stackTable stackSettings settingsFor
     cellAt minusMod classWith classesOf classOf sizeTo position isPower isCheck holdsData capacity
-    isCell isReceived cellsOk tagsOf isTag inReach allInReach corrected
+    isCell isReceived cellsOk differences tagsOf isTag inReach allInReach corrected
     payloadBytes rank payloadBit padding dataValue dataField encoded paddingOk
-    planClasses planCapacity planBytes planCells encodedField fieldNumber decodeNumber
+    planClasses planCapacity planBytes planCells encodeNumber encodedField fieldNumber decodeNumber correctNumber
 codingExamples =
-    record { plan = (refl, refl, refl, refl); written = refl; empty = (refl, refl); six = refl; seven = refl; none = refl }
+    record {
+      plan = (refl, refl, refl, refl);
+      written = refl;
+      empty = (refl, refl);
+      six = refl;
+      seven = refl;
+      none = refl;
+      one-first = (refl, refl, refl);
+      three-next = (refl, refl, refl, refl);
+      four-next = (refl, refl, refl, refl, refl, refl);
+      five-next = (refl, refl, refl, refl);
+      differ = refl;
+    }

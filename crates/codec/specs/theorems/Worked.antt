@@ -4,9 +4,11 @@ use Prim.Native.Nat.{ℕ}
 use mathlib.Core.List.{List, [], _∷_}
 use mathlib.Core.Path.{_≡_}
 use Rattle.lattice.specs.declared.shape.Shape.{Shape}
+use Rattle.codec.specs.Field.{fieldOf, differences}
 use Rattle.codec.specs.Plan.{planClasses, planCapacity, planBytes, planCells}
-use Rattle.codec.specs.Encode.{encodedField}
+use Rattle.codec.specs.Encode.{encodeNumber, encodedField}
 use Rattle.codec.specs.Decode.{decodeNumber}
+use Rattle.codec.specs.Correct.{correctNumber}
 
 abbrev pub stack : Shape
 stack = record { columns = 7; rows = 5; planes = 2; strength = 3 }
@@ -45,3 +47,24 @@ pub record CodingExamples : Type 0 where
   -- of 1 1 0 the third cell is flipped, and that is a padding cell; of 0 1 0 the second, which is a check
   pub seven : decodeNumber (strip 3) [] (1 ∷ 1 ∷ 0 ∷ []) ≡ 7
   pub none : decodeNumber (strip 3) [] (0 ∷ 1 ∷ 0 ∷ []) ≡ 0
+  -- where more than one refusal is due: the shape's, then the payload's length, then the field's, then a byte that is no cell,
+  -- then the reach
+  pub one-first : (encodeNumber (strip 0) (0 ∷ []) (2 ∷ []) ≡ 1)
+      × (decodeNumber (strip 0) (0 ∷ []) (2 ∷ []) ≡ 1)
+      × (correctNumber (strip 0) (2 ∷ []) ≡ 1)
+  pub three-next : (encodeNumber stack [] (2 ∷ []) ≡ 3)
+      × (encodeNumber (strip 5) (0 ∷ []) (2 ∷ []) ≡ 3)
+      × (decodeNumber stack [] (2 ∷ []) ≡ 3)
+      × (decodeNumber (strip 5) (0 ∷ []) (2 ∷ []) ≡ 3)
+  pub four-next : (encodeNumber (strip 1) [] [] ≡ 4)
+      × (encodeNumber (strip 1) [] (0 ∷ 0 ∷ []) ≡ 4)
+      × (decodeNumber (strip 2) [] (2 ∷ []) ≡ 4)
+      × (decodeNumber (strip 2) [] (2 ∷ 1 ∷ 1 ∷ []) ≡ 4)
+      × (correctNumber (strip 2) (2 ∷ []) ≡ 4)
+      × (correctNumber (strip 2) (2 ∷ 1 ∷ 1 ∷ []) ≡ 4)
+  pub five-next : (decodeNumber (strip 3) [] (0 ∷ 0 ∷ 2 ∷ []) ≡ 5)
+      × (decodeNumber (strip 5) [] (2 ∷ 0 ∷ 1 ∷ 0 ∷ 1 ∷ []) ≡ 5)
+      × (correctNumber (strip 3) (0 ∷ 0 ∷ 2 ∷ []) ≡ 5)
+      × (correctNumber (strip 5) (2 ∷ 0 ∷ 1 ∷ 0 ∷ 1 ∷ []) ≡ 5)
+  -- a cell lost and a cell gained are two that differ
+  pub differ : differences (fieldOf (0 ∷ 1 ∷ 1 ∷ [])) (fieldOf (1 ∷ 0 ∷ 1 ∷ [])) 3 ≡ 2
