@@ -4,7 +4,7 @@ use mathlib.Core.Bool.{false}
 use mathlib.Core.Path.{refl, _≡_, _∙_, ap}
 use mathlib.Core.List.{List, []}
 use native.Mathlib.Omega.{arith}
-use borrow.Author.Tests.{lt-leb, ne-eqb}
+use borrow.Author.Tests.{lt-leb, le-leb, ne-eqb}
 use lib.Dec.{lit≤, eqb}
 use lib.ListN.{length}
 use Rattle.lattice.specs.declared.shape.Shape.{Shape}
@@ -39,6 +39,11 @@ use Rattle.card.proofs.theory.ProgramParts.{answer-refused}
 too-long : (s : List ℕ) → length s ≡ 65537 → programNumber s ≡ 8
 unfolding programNumber
 too-long s e = rw (lt-leb (length s) maxInput (omega (arith, e)))
+
+-- an input of 65,536 bytes is weighed by what it says
+longest-taken : (s : List ℕ) → length s ≡ 65536 → programNumber s ≡ numberAfter s (headerOf s)
+unfolding programNumber
+longest-taken s e = rw (le-leb (length s) maxInput (omega (arith, e)))
 
 -- the payload's bytes are an eighth of the data cells
 eighth : (s : Shape) → Accepted s → planBytes s ≡ count (holdsData (layoutOf s)) (cellsOf s) / 8
@@ -110,6 +115,7 @@ programExamples =
       input = refl;
       cells = refl;
       too-long = too-long;
+      longest-taken = longest-taken;
       most-cells = record { accepted = refl; cells = lit≤ tt };
       more-cells = λ card. omega (arith, card .cells);
       longest = refl;

@@ -1,5 +1,5 @@
 -- Our own examples of the program, worked by hand: a card that is not square and has two planes, with a payload that reads
--- differently from both ends; and the limits.
+-- differently from both ends; the limits; and every digit.
 use Prim.Native.Nat.{ℕ}
 use Prim.Native.String.{String, _++_}
 use mathlib.Core.List.{List, [], _∷_}
@@ -8,7 +8,8 @@ use lib.ListN.{length}
 use Rattle.card.specs.declared.header.Header.{Header}
 use Rattle.card.specs.Text.{ascii, decimal, hexText}
 use Rattle.card.specs.Card.{maxInput, maxCardCells, maxAnswer, CardHeader}
-use Rattle.card.specs.Program.{programNumber}
+use Rattle.card.specs.Parse.{headerOf}
+use Rattle.card.specs.Program.{numberAfter, programNumber}
 use Rattle.card.specs.theorems.Examples.{Answers}
 
 -- the first four lines
@@ -35,11 +36,12 @@ pub record ProgramExamples : Type 0 where
   pub input : maxInput ≡ 65536
   pub cells : maxCardCells ≡ 16384
   pub too-long : (s : List ℕ) → length s ≡ 65537 → programNumber s ≡ 8
+  pub longest-taken : (s : List ℕ) → length s ≡ 65536 → programNumber s ≡ numberAfter s (headerOf s)
   pub most-cells : CardHeader (flat 128 128)
   pub more-cells : ¬ CardHeader (flat 129 128)
   pub longest : maxAnswer ≡ 36915
-  -- what the program says at the limit: 16,384 cells are taken, so that an empty payload is refused for its length; of 16,385
-  -- none is; and a strength that is refused comes before them
+  -- what the program says at the limit: of 16,384 cells an empty payload is refused for its length, 16,385 cells are refused
+  -- themselves, and a strength comes before the cells
   pub cells-taken : Answers "columns=128\nrows=128\nplanes=1\nstrength=3\npayload=\n" "refusal=3\n"
   pub cells-refused : Answers "columns=145\nrows=113\nplanes=1\nstrength=3\npayload=\n" "refusal=8\n"
   pub strength-first : Answers "columns=129\nrows=128\nplanes=1\nstrength=0\npayload=\n" "refusal=2\n"

@@ -33,9 +33,8 @@ codingExamples =
       six = refl;
       seven = refl;
       none = refl;
-      one-first = (refl, refl, refl);
-      three-next = (refl, refl, refl, refl);
-      four-next = (refl, refl, refl, refl, refl, refl);
-      five-next = (refl, refl, refl, refl);
+      one-then-three = (refl, refl, refl, refl, refl, refl, refl);
+      then-four = (refl, refl, refl, refl, refl, refl);
+      then-five = (refl, refl, refl, refl);
       differ = refl;
     }

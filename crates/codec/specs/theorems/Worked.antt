@@ -47,22 +47,22 @@ pub record CodingExamples : Type 0 where
   -- of 1 1 0 the third cell is flipped, and that is a padding cell; of 0 1 0 the second, which is a check
   pub seven : decodeNumber (strip 3) [] (1 ∷ 1 ∷ 0 ∷ []) ≡ 7
   pub none : decodeNumber (strip 3) [] (0 ∷ 1 ∷ 0 ∷ []) ≡ 0
-  -- where more than one refusal is due: the shape's, then the payload's length, then the field's, then a byte that is no cell,
-  -- then the reach
-  pub one-first : (encodeNumber (strip 0) (0 ∷ []) (2 ∷ []) ≡ 1)
+  -- where more than one refusal is due: the shape's, then the payload's length, too short or too long, then the field's, then a
+  -- byte that is no cell, then the reach
+  pub one-then-three : (encodeNumber (strip 0) (0 ∷ []) (2 ∷ []) ≡ 1)
       × (decodeNumber (strip 0) (0 ∷ []) (2 ∷ []) ≡ 1)
       × (correctNumber (strip 0) (2 ∷ []) ≡ 1)
-  pub three-next : (encodeNumber stack [] (2 ∷ []) ≡ 3)
+      × (encodeNumber stack [] (2 ∷ []) ≡ 3)
       × (encodeNumber (strip 5) (0 ∷ []) (2 ∷ []) ≡ 3)
       × (decodeNumber stack [] (2 ∷ []) ≡ 3)
       × (decodeNumber (strip 5) (0 ∷ []) (2 ∷ []) ≡ 3)
-  pub four-next : (encodeNumber (strip 1) [] [] ≡ 4)
+  pub then-four : (encodeNumber (strip 1) [] [] ≡ 4)
       × (encodeNumber (strip 1) [] (0 ∷ 0 ∷ []) ≡ 4)
       × (decodeNumber (strip 2) [] (2 ∷ []) ≡ 4)
       × (decodeNumber (strip 2) [] (2 ∷ 1 ∷ 1 ∷ []) ≡ 4)
       × (correctNumber (strip 2) (2 ∷ []) ≡ 4)
       × (correctNumber (strip 2) (2 ∷ 1 ∷ 1 ∷ []) ≡ 4)
-  pub five-next : (decodeNumber (strip 3) [] (0 ∷ 0 ∷ 2 ∷ []) ≡ 5)
+  pub then-five : (decodeNumber (strip 3) [] (0 ∷ 0 ∷ 2 ∷ []) ≡ 5)
       × (decodeNumber (strip 5) [] (2 ∷ 0 ∷ 1 ∷ 0 ∷ 1 ∷ []) ≡ 5)
       × (correctNumber (strip 3) (0 ∷ 0 ∷ 2 ∷ []) ≡ 5)
       × (correctNumber (strip 5) (2 ∷ 0 ∷ 1 ∷ 0 ∷ 1 ∷ []) ≡ 5)
