@@ -3,9 +3,13 @@ use mathlib.Core.Path.{refl}
 use Rattle.lattice.specs.Range.{inRange}
 use Rattle.lattice.specs.Shape.{maxStrength, sizeOk, strengthOk, shapeNumber}
 use Rattle.lattice.specs.Settings.{oddSettings, evenSettings, flatSettings, stackTable, stackSettings, settingsFor}
-use Rattle.lattice.specs.Cell.{cellNumber}
-use Rattle.lattice.specs.Class.{minusMod, classWith, classOf, inside, classNumber, classGiven}
-use Rattle.lattice.specs.DistanceTest.{testStrengthOk, testSettingsOk, testNumber}
+use Rattle.lattice.specs.Cell.{cellNumber, cellAt}
+use Rattle.lattice.specs.Class.{minusMod, classWith, classesOf, classOf, inside, classNumber, classGiven}
+use Rattle.lattice.specs.Position.{sizeTo, position}
+use Rattle.lattice.specs.Check.{isPower, isCheck}
+use Rattle.lattice.specs.Order.{order}
+use Rattle.lattice.specs.DistanceTest.{testStrengthOk, testSettingsOk, testNumber, failsAt, outcome, verdict, foundTriple}
+use Rattle.lattice.specs.DistanceTest.{triplesTried}
 use Rattle.lattice.specs.theorems.Examples.{PlacingExamples}
 
 -- Theorem. The examples hold.
@@ -13,12 +17,18 @@ pub placingExamples : PlacingExamples
 unfolding
     inRange maxStrength sizeOk strengthOk shapeNumber
     oddSettings evenSettings flatSettings stackTable stackSettings settingsFor
-    cellNumber minusMod classWith classOf inside classNumber classGiven testStrengthOk testSettingsOk testNumber
+    cellNumber cellAt minusMod classWith classesOf classOf inside classNumber classGiven
+    sizeTo position isPower isCheck
+    testStrengthOk testSettingsOk testNumber order failsAt outcome verdict foundTriple triplesTried
 placingExamples =
     record {
       stack-classes = (refl, refl, refl, refl, refl, refl, refl, refl);
-      flat-classes = (refl, refl);
+      stack-rows = (refl, refl, refl, refl, refl, refl, refl);
+      stack-numbers = (refl, refl, refl, refl, refl, refl, refl, refl);
+      flat-classes = (refl, refl, refl);
       byte-number = refl;
+      positions = (refl, refl);
+      check-positions = (refl, refl, refl, refl, refl, refl, refl);
       columns = (refl, refl, refl);
       rows = (refl, refl, refl);
       planes = (refl, refl, refl);
@@ -29,4 +39,7 @@ placingExamples =
       test-classes = (refl, refl, refl, refl);
       test-steps = (refl, refl, refl);
       first-number = (refl, refl);
+      limits = (refl, refl, refl, refl, refl, refl, refl, refl);
+      test-finds = (refl, refl, refl);
+      refusal-numbers = (refl, refl, refl, refl, refl, refl, refl, refl, refl, refl);
     }

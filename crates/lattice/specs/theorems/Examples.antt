@@ -1,12 +1,19 @@
--- Our own examples of placing, worked by hand: a stack that tells row, plane and column apart, and each limit with the number one
--- beyond it.
+-- Our own examples of placing, worked by hand: classes that tell row, plane and column apart and each number of the settings,
+-- positions and checks, each limit with the number one beyond it, a triple that is found, and the numbers of the refusals.
 use Prim.Native.Nat.{ℕ}
+use mathlib.Core.Bool.{true, false}
 use mathlib.Core.Path.{_≡_}
+use lib.IntN.{pos, negsuc}
+use Rattle.lattice.specs.declared.refusal.Refusal.the-variants as why
 use Rattle.lattice.specs.declared.shape.Shape.{Shape}
-use Rattle.lattice.specs.Shape.{shapeNumber}
+use Rattle.lattice.specs.Refusal.{refusalNumber}
+use Rattle.lattice.specs.Shape.{shapeNumber, maxSide, maxPlanes, maxCells, maxFlatStrength, maxStackStrength, maxClasses}
 use Rattle.lattice.specs.Cell.{cell, cellNumber}
-use Rattle.lattice.specs.Class.{classGiven}
-use Rattle.lattice.specs.DistanceTest.{testNumber}
+use Rattle.lattice.specs.Class.{classGiven, classesOf, layoutOf}
+use Rattle.lattice.specs.Position.{position}
+use Rattle.lattice.specs.Check.{isCheck}
+use Rattle.lattice.specs.Order.{triple}
+use Rattle.lattice.specs.DistanceTest.{maxTestStrength, maxTestClasses, testNumber, verdict, foundTriple, triplesTried}
 
 -- a shape of w columns, h rows, d planes and strength t
 abbrev pub sized : ℕ → ℕ → ℕ → ℕ → Shape
@@ -24,13 +31,44 @@ pub record PlacingExamples : Type 0 where
       × (classGiven (sized 7 5 2 6) (cell 2 1 3) ≡ 16)
       × (classGiven (sized 7 5 2 7) (cell 2 1 3) ≡ 16)
       × (classGiven (sized 7 5 2 8) (cell 2 1 3) ≡ 38)
-  -- b of a flat field, 5 both at t = 4 and at t = 5
+  -- row 1, plane 0, column 0, which has m − b: other settings that keep cells as far apart can agree on the classes above
+  pub stack-rows :
+      (classGiven (sized 7 5 2 2) (cell 1 0 0) ≡ 1)
+      × (classGiven (sized 7 5 2 3) (cell 1 0 0) ≡ 5)
+      × (classGiven (sized 7 5 2 4) (cell 1 0 0) ≡ 9)
+      × (classGiven (sized 7 5 2 5) (cell 1 0 0) ≡ 23)
+      × (classGiven (sized 7 5 2 6) (cell 1 0 0) ≡ 31)
+      × (classGiven (sized 7 5 2 7) (cell 1 0 0) ≡ 54)
+      × (classGiven (sized 7 5 2 8) (cell 1 0 0) ≡ 83)
+  -- the number of classes of a stack at strengths 1 to 8; on a flat field the lower bound settles it
+  pub stack-numbers :
+      (classesOf (sized 7 5 2 1) ≡ 1)
+      × (classesOf (sized 7 5 2 2) ≡ 2)
+      × (classesOf (sized 7 5 2 3) ≡ 7)
+      × (classesOf (sized 7 5 2 4) ≡ 12)
+      × (classesOf (sized 7 5 2 5) ≡ 27)
+      × (classesOf (sized 7 5 2 6) ≡ 38)
+      × (classesOf (sized 7 5 2 7) ≡ 70)
+      × (classesOf (sized 7 5 2 8) ≡ 92)
+  -- b of a flat field: 5 both at t = 4 and at t = 5, and 7 at t = 6, where m is 18 and 5, 11 and 13 keep cells as far apart
   pub flat-classes :
       (classGiven (sized 1 2 1 4) (cell 1 0 0) ≡ 3)
       × (classGiven (sized 1 13 1 5) (cell 12 0 0) ≡ 5)
+      × (classGiven (sized 1 2 1 6) (cell 1 0 0) ≡ 11)
   -- row 1, plane 1, column 3 of 7 columns, 5 rows, 2 planes: (1 × 5 + 1) × 7 + 3
   pub byte-number : cellNumber (sized 7 5 2 3) (cell 1 1 3) ≡ 45
-  -- the limits of a size: 256, 256, 16, and 65,536 in all
+  -- positions in byte order, from 1: at strength 1 all cells are of one class
+  pub positions : (position (layoutOf (sized 3 1 1 1)) 0 ≡ 1) × (position (layoutOf (sized 3 1 1 1)) 2 ≡ 3)
+  -- the checks of a class of 7 cells: at 1, 2 and 4
+  pub check-positions :
+      (isCheck 7 1 ≡ true)
+      × (isCheck 7 2 ≡ true)
+      × (isCheck 7 3 ≡ false)
+      × (isCheck 7 4 ≡ true)
+      × (isCheck 7 5 ≡ false)
+      × (isCheck 7 6 ≡ false)
+      × (isCheck 7 7 ≡ false)
+  -- the limits of a size: 256, 256, 16, and 65,536 in all, beyond which 145 × 113 × 4 = 65,540 is the least that a shape can have
   pub columns :
       (shapeNumber (sized 256 1 1 1) ≡ 0) × (shapeNumber (sized 257 1 1 1) ≡ 1) × (shapeNumber (sized 0 1 1 1) ≡ 1)
   pub rows :
@@ -38,7 +76,7 @@ pub record PlacingExamples : Type 0 where
   pub planes :
       (shapeNumber (sized 1 1 16 1) ≡ 0) × (shapeNumber (sized 1 1 17 1) ≡ 1) × (shapeNumber (sized 1 1 0 1) ≡ 1)
   pub cells :
-      (shapeNumber (sized 256 256 1 1) ≡ 0) × (shapeNumber (sized 256 16 16 1) ≡ 0) × (shapeNumber (sized 241 17 16 1) ≡ 1)
+      (shapeNumber (sized 256 256 1 1) ≡ 0) × (shapeNumber (sized 256 16 16 1) ≡ 0) × (shapeNumber (sized 145 113 4 1) ≡ 1)
   -- the limits of a strength: 32 in one plane, 8 in more
   pub flat-strengths :
       (shapeNumber (sized 5 5 1 0) ≡ 2)
@@ -59,3 +97,30 @@ pub record PlacingExamples : Type 0 where
   pub test-steps : (testNumber 7 6 6 1 ≡ 0) × (testNumber 7 7 0 1 ≡ 9) × (testNumber 7 0 7 1 ≡ 9)
   -- the first in the order
   pub first-number : (shapeNumber (sized 257 1 1 0) ≡ 1) × (testNumber 0 0 0 0 ≡ 2)
+  -- the limits themselves, which are the constants of the code, and the most classes, those of the strength 32
+  pub limits :
+      (maxSide ≡ 256)
+      × (maxPlanes ≡ 16)
+      × (maxCells ≡ 65536)
+      × (maxFlatStrength ≡ 32)
+      × (maxStackStrength ≡ 8)
+      × (maxClasses ≡ 512)
+      × (maxTestStrength ≡ 18)
+      × (maxTestClasses ≡ 4096)
+  -- the settings of strength 5 fail for strength 6 at row 1, plane −3 and column 1, the 34th triple: 1 − 4 × 1 + 10 × 3 = 27
+  pub test-finds :
+      (verdict 27 4 10 6 ≡ false)
+      × (foundTriple 27 4 10 6 ≡ triple (pos 1) (negsuc 2) (pos 1))
+      × (triplesTried 27 4 10 6 ≡ 34)
+  -- the papers' number of each reason
+  pub refusal-numbers :
+      (refusalNumber why.BadSize ≡ 1)
+      × (refusalNumber why.BadStrength ≡ 2)
+      × (refusalNumber why.PayloadLength ≡ 3)
+      × (refusalNumber why.FieldLength ≡ 4)
+      × (refusalNumber why.OutsideShape ≡ 4)
+      × (refusalNumber why.BadCell ≡ 5)
+      × (refusalNumber why.OutOfReach ≡ 6)
+      × (refusalNumber why.BadPadding ≡ 7)
+      × (refusalNumber why.BadForm ≡ 8)
+      × (refusalNumber why.BadSettings ≡ 9)
