@@ -38,13 +38,20 @@ abbrev pub rowsAt : ℕ → List ℤ → List Triple
 rowsAt n [] = []
 rowsAt n (r ∷ rs) = planesAt r (n - natAbs r) (span (n - natAbs r)) ++ rowsAt n rs
 
--- the triples that the test tries for strength t, in their order: row 0 and plane 0 with a positive column, row 0 with a positive
--- plane, and a positive row
+-- the triples of an absolute sum of at most n of row 0 and plane 0 with a positive column, of row 0 with a positive plane, and
+-- with a positive row
+abbrev pub firstColumns : ℕ → List Triple
+firstColumns n = columnsAt (pos 0) (pos 0) (run (pos 1) n)
+
+abbrev pub firstPlanes : ℕ → List Triple
+firstPlanes n = planesAt (pos 0) n (run (pos 1) n)
+
+abbrev pub allRows : ℕ → List Triple
+allRows n = rowsAt n (run (pos 1) n)
+
+-- the triples that the test tries for strength t, in their order
 unfoldable pub order : ℕ → List Triple
-order t =
-    columnsAt (pos 0) (pos 0) (run (pos 1) (t - 1))
-    ++ (planesAt (pos 0) (t - 1) (run (pos 1) (t - 1))
-    ++ rowsAt (t - 1) (run (pos 1) (t - 1)))
+order t = firstColumns (t - 1) ++ (firstPlanes (t - 1) ++ allRows (t - 1))
 
 -- the absolute sum of a triple
 unfoldable pub magnitude : Triple → ℕ

@@ -1,8 +1,8 @@
 // The scan of the order: the triples are tried one by one, up to the first that fails.
 ghost use mathlib.Core.Path.{_≡_};
 ghost use Prim.Native.Nat.{_+_, _-_, _<_, _≤_};
-ghost use lib.IntN.{pos, natAbs};
-ghost use Rattle.lattice.specs.Order.{columnsAt, planesAt, rowsAt, order, run, span};
+ghost use lib.IntN.{natAbs};
+ghost use Rattle.lattice.specs.Order.{columnsAt, planesAt, allRows, order, run, span};
 ghost use Rattle.lattice.specs.DistanceTest.{nothing, after, scan, failsAt};
 ghost use Rattle.lattice.specs.Scanning.{scanOf};
 use crate::distance::Triple;
@@ -131,7 +131,7 @@ fn scan_row(k: Settings, row: i32, n: u32, tried: u32) -> Found
 // Tries the triples of the rows 1 to n of an absolute sum of at most n.
 fn scan_rows(k: Settings, n: u32) -> Found
     requires { ⌜ (0 < k .m) × (n < 32) ⌝ }
-    ensures { λ r. ⌜ scanOf r ≡ scan k (rowsAt n (run (pos 1) n)) ⌝ }
+    ensures { λ r. ⌜ scanOf r ≡ scan k (allRows n) ⌝ }
     ensures { λ r. ⌜ r .tried ≤ 131072 ⌝ }
 {
     let mut tried = 0;

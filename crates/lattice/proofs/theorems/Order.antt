@@ -5,11 +5,10 @@ use mathlib.Core.List.{_++_}
 use native.Mathlib.Decide.{decLt}
 use native.Mathlib.Omega.{arith}
 use lib.ListN.{length, getD}
-use Rattle.lattice.specs.Order.{origin, order, Before}
+use Rattle.lattice.specs.Order.{origin, firstColumns, firstPlanes, allRows, order, Before}
 use Rattle.lattice.specs.theorems.Order.{OrderLists, OrderLength}
 use Rattle.lattice.proofs.theory.Sorted.{place, member, sorted-at}
 use Rattle.lattice.proofs.theory.OrderParts.{from-order, to-order, sorted-order, not-before}
-use Rattle.lattice.proofs.theory.ScanOrder.{firstColumns, firstPlanes, allRows}
 use Rattle.lattice.proofs.theory.TripleCount.{count-parts, third}
 
 -- Theorem. For every t the order lists exactly the triples of absolute sum 1 to t − 1 whose first number that is not 0 is

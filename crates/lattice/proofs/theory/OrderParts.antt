@@ -8,10 +8,9 @@ use mathlib.Core.Path.{_≡_, refl, sym, _∙_, ap}
 use native.Mathlib.Omega.{arith}
 use lib.IntN.{ℤ, pos, natAbs, _+ℤ_, +ℤ-idr, +ℤ-invr}
 use Rattle.lattice.specs.declared.distance.Triple.{Triple}
-use Rattle.lattice.specs.Order.{columnsAt, order, magnitude, Less, Leading, Before}
+use Rattle.lattice.specs.Order.{columnsAt, firstColumns, firstPlanes, allRows, order, magnitude, Less, Leading, Before}
 use Rattle.lattice.proofs.theory.Sorted.{Sorted, sorted-append}
 use Rattle.lattice.proofs.theory.Blocks.{from-blocks, in-blocks}
-use Rattle.lattice.proofs.theory.ScanOrder.{firstColumns, firstPlanes, allRows}
 use Rattle.lattice.proofs.theory.OrderMembers.{triple-eq, columnBlock, from-planes, to-planes, from-rows, to-rows}
 use Rattle.lattice.proofs.theory.OrderMembers.{sorted-columns, sorted-planes, sorted-rows}
 

@@ -1,26 +1,15 @@
 -- The scan of the order, from the scans of its three parts.
 use Prim.Native.Nat.{ℕ, _+_, _-_}
 use mathlib.Core.Bool.{true, false}
-use mathlib.Core.List.{List, _++_}
+use mathlib.Core.List.{_++_}
 use mathlib.Core.Path.{_≡_, sym, _∙_, ap}
 use native.Mathlib.Omega.{arith}
-use lib.IntN.{pos}
 use Rattle.lattice.specs.declared.settings.Settings.{Settings}
-use Rattle.lattice.specs.declared.distance.Triple.{Triple}
-use Rattle.lattice.specs.Order.{run, columnsAt, planesAt, rowsAt, order}
+use Rattle.lattice.specs.Order.{firstColumns, firstPlanes, allRows, order}
 use Rattle.lattice.specs.DistanceTest.{after, scan, Scan}
 use Rattle.lattice.proofs.theory.Scan.{append-found, append-past, part-found, part-past}
 
--- the three parts of the order for strength n + 1
-abbrev pub firstColumns : ℕ → List Triple
-firstColumns n = columnsAt (pos 0) (pos 0) (run (pos 1) n)
-
-abbrev pub firstPlanes : ℕ → List Triple
-firstPlanes n = planesAt (pos 0) n (run (pos 1) n)
-
-abbrev pub allRows : ℕ → List Triple
-allRows n = rowsAt n (run (pos 1) n)
-
+-- the order for strength n + 1
 order-parts : (n : ℕ) → order (n + 1) ≡ firstColumns n ++ (firstPlanes n ++ allRows n)
 unfolding order
 order-parts n = ap (λ i. firstColumns i ++ (firstPlanes i ++ allRows i)) (let e : n + 1 - 1 ≡ n = omega arith in e)

@@ -6,8 +6,7 @@ use native.Mathlib.Nat.{zero-add, suc-add}
 use native.Mathlib.Omega.{arith}
 use lib.IntN.{ℤ, pos, negsuc, negℤ, natAbs, sucℤ}
 use lib.ListN.{length, length-append, length-map}
-use Rattle.lattice.specs.Order.{triple, run, span, columnsAt, planesAt, rowsAt}
-use Rattle.lattice.proofs.theory.ScanOrder.{firstColumns, firstPlanes, allRows}
+use Rattle.lattice.specs.Order.{triple, run, span, columnsAt, planesAt, rowsAt, firstColumns, firstPlanes, allRows}
 
 length-run : (z : ℤ) (n : ℕ) → length (run z n) ≡ n
 length-run z zero = refl

@@ -4,7 +4,7 @@ use Prim.Native.Nat.{_-_, _*_, _≤_}
 use mathlib.Core.Path.{_≡_, refl, sym, _∙_, ap}
 use native.Mathlib.Omega.{arith}
 use lib.IntN.{pos, _+ℤ_}
-use Rattle.lattice.specs.Order.{run, rowsAt}
+use Rattle.lattice.specs.Order.{rowsAt, allRows}
 use Rattle.lattice.specs.DistanceTest.{after, scan, Scan}
 use Rattle.lattice.specs.Scanning.{scanOf}
 use Rattle.lattice.proofs.theory.Words.{read, shifted-near, shifted-again}
@@ -16,7 +16,7 @@ abbrev Inv-loop : tie.InvT-loop
 Inv-loop k n tried₀ i₀ tried i =
     (i ≤ n)
     × (tried ≤ i * 4096)
-    × (scan k (rowsAt n (run (pos 1) n)) ≡ after tried (left k (rowsAt n) (pos 1) n i))
+    × (scan k (allRows n) ≡ after tried (left k (rowsAt n) (pos 1) n i))
 
 abbrev μ-loop : tie.MeasureT-loop
 μ-loop k n tried₀ i₀ tried i = n - i
