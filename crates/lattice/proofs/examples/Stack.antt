@@ -1,5 +1,5 @@
--- Examples in a stack that meet the hypotheses of the theorems on placing: 7 columns, 5 rows and 2 planes of strength 3, and a hole
--- across both planes.
+-- Examples in a stack that meet the hypotheses of the theorems on placing: 7 columns, 5 rows and 2 planes of strength 3, and a
+-- hole across both planes.
 use Prim.Native.Nat.{ℕ}
 use mathlib.Core.List.{List, [], _∷_, List·Memᴰ, List·Memᴰ·head, List·Memᴰ·tail, List·Memᴰ·eq-of-singleton}
 use mathlib.Core.Logic.{_≢_}

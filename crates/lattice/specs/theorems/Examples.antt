@@ -55,8 +55,8 @@ pub record PlacingExamples : Type 0 where
       (classGiven (sized 1 2 1 4) (cell 1 0 0) ≡ 3)
       × (classGiven (sized 1 13 1 5) (cell 12 0 0) ≡ 5)
       × (classGiven (sized 1 2 1 6) (cell 1 0 0) ≡ 11)
-  -- row 1, plane 1, column 3 of 7 columns, 5 rows, 2 planes: (1 × 5 + 1) × 7 + 3
-  pub byte-number : cellNumber (sized 7 5 2 3) (cell 1 1 3) ≡ 45
+  -- row 1, plane 1, column 2 of 7 columns, 5 rows, 2 planes: (1 × 5 + 1) × 7 + 2
+  pub byte-number : cellNumber (sized 7 5 2 3) (cell 1 1 2) ≡ 44
   -- positions in byte order, from 1: at strength 1 all cells are of one class
   pub positions : (position (layoutOf (sized 3 1 1 1)) 0 ≡ 1) × (position (layoutOf (sized 3 1 1 1)) 2 ≡ 3)
   -- the checks of a class of 7 cells: at 1, 2 and 4
