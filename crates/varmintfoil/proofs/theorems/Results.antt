@@ -1,0 +1,43 @@
+-- Worked examples of what C is given: the term of the theorem, by computation of the definitions.
+use Rattle.lattice.specs.Shape.{maxStrength, sizeOk, strengthOk, shapeNumber}
+use Rattle.lattice.specs.Range.{inRange}
+use Rattle.lattice.specs.Settings.{oddSettings, evenSettings, flatSettings, settingsFor}
+use Rattle.lattice.specs.Cell.{cellAt}
+use Rattle.lattice.specs.Class.{minusMod, classWith, classesOf, classOf, inside, classNumber, classGiven}
+use Rattle.lattice.specs.Position.{sizeTo, position}
+use Rattle.lattice.specs.Check.{isPower, isCheck, checks, holdsData, capacity}
+use Rattle.lattice.specs.Order.{order}
+use Rattle.lattice.specs.DistanceTest.{failsAt, outcome, testStrengthOk, testSettingsOk, testNumber, verdict, foundTriple}
+use Rattle.lattice.specs.DistanceTest.{triplesTried}
+use Rattle.codec.specs.Field.{isCell, isReceived, cellsOk, differences}
+use Rattle.codec.specs.Hamming.{tagsOf, isTag, inReach, allInReach, corrected}
+use Rattle.codec.specs.Payload.{payloadBytes, rank, padding, paddingOk, heldPayload}
+use Rattle.codec.specs.Plan.{planClasses, planCapacity, planBytes, planCells}
+use Rattle.codec.specs.Encode.{encodeNumber, encodeLeaves}
+use Rattle.codec.specs.Decode.{fieldNumber, correctedCount, decodeNumber, decodeCount}
+use Rattle.codec.specs.Correct.{correctNumber, correctCount, correctLeaves}
+use Rattle.varmintfoil.specs.theorems.Results.{ResultExamples}
+
+-- Theorem. The examples hold of whatever meets the contracts.
+pub resultExamples : ResultExamples
+unfolding
+    inRange maxStrength sizeOk strengthOk shapeNumber
+    oddSettings evenSettings flatSettings settingsFor cellAt minusMod classWith classesOf classOf inside classNumber classGiven
+    sizeTo position isPower isCheck checks holdsData capacity
+    order failsAt outcome testStrengthOk testSettingsOk testNumber verdict foundTriple triplesTried
+    isCell isReceived cellsOk differences tagsOf isTag inReach allInReach corrected
+    payloadBytes rank padding paddingOk heldPayload planClasses planCapacity planBytes planCells
+    encodeNumber encodeLeaves fieldNumber correctedCount decodeNumber decodeCount correctNumber correctCount correctLeaves
+resultExamples =
+    record {
+      plan = λ r x. (x .number, x .classes, x .capacity, x .bytes, x .cells);
+      class = λ r x. (x .number, x .class);
+      no-class = λ r x. (x .number, x .class);
+      encode = λ last r x. (x .number, x .leaves);
+      decode = λ last r x. (x .number, x .count);
+      no-decode = λ last r x. (x .number, x .count);
+      correct = λ last r x. (x .number, x .count, x .leaves);
+      no-correct = λ last r x. (x .number, x .count, x .leaves);
+      holds = λ r x. (x .number, x .holds, x .tried);
+      fails = λ r x. (x .number, x .holds, x .row, x .plane, x .column, x .tried);
+    }

@@ -1,0 +1,42 @@
+-- Worked examples of what C is given, with values that tell the members of a struct apart.
+use Prim.Native.Nat.{ℕ}
+use mathlib.Core.List.{List, [], _∷_}
+use mathlib.Core.Path.{_≡_}
+use lib.IntN.{pos, negsuc}
+use Rattle.lattice.specs.Cell.{cell}
+use Rattle.codec.specs.theorems.Examples.{five, pair}
+use Rattle.varmintfoil.specs.declared.PlanResult.{PlanResult}
+use Rattle.varmintfoil.specs.declared.ClassResult.{ClassResult}
+use Rattle.varmintfoil.specs.declared.CountResult.{CountResult}
+use Rattle.varmintfoil.specs.declared.DistanceResult.{DistanceResult}
+use Rattle.varmintfoil.specs.Boundary.{IsPlanResult, IsClassResult, IsEncodeResult, IsDecodeResult, IsCorrectResult}
+use Rattle.varmintfoil.specs.Boundary.{IsDistanceResult}
+
+-- Theorem. The examples hold of whatever meets the contracts.
+pub record ResultExamples : Type 0 where
+  -- 5 by 5 of strength 3 has 5 classes, 10 cells that hold no check, so one byte, and 25 cells
+  pub plan : (r : PlanResult) → IsPlanResult five r
+      → (r .number ≡ 0) × (r .classes ≡ 5) × (r .capacity ≡ 10) × (r .bytes ≡ 1) × (r .cells ≡ 25)
+  -- its row 1 and column 1 have the class (1 − 3 × 1) mod 5, and a row 5 it has not
+  pub class : (r : ClassResult) → IsClassResult five (cell 1 0 1) r → (r .number ≡ 0) × (r .«class_index» ≡ 3)
+  pub no-class : (r : ClassResult) → IsClassResult five (cell 5 0 1) r → (r .number ≡ 4) × (r .«class_index» ≡ 0)
+  -- 2 by 1 of strength 1 takes no byte; of its cells 0 1 one is mended, and 1 1 are out of reach
+  pub encode : (last : List ℕ) (r : ℕ) → IsEncodeResult pair (0 ∷ []) (0 ∷ 1 ∷ []) last r
+      → (r ≡ 3) × (last ≡ 0 ∷ 1 ∷ [])
+  pub decode : (last : List ℕ) (r : CountResult) → IsDecodeResult pair [] (0 ∷ 1 ∷ []) last r
+      → (r .number ≡ 0) × (r .count ≡ 1)
+  pub no-decode : (last : List ℕ) (r : CountResult) → IsDecodeResult pair [] (1 ∷ 1 ∷ []) last r
+      → (r .number ≡ 6) × (r .count ≡ 0)
+  pub correct : (last : List ℕ) (r : CountResult) → IsCorrectResult pair (0 ∷ 1 ∷ []) last r
+      → (r .number ≡ 0) × (r .count ≡ 1) × (last ≡ 0 ∷ 0 ∷ [])
+  pub no-correct : (last : List ℕ) (r : CountResult) → IsCorrectResult pair (1 ∷ 1 ∷ []) last r
+      → (r .number ≡ 6) × (r .count ≡ 0) × (last ≡ 1 ∷ 1 ∷ [])
+  -- 7, 2, 3 hold at t = 3 after 12 triples; at t = 4 they fail at row 0, plane 2 and column −1, the ninth
+  pub holds : (r : DistanceResult) → IsDistanceResult 7 2 3 3 r → (r .number ≡ 0) × (r .holds ≡ 1) × (r .tried ≡ 12)
+  pub fails : (r : DistanceResult) → IsDistanceResult 7 2 3 4 r
+      → (r .number ≡ 0)
+      × (r .holds ≡ 0)
+      × (r .row ≡ pos 0)
+      × (r .plane ≡ pos 2)
+      × (r .column ≡ negsuc 0)
+      × (r .tried ≡ 9)
