@@ -1,96 +1,90 @@
-// What the library gives, as an answer: the one place that knows its enums.
-use crate::answer;
-use crate::answer::Answer;
-use codec::correct::CorrectAnswer;
-use codec::decode::DecodeAnswer;
-use codec::encode::EncodeAnswer;
-use codec::plan::PlanAnswer;
-use lattice::class::CellClass;
-use lattice::distance::DistanceTest;
-use lattice::distance::Triple;
-use lattice::refusal::Refusal;
+// What the library gives, as an answer.
+ghost use Prim.Native.Nat.{_≤_};
+use lattice::distance::distance_test;
 use lattice::shape::NewShape;
 use lattice::shape::Shape;
+use lattice::shape::ShapeNumbers;
+use second::answer;
+use second::answer::Answer;
+use second::answer::Buffer;
 
-pub(crate) fn of_shape(s: Shape) -> Answer {
-    answer::of(
-        &[
-            s.columns as u64,
-            s.rows as u64,
-            s.planes as u64,
-            s.strength as u64,
-        ],
-    )
-}
-
-// The number of a refusal, as document 01 lists them.
-fn of_refusal(why: Refusal) -> Answer {
-    let number = match why {
-        Refusal::BadSize => 1,
-        Refusal::BadStrength => 2,
-        Refusal::PayloadLength => 3,
-        Refusal::FieldLength => 4,
-        Refusal::OutsideShape => 4,
-        Refusal::BadCell => 5,
-        Refusal::OutOfReach => 6,
-        Refusal::BadPadding => 7,
-        Refusal::BadForm => 8,
-        Refusal::BadSettings => 9,
-    };
-    answer::number(number)
-}
-
-pub(crate) fn of_new_shape(given: NewShape) -> Answer {
-    match given {
-        NewShape::Accepted(shape) => of_shape(shape),
-        NewShape::Refused(why) => of_refusal(why),
-    }
-}
-
-pub(crate) fn of_plan(given: PlanAnswer) -> Answer {
-    match given {
-        PlanAnswer::Planned(p) => answer::of(
-            &[
-                p.classes as u64,
-                p.capacity as u64,
-                p.bytes as u64,
-                p.cells as u64,
+// The figures: the numbers of the shape.
+pub(crate) fn shape(numbers: ShapeNumbers) -> Answer {
+    match Shape::new(numbers) {
+        NewShape::Accepted(s) => answer::of(
+            0,
+            [
+                s.columns as usize,
+                s.rows as usize,
+                s.planes as usize,
+                s.strength as usize,
+                0,
             ],
         ),
-        PlanAnswer::Refused(why) => of_refusal(why),
+        NewShape::Refused(why) => answer::of(why.number(), [0; 5]),
     }
 }
 
-pub(crate) fn of_class(given: CellClass) -> Answer {
-    match given {
-        CellClass::Class(a) => answer::of(&[a as u64]),
-        CellClass::Refused(why) => of_refusal(why),
+pub(crate) fn plan(shape: Shape) -> Answer {
+    let given = codec::plan::plan(shape);
+    let p = given.figures();
+    answer::of(given.number(), [p.classes, p.capacity, p.bytes, p.cells, 0])
+}
+
+pub(crate) fn class(shape: Shape, row: usize, plane: usize, column: usize) -> Answer {
+    let given = shape.class_of(row, plane, column);
+    answer::of(given.number(), [given.class(), 0, 0, 0, 0])
+}
+
+// The first `bytes` of a payload are written into the first `cells` of a field.
+pub(crate) fn encode(
+    shape: Shape,
+    payload: Buffer,
+    bytes: usize,
+    field: Buffer,
+    cells: usize,
+) -> Answer
+    requires { ⌜ (bytes ≤ 512) × (cells ≤ 512) ⌝ }
+{
+    let mut lent = field;
+    let given = codec::encode::encode(shape, &payload[..bytes], &mut lent[..cells]);
+    answer::leaving(given.number(), lent)
+}
+
+// The first `cells` of a field are read into the first `bytes` of a payload.
+pub(crate) fn decode(
+    shape: Shape,
+    payload: Buffer,
+    bytes: usize,
+    field: Buffer,
+    cells: usize,
+) -> Answer
+    requires { ⌜ (bytes ≤ 512) × (cells ≤ 512) ⌝ }
+{
+    let mut lent = payload;
+    let given = codec::decode::decode(shape, &mut lent[..bytes], &field[..cells]);
+    Answer {
+        number: given.number(),
+        figures: [given.count(), 0, 0, 0, 0],
+        buffer: lent,
     }
 }
 
-pub(crate) fn of_encode(given: EncodeAnswer) -> Answer {
-    match given {
-        EncodeAnswer::Encoded => answer::number(0),
-        EncodeAnswer::Refused(why) => of_refusal(why),
-    }
-}
-
-pub(crate) fn of_decode(given: DecodeAnswer) -> Answer {
-    match given {
-        DecodeAnswer::Decoded(count) => answer::of(&[count as u64]),
-        DecodeAnswer::Refused(why) => of_refusal(why),
-    }
-}
-
-pub(crate) fn of_correct(given: CorrectAnswer) -> Answer {
-    match given {
-        CorrectAnswer::Corrected(count) => answer::of(&[count as u64]),
-        CorrectAnswer::Refused(why) => of_refusal(why),
+// The first `cells` of a field are mended.
+pub(crate) fn correct(shape: Shape, field: Buffer, cells: usize) -> Answer
+    requires { ⌜ cells ≤ 512 ⌝ }
+{
+    let mut lent = field;
+    let given = codec::correct::correct(shape, &mut lent[..cells]);
+    Answer {
+        number: given.number(),
+        figures: [given.count(), 0, 0, 0, 0],
+        buffer: lent,
     }
 }
 
 // A coordinate from −17 to 17, with 17 added; 99 for any other.
-fn shifted(z: i32) -> u64 {
+fn shifted(z: i32) -> usize {
     match z {
         -17 => 0,
         -16 => 1,
@@ -131,32 +125,19 @@ fn shifted(z: i32) -> u64 {
     }
 }
 
-// The verdict, the triple and the number of triples tried.
-fn of_verdict(holds: u64, x: Triple, tried: u32) -> Answer {
+// The figures: whether the settings hold, the triple, with 17 added to each coordinate, and how many were tried.
+pub(crate) fn gauge(m: usize, b: usize, c: usize, t: usize) -> Answer {
+    let given = distance_test(m, b, c, t);
+    let x = given.triple();
+    let holds = if given.holds() { 1 } else { 0 };
     answer::of(
-        &[
+        given.number(),
+        [
             holds,
             shifted(x.row),
             shifted(x.plane),
             shifted(x.column),
-            tried as u64,
+            given.tried() as usize,
         ],
     )
-}
-
-// The settings hold where no triple fails.
-pub(crate) fn of_distance_test(given: DistanceTest) -> Answer {
-    match given {
-        DistanceTest::Holds(tried) => of_verdict(
-            1,
-            Triple {
-                row: 0,
-                plane: 0,
-                column: 0,
-            },
-            tried,
-        ),
-        DistanceTest::Fails(triple, tried) => of_verdict(0, triple, tried),
-        DistanceTest::Refused(why) => of_refusal(why),
-    }
 }

@@ -1,15 +1,12 @@
 // How often each operation gave each number, and how often the two implementations differed.
-ghost use Prim.Native.Nat.{_≤_};
-use crate::answer;
-use crate::answer::Answer;
+ghost use Prim.Native.Nat.{_<_};
 use crate::print;
+use crate::print::say;
+use second::answer::Answer;
+use second::answer::CELLS;
+use second::answer::FIGURES;
 
-// The numbers that an operation may give are those below it.
-pub(crate) const NUMBERS: usize = 10;
-
-// How many operations are compared.
-pub(crate) const OPERATIONS: usize = 7;
-
+// The operations that are compared.
 pub(crate) const SHAPE: usize = 0;
 
 pub(crate) const PLAN: usize = 1;
@@ -24,118 +21,106 @@ pub(crate) const MEND: usize = 5;
 
 pub(crate) const GAUGE: usize = 6;
 
-// How often an operation gave each number, and after those, how often it differed.
-type Row = [u64; NUMBERS + 1];
+// Of each operation: how often it was compared, how often it gave each number from 0 to 9, and how often it differed.
+const ROW: usize = 12;
 
-const DIFFERENCES: usize = NUMBERS;
+const NUMBERS: usize = 10;
 
-// A row for each operation.
-pub(crate) type Tally = [Row; OPERATIONS];
+const DIFFERENCES: usize = 11;
 
-// No count goes past it.
-const MOST: u64 = 1000000;
+pub(crate) const ENTRIES: usize = 7 * ROW;
 
-pub(crate) fn empty() -> Tally {
-    [[0; NUMBERS + 1]; OPERATIONS]
-}
+pub(crate) type Tally = [usize; ENTRIES];
 
 // Where a number is counted: one that no operation may give is a difference.
-fn entry(number: usize) -> usize
-    ensures { λ r. do ⌜ r ≤ (← ⟦DIFFERENCES⟧ .entry) ⌝ }
+fn of_number(number: usize) -> usize
+    ensures { λ r. ⌜ r < 12 ⌝ }
 {
     if number < NUMBERS {
-        number
+        1 + number
     } else {
         DIFFERENCES
     }
 }
 
-fn add(tally: &mut Tally, operation: usize, number: usize) {
-    if operation < OPERATIONS {
-        let k = entry(number);
-        let n = tally[operation][k];
-        if n < MOST {
-            tally[operation][k] = n + 1;
+fn add(tally: Tally, operation: usize, entry: usize) -> Tally
+    requires { ⌜ (operation < 7) × (entry < 12) ⌝ }
+{
+    let mut counts = tally;
+    let at = operation * ROW + entry;
+    counts[at] = std::num::wrapping_add_usize(counts[at], 1);
+    counts
+}
+
+// The number, every figure, and every byte of the lent buffer and of what lies behind the lent part.
+fn same(a: Answer, b: Answer) -> bool {
+    let mut i = 0;
+    while i < CELLS {
+        if a.buffer[i] != b.buffer[i] {
+            return false;
         }
+        if a.figures[i % FIGURES] != b.figures[i % FIGURES] {
+            return false;
+        }
+        i += 1;
     }
+    a.number == b.number
 }
 
-fn name(operation: usize) {
-    print::name(b"shape,plan,class,write,read,mend,gauge", operation);
+// Says what an operation gave, what was expected, and in which case. Where the two look alike, the buffers differ.
+fn differ(operation: usize, given: Answer, expected: Answer, case: usize, part: usize) {
+    let figures = given.figures;
+    let others = expected.figures;
+    say(operation, figures);
+    say(
+        print::DIFFERENCE,
+        [given.number, expected.number, case, part, 0],
+    );
+    say(print::ALL_FIGURES, figures);
+    say(print::ALL_FIGURES, others);
+    say(print::END_LINE, figures);
 }
 
-// How many numbers an operation is given at most: those of a shape and three more.
-const INPUTS: usize = 7;
-
-// The numbers that an operation was given.
-pub(crate) type Inputs = [u64; INPUTS];
-
-pub(crate) fn numbers(a: usize, b: usize, c: usize, d: usize) -> Inputs {
-    [a as u64, b as u64, c as u64, d as u64, 0, 0, 0]
-}
-
-// Says what an operation gave, what was expected and what the operation was given. Where the two look alike, the buffers differ.
-fn differ(operation: usize, given: Answer, expected: Answer, inputs: Inputs) {
-    name(operation);
-    answer::show(given);
-    print::text(b", expected");
-    answer::show(expected);
-    print::text(b", at");
-    print::numbers(&inputs);
-    print::end_line();
-}
-
-// Counts one comparison.
+// Counts one comparison. The case and its part are what the generator makes its input of.
 pub(crate) fn compare(
-    tally: &mut Tally,
+    tally: Tally,
     operation: usize,
     given: Answer,
     expected: Answer,
-    inputs: Inputs,
-) {
-    add(tally, operation, given.number);
-    if !answer::same(given, expected) {
-        add(tally, operation, DIFFERENCES);
-        differ(operation, given, expected, inputs);
+    case: usize,
+    part: usize,
+) -> Tally
+    requires { ⌜ operation < 7 ⌝ }
+{
+    let counts = add(add(tally, operation, 0), operation, of_number(given.number));
+    if same(given, expected) {
+        return counts;
     }
+    differ(operation, given, expected, case, part);
+    add(counts, operation, DIFFERENCES)
 }
 
-// The comparisons of an operation: as many as gave some number.
-fn comparisons(row: &Row) -> u64 {
-    let mut sum: u64 = 0;
-    let mut number = 0;
-    while number < NUMBERS {
-        if row[number] <= MOST {
-            sum += row[number];
-        }
-        number += 1;
+// An entry of an operation's row.
+fn entry(operation: usize, entry: usize, n: usize) {
+    if entry == 0 {
+        say(operation, [0; 5]);
+        say(print::COMPARED, [n, 0, 0, 0, 0]);
+        return;
     }
-    sum
-}
-
-// How often an operation gave each number, where it ever did.
-fn shares(row: &Row) {
-    let mut number = 0;
-    while number < NUMBERS {
-        if row[number] != 0 {
-            print::filled(b", # gave #", &[row[number], number as u64]);
-        }
-        number += 1;
+    if entry == DIFFERENCES {
+        say(print::DIFFER, [n, 0, 0, 0, 0]);
+        return;
     }
-}
-
-fn line(row: &Row, operation: usize) {
-    name(operation);
-    print::filled(b": # compared", &[comparisons(row)]);
-    shares(row);
-    print::filled(b", # differ\n", &[row[DIFFERENCES]]);
+    if n != 0 {
+        say(print::GAVE, [n, entry - 1, 0, 0, 0]);
+    }
 }
 
 // A line for each operation.
-pub(crate) fn lines(tally: &Tally) {
-    let mut operation = 0;
-    while operation < OPERATIONS {
-        line(&tally[operation], operation);
-        operation += 1;
+pub(crate) fn lines(tally: Tally) {
+    let mut i = 0;
+    while i < ENTRIES {
+        entry(i / ROW, i % ROW, tally[i]);
+        i += 1;
     }
 }

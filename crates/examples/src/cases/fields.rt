@@ -1,40 +1,33 @@
 // The cases of one shape: its plan, the classes of some cells, and fields that are written, damaged, read and mended.
 ghost use Prim.Native.Nat.{_<_, _≤_};
-use crate::answer::CELLS;
 use crate::cases::damage;
 use crate::cases::random;
 use crate::cases::shapes;
-use crate::compare;
-use crate::second;
-use crate::second::settings;
+use crate::given;
+use crate::tally;
 use crate::tally::Tally;
 use lattice::shape::Shape;
-
-fn at_most(x: u64, end: u64) -> usize
-    ensures { λ r. ⌜ r ≤ end ⌝ }
-{
-    if x < end { x as usize } else { end as usize }
-}
+use second::answer::CELLS;
 
 // The length of the lent field in a case: the plan's, or another one.
 fn field_length(case: usize, cells: usize) -> usize
-    requires { do ⌜ cells ≤ (← ⟦CELLS⟧) ⌝ }
-    ensures { λ r. do ⌜ r ≤ (← ⟦CELLS⟧ .entry) ⌝ }
+    requires { ⌜ cells ≤ 512 ⌝ }
+    ensures { λ r. ⌜ r ≤ 512 ⌝ }
 {
     match case {
         11 => cells / 2,
-        12 => if cells < CELLS { cells + 1 } else { 0 },
+        12 => (cells + 1) % (CELLS + 1),
         _ => cells,
     }
 }
 
 // The length of the lent payload in a case: the plan's, or another one.
 fn payload_length(case: usize, bytes: usize) -> usize
-    requires { do ⌜ bytes ≤ (← ⟦CELLS⟧) ⌝ }
-    ensures { λ r. do ⌜ r ≤ (← ⟦CELLS⟧ .entry) ⌝ }
+    requires { ⌜ bytes ≤ 512 ⌝ }
+    ensures { λ r. ⌜ r ≤ 512 ⌝ }
 {
     match case {
-        12 => if bytes < CELLS { bytes + 1 } else { 0 },
+        12 => (bytes + 1) % (CELLS + 1),
         13 => if 0 < bytes { bytes - 1 } else { 3 },
         _ => bytes,
     }
@@ -62,32 +55,42 @@ fn way(case: usize) -> usize {
     }
 }
 
-// One case of a shape: a payload is written, and a field, written and damaged, is read and mended.
-fn case(tally: &mut Tally, shape: Shape, cells: usize, bytes: usize, case: usize, x: u64)
-    requires { do ⌜ (0 < cells) × ((cells ≤ (← ⟦CELLS⟧)) × (bytes ≤ (← ⟦CELLS⟧))) ⌝ }
+// Part v of the cases of shape k: a payload is written, and a field, written and damaged, is read and mended.
+fn case(tally: Tally, shape: Shape, cells: usize, bytes: usize, k: usize, v: usize) -> Tally
+    requires { ⌜ (0 < cells) × (cells ≤ 512) × (bytes ≤ 512) ⌝ }
 {
+    let x = random::seed(k, v);
     let payload = random::buffer(x, 256);
     let before = random::buffer(random::next(x), 256);
-    let lent_cells = field_length(case, cells);
-    let lent_bytes = payload_length(case, bytes);
-    compare::coding::write(tally, shape, payload, lent_bytes, before, lent_cells);
-    let written = second::write::write_with(shape, payload, bytes, filler(case), before, cells);
-    let field = damage::damage(shape, cells, way(case), x, written);
-    compare::coding::read(tally, shape, before, lent_bytes, field, lent_cells);
-    compare::coding::mend(tally, shape, field, lent_cells);
+    let written = second::write::write(shape, payload, bytes, filler(v), before, cells).buffer;
+    let field = damage::damage(shape, cells, way(v), x, written);
+    let m = field_length(v, cells);
+    let n = payload_length(v, bytes);
+    let given = given::encode(shape, payload, n, before, m);
+    let expected = second::write::write(shape, payload, n, 0, before, m);
+    let wrote = tally::compare(tally, tally::WRITE, given, expected, k, v);
+    let given = given::decode(shape, before, n, field, m);
+    let expected = second::read::read(shape, before, n, field, m);
+    let read = tally::compare(wrote, tally::READ, given, expected, k, v);
+    let given = given::correct(shape, field, m);
+    let expected = second::read::mend(shape, field, m);
+    tally::compare(read, tally::MEND, given, expected, k, v)
 }
 
 // How often a field of a shape is written, read and mended.
 const CASES: usize = 14;
 
-fn cases(tally: &mut Tally, shape: Shape, cells: usize, bytes: usize, k: usize)
-    requires { do ⌜ (0 < cells) × ((cells ≤ (← ⟦CELLS⟧)) × (bytes ≤ (← ⟦CELLS⟧))) ⌝ }
+fn cases(before: Tally, shape: Shape, cells: usize, bytes: usize, k: usize) -> Tally
+    requires { ⌜ (0 < cells) × (cells ≤ 512) × (bytes ≤ 512) ⌝ }
 {
+    let mut tally = before;
     let mut v = 0;
     while v < CASES {
-        case(tally, shape, cells, bytes, v, random::seed(k, v));
+        let compared = case(tally, shape, cells, bytes, k, v);
+        tally = compared;
         v += 1;
     }
+    tally
 }
 
 // Some coordinate of a side, and now and then the first one past it.
@@ -98,54 +101,57 @@ fn coordinate(x: u64, side: u16) -> usize {
     if x % 16 == 0 {
         return side as usize;
     }
-    random::below(x, side as u64) as usize
+    random::below(x, side as usize)
 }
 
 // How many cells of a shape have their classes compared.
 const CLASSES: usize = 12;
 
-fn classes(tally: &mut Tally, shape: Shape, k: usize) {
+fn classes(before: Tally, shape: Shape, k: usize) -> Tally {
+    let mut tally = before;
     let mut x = random::seed(k, 200);
-    let mut v: usize = 0;
+    let mut v = 0;
     while v < CLASSES {
         let row = coordinate(x, shape.rows);
-        x = random::next(x);
-        let plane = coordinate(x, shape.planes);
-        x = random::next(x);
-        let column = coordinate(x, shape.columns);
-        x = random::next(x);
-        compare::placing::class(tally, shape, row, plane, column);
+        let y = random::next(x);
+        let plane = coordinate(y, shape.planes);
+        let z = random::next(y);
+        let column = coordinate(z, shape.columns);
+        x = random::next(z);
+        let given = given::class(shape, row, plane, column);
+        let expected = second::placing::class(shape, row, plane, column);
+        let compared = tally::compare(tally, tally::CLASS, given, expected, k, 200);
+        tally = compared;
         v += 1;
     }
+    tally
 }
 
-// The cells of an accepted shape that is small enough, the most that are lent of a larger one, and 0 for a refused one.
-fn cells_of(shape: Shape) -> usize
-    ensures { λ r. do ⌜ r ≤ (← ⟦CELLS⟧ .entry) ⌝ }
+fn at_most_cells(x: usize) -> usize
+    ensures { λ r. ⌜ r ≤ 512 ⌝ }
 {
-    if settings::refusal(shape) != 0 {
-        return 0;
-    }
-    at_most(settings::cells(shape), CELLS as u64)
+    if x < CELLS { x } else { CELLS }
 }
 
 // All that is compared of one shape. Where the plan's lengths are not those of a small field, others are lent.
-fn all_of(tally: &mut Tally, shape: Shape, k: usize) {
-    compare::placing::plan(tally, shape);
-    classes(tally, shape, k);
-    let cells = cells_of(shape);
+fn all_of(before: Tally, shape: Shape, k: usize) -> Tally {
+    let expected = second::placing::plan(shape);
+    let planned = tally::compare(before, tally::PLAN, given::plan(shape), expected, k, 0);
+    let placed = classes(planned, shape, k);
+    let cells = at_most_cells(expected.figures[3]);
     if cells == 0 {
-        cases(tally, shape, 7, 1, k);
-    } else {
-        let bytes = at_most(second::plan::capacity(shape) / 8, CELLS as u64);
-        cases(tally, shape, cells, bytes, k);
+        return cases(placed, shape, 7, 1, k);
     }
+    cases(placed, shape, cells, at_most_cells(expected.figures[2]), k)
 }
 
-pub(crate) fn all(tally: &mut Tally) {
+pub(crate) fn all(before: Tally) -> Tally {
+    let mut tally = before;
     let mut k = 0;
     while k < shapes::SHAPES {
-        all_of(tally, shapes::shape(k), k);
+        let compared = all_of(tally, shapes::shape(k), k as usize);
+        tally = compared;
         k += 1;
     }
+    tally
 }

@@ -1,7 +1,6 @@
 // Flat shapes, stacks and refused shapes.
-ghost use Prim.Native.Nat.{_+_, _<_, _≤_};
+ghost use Prim.Native.Nat.{_<_, _≤_};
 use crate::cases::random;
-use crate::second::settings;
 use lattice::shape::Shape;
 
 fn shape_of(columns: u16, rows: u16, planes: u16, strength: u16) -> Shape {
@@ -14,42 +13,42 @@ fn shape_of(columns: u16, rows: u16, planes: u16, strength: u16) -> Shape {
 }
 
 // How many shapes of each kind there are.
-const FLAT: usize = 96;
+const FLAT: u16 = 96;
 
-const STACKS: usize = 64;
+const STACKS: u16 = 64;
 
-const ODD: usize = 20;
+const ODD: u16 = 20;
 
-const FLAT_EDGES: usize = 192;
+const FLAT_EDGES: u16 = 192;
 
-const STACK_EDGES: usize = 48;
+const STACK_EDGES: u16 = 48;
 
-pub(crate) const SHAPES: usize = FLAT + STACKS + ODD + FLAT_EDGES + STACK_EDGES;
+pub(crate) const SHAPES: u16 = FLAT + STACKS + ODD + FLAT_EDGES + STACK_EDGES;
+
+// A flat shape of some sides from `low` on.
+fn small(low: u16, columns: usize, rows: usize, x: u64, t: u16) -> Shape
+    requires { ⌜ (low ≤ 9) × (0 < columns) × (columns ≤ 99) × (0 < rows) × (rows ≤ 99) ⌝ }
+{
+    shape_of(
+        low + random::below(x, columns) as u16,
+        low + random::below(random::next(x), rows) as u16,
+        1,
+        t,
+    )
+}
 
 // Case k of the flat shapes: each strength from 1 to 32, each with a small, a middling and a large field.
-fn flat(k: usize) -> Shape
-    requires { do ⌜ k < (← ⟦FLAT⟧) ⌝ }
-{
-    let t = (k / 3 + 1) as u16;
-    let x = random::seed(k, 100);
+fn flat(k: u16) -> Shape {
+    let t = k / 3 + 1;
+    let x = random::seed(k as usize, 100);
     match k % 3 {
-        0 => shape_of(
-            1 + random::below(x, 9) as u16,
-            1 + random::below(random::next(x), 9) as u16,
-            1,
-            t,
-        ),
-        1 => shape_of(
-            3 + random::below(x, 12) as u16,
-            3 + random::below(random::next(x), 10) as u16,
-            1,
-            t,
-        ),
+        0 => small(1, 9, 9, x, t),
+        1 => small(3, 12, 10, x, t),
         _ => large(k / 3, t),
     }
 }
 
-fn large(k: usize, t: u16) -> Shape {
+fn large(k: u16, t: u16) -> Shape {
     match k % 6 {
         0 => shape_of(22, 23, 1, t),
         1 => shape_of(256, 2, 1, t),
@@ -61,10 +60,8 @@ fn large(k: usize, t: u16) -> Shape {
 }
 
 // Case k of the stacks: each strength from 1 to 8, with rows, planes and columns that all differ.
-fn stack(k: usize) -> Shape
-    requires { do ⌜ k < (← ⟦STACKS⟧) ⌝ }
-{
-    let t = (k / 8 + 1) as u16;
+fn stack(k: u16) -> Shape {
+    let t = k / 8 + 1;
     match k % 8 {
         0 => shape_of(5, 4, 3, t),
         1 => shape_of(3, 7, 5, t),
@@ -78,7 +75,7 @@ fn stack(k: usize) -> Shape
 }
 
 // Shapes that plan declines, and large ones whose buffers are not of the plan's length.
-fn odd(k: usize) -> Shape {
+fn odd(k: u16) -> Shape {
     match k {
         0 => shape_of(0, 5, 1, 3),
         1 => shape_of(5, 0, 1, 3),
@@ -104,69 +101,66 @@ fn odd(k: usize) -> Shape {
 }
 
 // A side of about x cells.
-fn side(x: u64) -> u16
+fn side(x: u16) -> u16
     ensures { λ r. ⌜ (0 < r) × (r ≤ 256) ⌝ }
 {
     if x == 0 {
         1
     } else if x <= 256 {
-        x as u16
+        x
     } else {
         256
     }
 }
 
-// As many rows as a small field has room for.
-fn rows_beside(columns: u16, planes: u16) -> u16 {
-    let line = settings::times(columns, planes);
-    if line == 0 {
-        return 1;
-    }
-    side(512 / line)
-}
-
-// Shape `kind` at the edges of the classes: one column, one row, and one column less than classes, as many, and one above a
+// Shape `kind` at the edges of m classes: one column, one row, and one column less than classes, as many, and one above a
 // multiple of them.
-fn edge(kind: usize, planes: u16, strength: u16) -> Shape {
-    let m = settings::settings_of(shape_of(1, 1, planes, strength)).m as u64;
-    let columns = match kind {
+fn columns_at(kind: u16, m: u16) -> u16
+    requires { ⌜ m ≤ 512 ⌝ }
+    ensures { λ r. ⌜ (0 < r) × (r ≤ 256) ⌝ }
+{
+    match kind {
         0 => 1,
-        1 => side(2 * m + 1),
         2 => if 1 < m { side(m - 1) } else { 2 },
         3 => side(m),
         4 => side(m + 1),
         _ => side(2 * m + 1),
-    };
+    }
+}
+
+// That shape, with as many rows as a small field has room for.
+fn edge(kind: u16, planes: u16, strength: u16) -> Shape
+    requires { ⌜ (0 < planes) × (planes ≤ 3) ⌝ }
+{
+    let m = second::placing::plan(shape_of(1, 1, planes, strength)).figures[0];
+    let columns = columns_at(kind, m as u16);
     let rows = if kind == 1 {
         1
     } else {
-        rows_beside(columns, planes)
+        side(512 / columns / planes)
     };
     shape_of(columns, rows, planes, strength)
 }
 
 // Case k of the edges: each strength from 1 to 32 in one plane, then each from 1 to 8 in two planes or three.
-fn edge_case(k: usize) -> Shape
-    requires { do ⌜ k < (← ⟦FLAT_EDGES⟧) + (← ⟦STACK_EDGES⟧) ⌝ }
-{
+fn edge_case(k: u16) -> Shape {
     if k < FLAT_EDGES {
-        return edge(k % 6, 1, (k / 6 + 1) as u16);
+        return edge(k % 6, 1, k / 6 + 1);
     }
     let j = k - FLAT_EDGES;
-    edge(j % 6, (2 + j % 2) as u16, (j / 6 + 1) as u16)
+    edge(j % 6, 2 + j % 2, j / 6 + 1)
 }
 
 // Shape k: the flat ones, the stacks, the odd ones, and those at the edges of the classes.
-pub(crate) fn shape(k: usize) -> Shape
-    requires { do ⌜ k < (← ⟦SHAPES⟧) ⌝ }
-{
+pub(crate) fn shape(k: u16) -> Shape {
     if k < FLAT {
-        flat(k)
-    } else if k < FLAT + STACKS {
-        stack(k - FLAT)
-    } else if k < FLAT + STACKS + ODD {
-        odd(k - FLAT - STACKS)
-    } else {
-        edge_case(k - FLAT - STACKS - ODD)
+        return flat(k);
     }
+    if k < FLAT + STACKS {
+        return stack(k - FLAT);
+    }
+    if k < FLAT + STACKS + ODD {
+        return odd(k - FLAT - STACKS);
+    }
+    edge_case(k - FLAT - STACKS - ODD)
 }

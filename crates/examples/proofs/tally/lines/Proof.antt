@@ -1,15 +1,14 @@
 -- `lines` is safe and ends.
 use Prim.Native.Nat.{_≤_, _-_}
 use borrow.Author.Needs.{needs}
-use Rattle.examples.proofs.Turns.{turns}
 use Rattle.examples.proofs.tally.lines.Statement.{statement}
 use Rattle.examples.proofs.tally.lines.Tie as tie
 
 abbrev Inv-loop : tie.InvT-loop
-Inv-loop tally operation₀ operation = operation ≤ turns
+Inv-loop tally i₀ i = i ≤ 84
 
 abbrev μ-loop : tie.MeasureT-loop
-μ-loop tally operation₀ operation = turns - operation
+μ-loop tally i₀ i = 84 - i
 
 pub lines-spec : {M : Type 1} → statement M
 lines-spec =

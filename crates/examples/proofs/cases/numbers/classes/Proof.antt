@@ -1,19 +1,18 @@
 -- `classes` is safe and ends.
 use Prim.Native.Nat.{_≤_, _-_}
 use borrow.Author.Needs.{needs}
-use Rattle.examples.proofs.Turns.{turns}
 use Rattle.examples.proofs.cases.numbers.classes.Statement.{statement}
 use Rattle.examples.proofs.cases.numbers.classes.Tie as tie
 
 abbrev Inv-loop : tie.InvT-loop
-Inv-loop tally₀ shape k₀ tally k = k ≤ turns
+Inv-loop shape tally₀ k₀ tally k = k ≤ 200
 
 abbrev μ-loop : tie.MeasureT-loop
-μ-loop tally₀ shape k₀ tally k = turns - k
+μ-loop shape tally₀ k₀ tally k = 200 - k
 
 pub classes-spec : {M : Type 1} → statement M
 classes-spec =
     tie.close
     (tie.spec Inv-loop μ-loop (λ c. search needs) (λ c κs. search needs) (λ c κs. search needs) (λ c κs. search needs)
-    (λ c κs. search needs) (λ c κs. search needs) (λ c κs. search needs) (λ c κs. search needs) (λ c. search needs)
-    (λ c. search needs) (λ c. search needs) (λ c. search needs))
+    (λ c κs. search needs) (λ c κs. search needs) (λ c. search needs) (λ c. search needs) (λ c. search needs)
+    (λ c. search needs))

@@ -1,18 +1,18 @@
 -- `gauges` is safe and ends.
 use Prim.Native.Nat.{_≤_, _-_}
 use borrow.Author.Needs.{needs}
-use Rattle.examples.proofs.Turns.{turns}
 use Rattle.examples.proofs.cases.numbers.gauges.Statement.{statement}
 use Rattle.examples.proofs.cases.numbers.gauges.Tie as tie
 
 abbrev Inv-loop : tie.InvT-loop
-Inv-loop tally₀ k₀ tally k = k ≤ turns
+Inv-loop tally₀ k₀ tally k = k ≤ 400
 
 abbrev μ-loop : tie.MeasureT-loop
-μ-loop tally₀ k₀ tally k = turns - k
+μ-loop tally₀ k₀ tally k = 400 - k
 
 pub gauges-spec : {M : Type 1} → statement M
 gauges-spec =
     tie.close
-    (tie.spec Inv-loop μ-loop (λ c. search needs) (λ c κs. search needs) (λ c. search needs) (λ c. search needs)
-    (λ c. search needs) (λ c. search needs))
+    (tie.spec Inv-loop μ-loop (λ c. search needs) (λ c κs. search needs) (λ c κs. search needs) (λ c κs. search needs)
+    (λ c κs. search needs) (λ c κs. search needs) (λ c κs. search needs) (λ c κs. search needs) (λ c. search needs)
+    (λ c. search needs) (λ c. search needs) (λ c. search needs))

@@ -1,0 +1,66 @@
+// Which class each cell of a small field has, and which cells hold checks.
+ghost use Prim.Native.Nat.{_<_, _≤_};
+use crate::answer::CELLS;
+use crate::settings;
+use crate::settings::CLASSES;
+use crate::settings::Settings;
+use lattice::shape::Shape;
+
+// The entry of a cell: its class, with CHECK added where it holds a check.
+pub(crate) type Layout = [u16; CELLS];
+
+pub(crate) const CHECK: u16 = 1024;
+
+// The entry past the end of the field. It is above those of cells with no check and below those of check cells.
+pub(crate) const NO_CELL: u16 = 512;
+
+// The class of the cell that is byte i of a field.
+fn class_of_byte(shape: Shape, s: Settings, i: u16) -> usize
+    requires { ⌜ s .m ≤ 512 ⌝ }
+    ensures { λ r. ⌜ r < 512 ⌝ }
+{
+    let columns = shape.columns;
+    let rows = shape.rows;
+    if columns == 0 {
+        return 0;
+    }
+    if rows == 0 {
+        return 0;
+    }
+    settings::class(s, i / columns % rows, i / columns / rows, i % columns)
+}
+
+// The entry of the next cell of class a, which is counted. A check stands at the positions 1, 2, 4 and so on of a class.
+fn entry(sizes: &mut [u32; CLASSES], a: usize) -> u16
+    requires { ⌜ a < 512 ⌝ }
+    ensures { λ r. ⌜ r < 2048 ⌝ }
+{
+    let position = std::num::wrapping_add_u32(sizes[a], 1);
+    sizes[a] = position;
+    if u32::count_ones(position) == 1 {
+        return CHECK + a as u16;
+    }
+    a as u16
+}
+
+// The layout of the first cells of an accepted shape. Gives the capacity of the shape: how many of its cells hold no check.
+pub(crate) fn lay_out(shape: Shape, layout: &mut Layout) -> usize
+    ensures { λ r. ⌜ r ≤ 65536 ⌝ }
+{
+    let s = settings::settings_of(shape);
+    let cells = settings::cells(shape);
+    let mut sizes = [0u32; CLASSES];
+    let mut capacity = 0;
+    let mut i = 0;
+    while i < cells {
+        let e = entry(&mut sizes, class_of_byte(shape, s, i as u16));
+        if e < NO_CELL {
+            capacity += 1;
+        }
+        if i < CELLS {
+            layout[i] = e;
+        }
+        i += 1;
+    }
+    capacity
+}

@@ -1,0 +1,9 @@
+// The second implementation: plan, class, write, read, mend and gauge, written from document 01 alone and naively, by search.
+pub mod answer;
+pub mod gauge;
+mod lawful;
+mod layout;
+pub mod placing;
+pub mod read;
+mod settings;
+pub mod write;

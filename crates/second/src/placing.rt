@@ -1,0 +1,53 @@
+// The number of a shape, the plan of a field and the class of a cell.
+ghost use Prim.Native.Nat.{_<_, _≤_};
+ghost use lib.ListN.{getD};
+use crate::answer;
+use crate::answer::Answer;
+use crate::answer::CELLS;
+use crate::layout::NO_CELL;
+use crate::layout::lay_out;
+use crate::settings;
+use lattice::shape::Shape;
+
+// The number with which a shape is declined, 0 where it is accepted.
+pub fn shape(shape: Shape) -> usize
+    ensures { λ r. ⌜ r ≤ 2 ⌝ }
+{
+    settings::refusal(shape)
+}
+
+// The figures: m, K, payload bytes and cells.
+pub fn plan(shape: Shape) -> Answer
+    ensures { λ r. ⌜ (r .number ≤ 2) × (getD (r .figures) 0 0 ≤ 512) ⌝ }
+{
+    let number = settings::refusal(shape);
+    if number != 0 {
+        return answer::of(number, [0; 5]);
+    }
+    let s = settings::settings_of(shape);
+    let mut layout = [NO_CELL; CELLS];
+    let k = lay_out(shape, &mut layout);
+    answer::of(0, [s.m as usize, k, k / 8, settings::cells(shape), 0])
+}
+
+// The figure: the class.
+pub fn class(shape: Shape, row: usize, plane: usize, column: usize) -> Answer
+    ensures { λ r. ⌜ (r .number ≤ 4) × (getD (r .figures) 0 0 < 512) ⌝ }
+{
+    let number = settings::refusal(shape);
+    if number != 0 {
+        return answer::of(number, [0; 5]);
+    }
+    if shape.rows as usize <= row {
+        return answer::of(4, [0; 5]);
+    }
+    if shape.planes as usize <= plane {
+        return answer::of(4, [0; 5]);
+    }
+    if shape.columns as usize <= column {
+        return answer::of(4, [0; 5]);
+    }
+    let s = settings::settings_of(shape);
+    let a = settings::class(s, row as u16, plane as u16, column as u16);
+    answer::of(0, [a, 0, 0, 0, 0])
+}

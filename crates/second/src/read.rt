@@ -1,0 +1,197 @@
+// Reading and mending: class by class, the lawful class that differs in at most one cell, by search.
+ghost use mathlib.Core.Path.{_≡_};
+ghost use Prim.Native.Nat.{_≤_};
+ghost use lib.ListN.{getD};
+use crate::answer;
+use crate::answer::Answer;
+use crate::answer::Buffer;
+use crate::answer::CELLS;
+use crate::lawful::lawful;
+use crate::layout::CHECK;
+use crate::layout::Layout;
+use crate::layout::NO_CELL;
+use crate::layout::lay_out;
+use crate::settings;
+use crate::write;
+use lattice::shape::Shape;
+
+// Whether one of the first `cells` bytes of a field is not 0 or 1.
+fn is_soiled(cells: usize, field: &Buffer) -> bool {
+    let mut i = 0;
+    while i < CELLS {
+        if i < cells {
+            if 1 < field[i] {
+                return true;
+            }
+        }
+        i += 1;
+    }
+    false
+}
+
+// The number with which a field of so many cells is declined before it is looked at class by class, 0 where it is accepted.
+fn refusal(shape: Shape, field: &Buffer, cells: usize) -> usize
+    ensures { λ r. ⌜ r ≤ 5 ⌝ }
+{
+    let number = settings::refusal(shape);
+    if number != 0 {
+        return number;
+    }
+    if cells != settings::cells(shape) {
+        return 4;
+    }
+    if CELLS < cells {
+        return 4;
+    }
+    if is_soiled(cells, field) { 5 } else { 0 }
+}
+
+pub fn turned_over(cell: u8) -> u8
+    ensures { λ r. ⌜ r ≤ 1 ⌝ }
+{
+    if cell == 0 { 1 } else { 0 }
+}
+
+// More than there are classes.
+const OUT_OF_REACH: usize = 513;
+
+// Turns over the cell of class a that makes the class lawful. Gives how many cells are turned over: none where the class is
+// lawful as it is, and OUT_OF_REACH where no cell of it makes it lawful.
+fn mend_class(layout: &Layout, a: u16, field: &mut Buffer) -> usize
+    ensures { λ r. ⌜ r ≤ 513 ⌝ }
+{
+    if lawful(layout, a, field) {
+        return 0;
+    }
+    let mut j = 0;
+    while j < CELLS {
+        if layout[j] % CHECK == a {
+            field[j] = turned_over(field[j]);
+            if lawful(layout, a, field) {
+                return 1;
+            }
+            field[j] = turned_over(field[j]);
+        }
+        j += 1;
+    }
+    OUT_OF_REACH
+}
+
+// The same for each of m classes: OUT_OF_REACH or more where some class is out of reach.
+fn mend_classes(layout: &Layout, m: u16, field: &mut Buffer) -> usize {
+    let mut count = 0;
+    let mut a = 0;
+    while a < m {
+        count += mend_class(layout, a, field);
+        a += 1;
+    }
+    count
+}
+
+// What the cells that hold no check spell, eight to a byte. In the last byte stand those that are left over, the filler.
+fn spelt(layout: &Layout, field: &Buffer) -> Buffer {
+    let mut spelt = [0u8; CELLS];
+    let mut k = 0;
+    let mut i = 0;
+    while i < CELLS {
+        if layout[i] < NO_CELL {
+            spelt[k / 8] = (spelt[k / 8] << 1) | field[i];
+            k += 1;
+        }
+        i += 1;
+    }
+    spelt[CELLS - 1] = spelt[k / 8];
+    spelt
+}
+
+// What is found of a field: the number, how many cells are turned over, the mended field and what it spells.
+struct Found {
+    number: usize,
+    count: usize,
+    field: Buffer,
+    payload: Buffer,
+}
+
+fn declined(number: usize, field: Buffer) -> Found
+    ensures { λ r. ⌜ (r .number ≡ number) × (r .count ≡ 0) ⌝ }
+{
+    Found {
+        number,
+        count: 0,
+        field,
+        payload: [0; CELLS],
+    }
+}
+
+fn search(shape: Shape, field: Buffer, cells: usize) -> Found
+    ensures { λ r. ⌜ (r .number ≤ 7) × (r .count ≤ 512) ⌝ }
+{
+    let number = refusal(shape, &field, cells);
+    if number != 0 {
+        return declined(number, field);
+    }
+    let mut layout = [NO_CELL; CELLS];
+    lay_out(shape, &mut layout);
+    let mut mended = field;
+    let count = mend_classes(&layout, settings::settings_of(shape).m, &mut mended);
+    if OUT_OF_REACH <= count {
+        return declined(6, field);
+    }
+    let payload = spelt(&layout, &mended);
+    if payload[CELLS - 1] != 0 {
+        return declined(7, field);
+    }
+    Found {
+        number: 0,
+        count,
+        field: mended,
+        payload,
+    }
+}
+
+// Mends the first `cells` of a field. The figure: the count. A field that is longer than the buffer is declined with 4.
+pub fn mend(shape: Shape, field: Buffer, cells: usize) -> Answer
+    ensures { λ r. ⌜ (r .number ≤ 7) × (getD (r .figures) 0 0 ≤ 512) ⌝ }
+{
+    let found = search(shape, field, cells);
+    let buffer = found.field;
+    Answer {
+        number: found.number,
+        figures: [found.count, 0, 0, 0, 0],
+        buffer,
+    }
+}
+
+// The start of a buffer, before what is left of another.
+fn joined(start: Buffer, length: usize, rest: Buffer) -> Buffer {
+    let mut buffer = rest;
+    let mut q = 0;
+    while q < CELLS {
+        if q < length {
+            buffer[q] = start[q];
+        }
+        q += 1;
+    }
+    buffer
+}
+
+// Reads the first `cells` of a field into the first `bytes` of a payload. The figure: the count. A field that is longer than
+// the buffer is declined with 4.
+pub fn read(shape: Shape, payload: Buffer, bytes: usize, field: Buffer, cells: usize) -> Answer
+    ensures { λ r. ⌜ (r .number ≤ 7) × (getD (r .figures) 0 0 ≤ 512) ⌝ }
+{
+    let number = write::refusal(shape, bytes);
+    if number != 0 {
+        return answer::leaving(number, payload);
+    }
+    let found = search(shape, field, cells);
+    if found.number != 0 {
+        return answer::leaving(found.number, payload);
+    }
+    let spelt = found.payload;
+    Answer {
+        number: 0,
+        figures: [found.count, 0, 0, 0, 0],
+        buffer: joined(spelt, bytes, payload),
+    }
+}

@@ -1,0 +1,128 @@
+// The limits of a shape, its settings, and the class of a cell.
+ghost use Prim.Native.Nat.{_<_, _≤_};
+use lattice::shape::Shape;
+
+// A cell is of class (column − b × row − c × plane) mod m.
+pub(crate) struct Settings {
+    pub(crate) m: u16,
+    pub(crate) b: u16,
+    pub(crate) c: u16,
+}
+
+// The most classes that a shape has.
+pub(crate) const CLASSES: usize = 512;
+
+const MOST_CELLS: usize = 65536;
+
+fn times(x: u16, y: u16) -> usize
+    ensures { λ r. ⌜ r < 4294967296 ⌝ }
+{
+    x as usize * y as usize
+}
+
+// W × H × D, and 0 where that is above 65,536.
+pub(crate) fn cells(shape: Shape) -> usize
+    ensures { λ r. ⌜ r ≤ 65536 ⌝ }
+{
+    let area = times(shape.columns, shape.rows);
+    let cells = area * shape.planes as usize;
+    if MOST_CELLS < cells { 0 } else { cells }
+}
+
+// Whether x is not from 1 to `high`.
+fn outside(high: usize, x: usize) -> bool {
+    if x == 0 {
+        return true;
+    }
+    high < x
+}
+
+// The number with which a shape is declined, 0 where it is accepted.
+pub(crate) fn refusal(shape: Shape) -> usize
+    ensures { λ r. ⌜ r ≤ 2 ⌝ }
+{
+    if outside(256, shape.columns as usize) {
+        return 1;
+    }
+    if outside(256, shape.rows as usize) {
+        return 1;
+    }
+    if outside(16, shape.planes as usize) {
+        return 1;
+    }
+    if cells(shape) == 0 {
+        return 1;
+    }
+    let most = if shape.planes == 1 { 32 } else { 8 };
+    if outside(most, shape.strength as usize) {
+        return 2;
+    }
+    0
+}
+
+fn stack(t: u16) -> Settings
+    ensures { λ r. ⌜ r .m ≤ 512 ⌝ }
+{
+    match t {
+        1 => Settings { m: 1, b: 0, c: 0 },
+        2 => Settings { m: 2, b: 1, c: 1 },
+        3 => Settings { m: 7, b: 2, c: 3 },
+        4 => Settings { m: 12, b: 3, c: 5 },
+        5 => Settings { m: 27, b: 4, c: 10 },
+        6 => Settings { m: 38, b: 7, c: 11 },
+        7 => Settings {
+            m: 70,
+            b: 16,
+            c: 25,
+        },
+        _ => Settings { m: 92, b: 9, c: 39 },
+    }
+}
+
+// An even square is halved, and of an odd one the half is rounded up.
+fn flat(t: u16) -> Settings
+    requires { ⌜ t ≤ 32 ⌝ }
+    ensures { λ r. ⌜ r .m ≤ 512 ⌝ }
+{
+    let b = if t % 2 == 1 { t } else { t + 1 };
+    let m = (t * t + 1) / 2;
+    Settings { m, b, c: 0 }
+}
+
+// The settings of an accepted shape.
+pub(crate) fn settings_of(shape: Shape) -> Settings
+    ensures { λ r. ⌜ r .m ≤ 512 ⌝ }
+{
+    let t = shape.strength;
+    if shape.planes == 1 {
+        if t <= 32 {
+            return flat(t);
+        }
+    }
+    stack(t)
+}
+
+// b × row + c × plane.
+pub(crate) fn steps(s: Settings, row: u16, plane: u16) -> usize
+    ensures { λ r. ⌜ r < 8589934592 ⌝ }
+{
+    times(s.b, row) + times(s.c, plane)
+}
+
+// The class of a cell, by search: the first a of 0 to m − 1 of which a + b × row + c × plane and the column have the same
+// remainder.
+pub(crate) fn class(s: Settings, row: u16, plane: u16, column: u16) -> usize
+    requires { ⌜ s .m ≤ 512 ⌝ }
+    ensures { λ r. ⌜ r < 512 ⌝ }
+{
+    let m = s.m as usize;
+    let before = steps(s, row, plane);
+    let mut a = 0;
+    while a < m {
+        if (a + before) % m == column as usize % m {
+            return a;
+        }
+        a += 1;
+    }
+    0
+}

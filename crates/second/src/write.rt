@@ -1,0 +1,126 @@
+// Writing: the payload's bits and the filler, and then, class by class, the check cells by search.
+ghost use Prim.Native.Nat.{_≤_};
+use crate::answer;
+use crate::answer::Answer;
+use crate::answer::Buffer;
+use crate::answer::CELLS;
+use crate::lawful::lawful;
+use crate::layout::CHECK;
+use crate::layout::Layout;
+use crate::layout::NO_CELL;
+use crate::layout::lay_out;
+use crate::placing::plan;
+use crate::settings;
+use lattice::shape::Shape;
+
+// Bit k of a payload of so many bytes, the highest bit of a byte first, and past its end the filler.
+fn bit(payload: &Buffer, bytes: usize, filler: u8, k: usize) -> u8 {
+    let q = k / 8;
+    if CELLS <= q {
+        return filler;
+    }
+    if q < bytes {
+        (payload[q] >> (7 - k % 8)) % 2
+    } else {
+        filler
+    }
+}
+
+// The cells that hold no check, in byte order; a check cell is 0 for now.
+fn lay(layout: &Layout, payload: &Buffer, bytes: usize, filler: u8, field: &mut Buffer) {
+    let mut k = 0;
+    let mut i = 0;
+    while i < CELLS {
+        let e = layout[i];
+        if e < NO_CELL {
+            field[i] = bit(payload, bytes, filler, k);
+            k += 1;
+        }
+        if NO_CELL < e {
+            field[i] = 0;
+        }
+        i += 1;
+    }
+}
+
+// The next filling of the check cells of class a, as binary digits count up.
+fn next_filling(layout: &Layout, a: u16, field: &mut Buffer) {
+    let mut i = 0;
+    while i < CELLS {
+        if layout[i] == a {
+            if field[i] == 0 {
+                field[i] = 1;
+                return;
+            }
+            field[i] = 0;
+        }
+        i += 1;
+    }
+}
+
+// A class has at most 10 check cells, each 0 or 1, and there are at most 512 classes.
+const FILLINGS: u32 = 1024 * 512;
+
+// Tries every filling of the check cells of a class until the class is lawful, and then goes on to the next of m classes.
+fn settle(layout: &Layout, m: u16, field: &mut Buffer)
+    requires { ⌜ m ≤ 512 ⌝ }
+{
+    let mut a = 0;
+    let mut tried = 0;
+    while tried < FILLINGS {
+        if m <= a {
+            return;
+        }
+        if lawful(layout, a, field) {
+            a += 1;
+        } else {
+            next_filling(layout, CHECK + a, field);
+        }
+        tried += 1;
+    }
+}
+
+// The number with which a shape or a payload of so many bytes is declined, 0 where both are accepted.
+pub(crate) fn refusal(shape: Shape, bytes: usize) -> usize
+    ensures { λ r. ⌜ r ≤ 3 ⌝ }
+{
+    let p = plan(shape);
+    if p.number != 0 {
+        return p.number;
+    }
+    if bytes != p.figures[2] {
+        return 3;
+    }
+    0
+}
+
+// Writes the first `bytes` of a payload into the first `cells` of a field, where those are the lengths of the plan, with cells
+// past the payload that hold `filler`: document 01 has them 0. What lies behind the field stays. A field that is longer than
+// the buffer is declined with 4, whatever its plan.
+pub fn write(
+    shape: Shape,
+    payload: Buffer,
+    bytes: usize,
+    filler: u8,
+    field: Buffer,
+    cells: usize,
+) -> Answer
+    ensures { λ r. ⌜ r .number ≤ 4 ⌝ }
+{
+    let number = refusal(shape, bytes);
+    if number != 0 {
+        return answer::leaving(number, field);
+    }
+    if cells != settings::cells(shape) {
+        return answer::leaving(4, field);
+    }
+    if CELLS < cells {
+        return answer::leaving(4, field);
+    }
+    let mut layout = [NO_CELL; CELLS];
+    lay_out(shape, &mut layout);
+    let mut written = field;
+    lay(&layout, &payload, bytes, filler, &mut written);
+    settle(&layout, settings::settings_of(shape).m, &mut written);
+    answer::leaving(0, written)
+}
