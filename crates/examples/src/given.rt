@@ -8,19 +8,14 @@ use second::answer;
 use second::answer::Answer;
 use second::answer::Buffer;
 
-// The figures: the numbers of the shape.
+// The figures: the numbers of a shape.
+pub(crate) fn of_numbers(n: ShapeNumbers) -> Answer {
+    answer::of(0, [n.columns, n.rows, n.planes, n.strength, 0])
+}
+
 pub(crate) fn shape(numbers: ShapeNumbers) -> Answer {
     match Shape::new(numbers) {
-        NewShape::Accepted(s) => answer::of(
-            0,
-            [
-                s.columns as usize,
-                s.rows as usize,
-                s.planes as usize,
-                s.strength as usize,
-                0,
-            ],
-        ),
+        NewShape::Accepted(s) => of_numbers(s.numbers()),
         NewShape::Refused(why) => answer::of(why.number(), [0; 5]),
     }
 }

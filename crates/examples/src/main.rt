@@ -7,8 +7,6 @@ mod worked;
 
 fn main() {
     worked::run();
-    let made = cases::numbers::shapes([0; tally::ENTRIES]);
-    let placed = cases::numbers::classes(made);
-    let coded = cases::fields::all(placed);
-    tally::lines(cases::numbers::gauges(coded));
+    let counts = cases::numbers::all([0; tally::ENTRIES]);
+    tally::lines(cases::fields::all(counts));
 }

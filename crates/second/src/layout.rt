@@ -15,12 +15,12 @@ pub(crate) const CHECK: u16 = 1024;
 pub(crate) const NO_CELL: u16 = 512;
 
 // The class of the cell that is byte i of a field.
-fn class_of_byte(shape: Shape, s: Settings, i: u16) -> usize
+fn class_of_byte(shape: Shape, s: Settings, i: usize) -> usize
     requires { ⌜ s .m ≤ 512 ⌝ }
     ensures { λ r. ⌜ r < 512 ⌝ }
 {
-    let columns = shape.columns;
-    let rows = shape.rows;
+    let columns = shape.columns as usize;
+    let rows = shape.rows as usize;
     if columns == 0 {
         return 0;
     }
@@ -53,7 +53,7 @@ pub(crate) fn lay_out(shape: Shape, layout: &mut Layout) -> usize
     let mut capacity = 0;
     let mut i = 0;
     while i < cells {
-        let e = entry(&mut sizes, class_of_byte(shape, s, i as u16));
+        let e = entry(&mut sizes, class_of_byte(shape, s, i));
         if e < NO_CELL {
             capacity += 1;
         }

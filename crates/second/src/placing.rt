@@ -30,24 +30,34 @@ pub fn plan(shape: Shape) -> Answer
     answer::of(0, [s.m as usize, k, k / 8, settings::cells(shape), 0])
 }
 
+// The number with which the class of a cell is declined, 0 where the cell lies in an accepted shape.
+fn refusal(shape: Shape, row: usize, plane: usize, column: usize) -> usize
+    ensures { λ r. ⌜ r ≤ 4 ⌝ }
+{
+    let number = settings::refusal(shape);
+    if number != 0 {
+        return number;
+    }
+    if shape.rows as usize <= row {
+        return 4;
+    }
+    if shape.planes as usize <= plane {
+        return 4;
+    }
+    if shape.columns as usize <= column {
+        return 4;
+    }
+    0
+}
+
 // The figure: the class.
 pub fn class(shape: Shape, row: usize, plane: usize, column: usize) -> Answer
     ensures { λ r. ⌜ (r .number ≤ 4) × (getD (r .figures) 0 0 < 512) ⌝ }
 {
-    let number = settings::refusal(shape);
+    let number = refusal(shape, row, plane, column);
     if number != 0 {
         return answer::of(number, [0; 5]);
     }
-    if shape.rows as usize <= row {
-        return answer::of(4, [0; 5]);
-    }
-    if shape.planes as usize <= plane {
-        return answer::of(4, [0; 5]);
-    }
-    if shape.columns as usize <= column {
-        return answer::of(4, [0; 5]);
-    }
-    let s = settings::settings_of(shape);
-    let a = settings::class(s, row as u16, plane as u16, column as u16);
+    let a = settings::class(settings::settings_of(shape), row, plane, column);
     answer::of(0, [a, 0, 0, 0, 0])
 }

@@ -1,5 +1,4 @@
 // Reading and mending: class by class, the lawful class that differs in at most one cell, by search.
-ghost use mathlib.Core.Path.{_≡_};
 ghost use Prim.Native.Nat.{_≤_};
 ghost use lib.ListN.{getD};
 use crate::answer;
@@ -11,6 +10,7 @@ use crate::layout::CHECK;
 use crate::layout::Layout;
 use crate::layout::NO_CELL;
 use crate::layout::lay_out;
+use crate::placing::plan;
 use crate::settings;
 use crate::write;
 use lattice::shape::Shape;
@@ -29,29 +29,6 @@ fn is_soiled(cells: usize, field: &Buffer) -> bool {
     false
 }
 
-// The number with which a field of so many cells is declined before it is looked at class by class, 0 where it is accepted.
-fn refusal(shape: Shape, field: &Buffer, cells: usize) -> usize
-    ensures { λ r. ⌜ r ≤ 5 ⌝ }
-{
-    let number = settings::refusal(shape);
-    if number != 0 {
-        return number;
-    }
-    if cells != settings::cells(shape) {
-        return 4;
-    }
-    if CELLS < cells {
-        return 4;
-    }
-    if is_soiled(cells, field) { 5 } else { 0 }
-}
-
-pub fn turned_over(cell: u8) -> u8
-    ensures { λ r. ⌜ r ≤ 1 ⌝ }
-{
-    if cell == 0 { 1 } else { 0 }
-}
-
 // More than there are classes.
 const OUT_OF_REACH: usize = 513;
 
@@ -66,11 +43,11 @@ fn mend_class(layout: &Layout, a: u16, field: &mut Buffer) -> usize
     let mut j = 0;
     while j < CELLS {
         if layout[j] % CHECK == a {
-            field[j] = turned_over(field[j]);
+            field[j] = field[j] ^ 1;
             if lawful(layout, a, field) {
                 return 1;
             }
-            field[j] = turned_over(field[j]);
+            field[j] = field[j] ^ 1;
         }
         j += 1;
     }
@@ -95,7 +72,8 @@ fn spelt(layout: &Layout, field: &Buffer) -> Buffer {
     let mut i = 0;
     while i < CELLS {
         if layout[i] < NO_CELL {
-            spelt[k / 8] = (spelt[k / 8] << 1) | field[i];
+            let q = k / 8;
+            spelt[q] = (spelt[q] << 1) | field[i];
             k += 1;
         }
         i += 1;
@@ -104,61 +82,31 @@ fn spelt(layout: &Layout, field: &Buffer) -> Buffer {
     spelt
 }
 
-// What is found of a field: the number, how many cells are turned over, the mended field and what it spells.
-struct Found {
-    number: usize,
-    count: usize,
-    field: Buffer,
-    payload: Buffer,
-}
-
-fn declined(number: usize, field: Buffer) -> Found
-    ensures { λ r. ⌜ (r .number ≡ number) × (r .count ≡ 0) ⌝ }
+// Mends the first `cells` of a field. The figure: the count.
+pub fn mend(shape: Shape, field: Buffer, cells: usize) -> Answer
+    ensures { λ r. ⌜ (r .number ≤ 7) × (getD (r .figures) 0 0 ≤ 512) ⌝ }
 {
-    Found {
-        number,
-        count: 0,
-        field,
-        payload: [0; CELLS],
-    }
-}
-
-fn search(shape: Shape, field: Buffer, cells: usize) -> Found
-    ensures { λ r. ⌜ (r .number ≤ 7) × (r .count ≤ 512) ⌝ }
-{
-    let number = refusal(shape, &field, cells);
+    let number = write::refusal(shape, plan(shape).figures[2], cells);
     if number != 0 {
-        return declined(number, field);
+        return answer::leaving(number, field);
+    }
+    if is_soiled(cells, &field) {
+        return answer::leaving(5, field);
     }
     let mut layout = [NO_CELL; CELLS];
     lay_out(shape, &mut layout);
     let mut mended = field;
     let count = mend_classes(&layout, settings::settings_of(shape).m, &mut mended);
     if OUT_OF_REACH <= count {
-        return declined(6, field);
+        return answer::leaving(6, field);
     }
-    let payload = spelt(&layout, &mended);
-    if payload[CELLS - 1] != 0 {
-        return declined(7, field);
+    if spelt(&layout, &mended)[CELLS - 1] != 0 {
+        return answer::leaving(7, field);
     }
-    Found {
-        number: 0,
-        count,
-        field: mended,
-        payload,
-    }
-}
-
-// Mends the first `cells` of a field. The figure: the count. A field that is longer than the buffer is declined with 4.
-pub fn mend(shape: Shape, field: Buffer, cells: usize) -> Answer
-    ensures { λ r. ⌜ (r .number ≤ 7) × (getD (r .figures) 0 0 ≤ 512) ⌝ }
-{
-    let found = search(shape, field, cells);
-    let buffer = found.field;
     Answer {
-        number: found.number,
-        figures: [found.count, 0, 0, 0, 0],
-        buffer,
+        number: 0,
+        figures: [count, 0, 0, 0, 0],
+        buffer: mended,
     }
 }
 
@@ -175,23 +123,26 @@ fn joined(start: Buffer, length: usize, rest: Buffer) -> Buffer {
     buffer
 }
 
-// Reads the first `cells` of a field into the first `bytes` of a payload. The figure: the count. A field that is longer than
-// the buffer is declined with 4.
+// Reads the first `cells` of a field into the first `bytes` of a payload. The figure: the count.
 pub fn read(shape: Shape, payload: Buffer, bytes: usize, field: Buffer, cells: usize) -> Answer
-    ensures { λ r. ⌜ (r .number ≤ 7) × (getD (r .figures) 0 0 ≤ 512) ⌝ }
+    ensures { λ r. ⌜ r .number ≤ 7 ⌝ }
 {
-    let number = write::refusal(shape, bytes);
+    let number = write::refusal(shape, bytes, cells);
     if number != 0 {
         return answer::leaving(number, payload);
     }
-    let found = search(shape, field, cells);
+    let found = mend(shape, field, cells);
     if found.number != 0 {
         return answer::leaving(found.number, payload);
     }
-    let spelt = found.payload;
+    let mut layout = [NO_CELL; CELLS];
+    lay_out(shape, &mut layout);
+    let mended = found.buffer;
+    let figures = found.figures;
+    let buffer = joined(spelt(&layout, &mended), bytes, payload);
     Answer {
         number: 0,
-        figures: [found.count, 0, 0, 0, 0],
-        buffer: joined(spelt, bytes, payload),
+        figures,
+        buffer,
     }
 }

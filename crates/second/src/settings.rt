@@ -14,17 +14,18 @@ pub(crate) const CLASSES: usize = 512;
 
 const MOST_CELLS: usize = 65536;
 
-fn times(x: u16, y: u16) -> usize
+// The product with a number below 65,536.
+fn times(x: u16, y: usize) -> usize
     ensures { λ r. ⌜ r < 4294967296 ⌝ }
 {
-    x as usize * y as usize
+    x as usize * (y % 65536)
 }
 
 // W × H × D, and 0 where that is above 65,536.
 pub(crate) fn cells(shape: Shape) -> usize
     ensures { λ r. ⌜ r ≤ 65536 ⌝ }
 {
-    let area = times(shape.columns, shape.rows);
+    let area = times(shape.columns, shape.rows as usize);
     let cells = area * shape.planes as usize;
     if MOST_CELLS < cells { 0 } else { cells }
 }
@@ -103,7 +104,7 @@ pub(crate) fn settings_of(shape: Shape) -> Settings
 }
 
 // b × row + c × plane.
-pub(crate) fn steps(s: Settings, row: u16, plane: u16) -> usize
+pub(crate) fn steps(s: Settings, row: usize, plane: usize) -> usize
     ensures { λ r. ⌜ r < 8589934592 ⌝ }
 {
     times(s.b, row) + times(s.c, plane)
@@ -111,7 +112,7 @@ pub(crate) fn steps(s: Settings, row: u16, plane: u16) -> usize
 
 // The class of a cell, by search: the first a of 0 to m − 1 of which a + b × row + c × plane and the column have the same
 // remainder.
-pub(crate) fn class(s: Settings, row: u16, plane: u16, column: u16) -> usize
+pub(crate) fn class(s: Settings, row: usize, plane: usize, column: usize) -> usize
     requires { ⌜ s .m ≤ 512 ⌝ }
     ensures { λ r. ⌜ r < 512 ⌝ }
 {
@@ -119,7 +120,7 @@ pub(crate) fn class(s: Settings, row: u16, plane: u16, column: u16) -> usize
     let before = steps(s, row, plane);
     let mut a = 0;
     while a < m {
-        if (a + before) % m == column as usize % m {
+        if (a + before) % m == column % m {
             return a;
         }
         a += 1;

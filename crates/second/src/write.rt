@@ -80,9 +80,10 @@ fn settle(layout: &Layout, m: u16, field: &mut Buffer)
     }
 }
 
-// The number with which a shape or a payload of so many bytes is declined, 0 where both are accepted.
-pub(crate) fn refusal(shape: Shape, bytes: usize) -> usize
-    ensures { λ r. ⌜ r ≤ 3 ⌝ }
+// The number with which a shape is declined, or a payload or a field that has not the length of the plan, 0 where all are
+// accepted. A field that is longer than the buffer is declined with 4, whatever its plan.
+pub(crate) fn refusal(shape: Shape, bytes: usize, cells: usize) -> usize
+    ensures { λ r. ⌜ r ≤ 4 ⌝ }
 {
     let p = plan(shape);
     if p.number != 0 {
@@ -91,12 +92,17 @@ pub(crate) fn refusal(shape: Shape, bytes: usize) -> usize
     if bytes != p.figures[2] {
         return 3;
     }
+    if cells != p.figures[3] {
+        return 4;
+    }
+    if CELLS < cells {
+        return 4;
+    }
     0
 }
 
 // Writes the first `bytes` of a payload into the first `cells` of a field, where those are the lengths of the plan, with cells
-// past the payload that hold `filler`: document 01 has them 0. What lies behind the field stays. A field that is longer than
-// the buffer is declined with 4, whatever its plan.
+// past the payload that hold `filler`: document 01 has them 0. What lies behind the field stays.
 pub fn write(
     shape: Shape,
     payload: Buffer,
@@ -107,15 +113,9 @@ pub fn write(
 ) -> Answer
     ensures { λ r. ⌜ r .number ≤ 4 ⌝ }
 {
-    let number = refusal(shape, bytes);
+    let number = refusal(shape, bytes, cells);
     if number != 0 {
         return answer::leaving(number, field);
-    }
-    if cells != settings::cells(shape) {
-        return answer::leaving(4, field);
-    }
-    if CELLS < cells {
-        return answer::leaving(4, field);
     }
     let mut layout = [NO_CELL; CELLS];
     lay_out(shape, &mut layout);

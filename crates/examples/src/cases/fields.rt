@@ -33,15 +33,6 @@ fn payload_length(case: usize, bytes: usize) -> usize
     }
 }
 
-// What the cells past the payload hold when a case's field is written: 0, but for the cases of wrong filler.
-fn filler(case: usize) -> u8 {
-    match case {
-        8 => 1,
-        9 => 1,
-        _ => 0,
-    }
-}
-
 // How a case's field is damaged.
 fn way(case: usize) -> usize {
     match case {
@@ -62,7 +53,9 @@ fn case(tally: Tally, shape: Shape, cells: usize, bytes: usize, k: usize, v: usi
     let x = random::seed(k, v);
     let payload = random::buffer(x, 256);
     let before = random::buffer(random::next(x), 256);
-    let written = second::write::write(shape, payload, bytes, filler(v), before, cells).buffer;
+    // The cells past the payload are 0, but for the two parts with wrong filler.
+    let filler = if v / 2 == 4 { 1 } else { 0 };
+    let written = second::write::write(shape, payload, bytes, filler, before, cells).buffer;
     let field = damage::damage(shape, cells, way(v), x, written);
     let m = field_length(v, cells);
     let n = payload_length(v, bytes);
@@ -77,22 +70,6 @@ fn case(tally: Tally, shape: Shape, cells: usize, bytes: usize, k: usize, v: usi
     tally::compare(read, tally::MEND, given, expected, k, v)
 }
 
-// How often a field of a shape is written, read and mended.
-const CASES: usize = 14;
-
-fn cases(before: Tally, shape: Shape, cells: usize, bytes: usize, k: usize) -> Tally
-    requires { ⌜ (0 < cells) × (cells ≤ 512) × (bytes ≤ 512) ⌝ }
-{
-    let mut tally = before;
-    let mut v = 0;
-    while v < CASES {
-        let compared = case(tally, shape, cells, bytes, k, v);
-        tally = compared;
-        v += 1;
-    }
-    tally
-}
-
 // Some coordinate of a side, and now and then the first one past it.
 fn coordinate(x: u64, side: u16) -> usize {
     if side == 0 {
@@ -104,24 +81,48 @@ fn coordinate(x: u64, side: u16) -> usize {
     random::below(x, side as usize)
 }
 
-// How many cells of a shape have their classes compared.
+// The class of a cell.
+pub(crate) fn class(
+    tally: Tally,
+    shape: Shape,
+    row: usize,
+    plane: usize,
+    column: usize,
+    k: usize,
+) -> Tally {
+    let given = given::class(shape, row, plane, column);
+    let expected = second::placing::class(shape, row, plane, column);
+    tally::compare(tally, tally::CLASS, given, expected, k, 0)
+}
+
+// The class of some cell.
+fn some_class(tally: Tally, shape: Shape, x: u64, k: usize) -> Tally {
+    let row = coordinate(x, shape.rows);
+    let y = random::next(x);
+    let plane = coordinate(y, shape.planes);
+    let column = coordinate(random::next(y), shape.columns);
+    class(tally, shape, row, plane, column, k)
+}
+
+// How many cells of a shape have their classes compared, and how often a field of a shape is written, read and mended.
 const CLASSES: usize = 12;
 
-fn classes(before: Tally, shape: Shape, k: usize) -> Tally {
+const CASES: usize = 14;
+
+fn cases(before: Tally, shape: Shape, cells: usize, bytes: usize, k: usize) -> Tally
+    requires { ⌜ (0 < cells) × (cells ≤ 512) × (bytes ≤ 512) ⌝ }
+{
     let mut tally = before;
     let mut x = random::seed(k, 200);
     let mut v = 0;
-    while v < CLASSES {
-        let row = coordinate(x, shape.rows);
-        let y = random::next(x);
-        let plane = coordinate(y, shape.planes);
-        let z = random::next(y);
-        let column = coordinate(z, shape.columns);
-        x = random::next(z);
-        let given = given::class(shape, row, plane, column);
-        let expected = second::placing::class(shape, row, plane, column);
-        let compared = tally::compare(tally, tally::CLASS, given, expected, k, 200);
-        tally = compared;
+    while v < CASES {
+        let coded = case(tally, shape, cells, bytes, k, v);
+        tally = coded;
+        if v < CLASSES {
+            let placed = some_class(coded, shape, x, k);
+            tally = placed;
+        }
+        x = random::next(random::next(random::next(x)));
         v += 1;
     }
     tally
@@ -137,12 +138,11 @@ fn at_most_cells(x: usize) -> usize
 fn all_of(before: Tally, shape: Shape, k: usize) -> Tally {
     let expected = second::placing::plan(shape);
     let planned = tally::compare(before, tally::PLAN, given::plan(shape), expected, k, 0);
-    let placed = classes(planned, shape, k);
     let cells = at_most_cells(expected.figures[3]);
     if cells == 0 {
-        return cases(placed, shape, 7, 1, k);
+        return cases(planned, shape, 7, 1, k);
     }
-    cases(placed, shape, cells, at_most_cells(expected.figures[2]), k)
+    cases(planned, shape, cells, at_most_cells(expected.figures[2]), k)
 }
 
 pub(crate) fn all(before: Tally) -> Tally {

@@ -1,6 +1,8 @@
 // Cases for making a shape, the class of a cell far outside, and the gauge.
 ghost use Prim.Native.Nat.{_<_};
+use crate::cases::fields;
 use crate::cases::random;
+use crate::cases::shapes::shape_of;
 use crate::given;
 use crate::tally;
 use crate::tally::Tally;
@@ -49,16 +51,10 @@ fn expected(n: ShapeNumbers) -> Answer {
     if number != 0 {
         return answer::of(number, [0; 5]);
     }
-    answer::of(0, [n.columns, n.rows, n.planes, n.strength, 0])
+    given::of_numbers(n)
 }
 
-// How many shapes are made, cells outside a shape looked up, and settings gauged.
-const SHAPES: usize = 600;
-
-const CLASSES: usize = 200;
-
-const GAUGES: usize = 400;
-
+// Four numbers near a limit, for a shape, or three of them for a cell.
 fn numbers(x: u64) -> ShapeNumbers {
     let y = random::next(x);
     let z = random::next(y);
@@ -70,37 +66,16 @@ fn numbers(x: u64) -> ShapeNumbers {
     }
 }
 
-pub(crate) fn shapes(before: Tally) -> Tally {
-    let mut tally = before;
-    let mut k = 0;
-    while k < SHAPES {
-        let n = numbers(random::seed(k, 300));
-        let compared = tally::compare(tally, tally::SHAPE, given::shape(n), expected(n), k, 300);
-        tally = compared;
-        k += 1;
-    }
-    tally
+// Making a shape.
+fn shape(tally: Tally, k: usize) -> Tally {
+    let n = numbers(random::seed(k, 300));
+    tally::compare(tally, tally::SHAPE, given::shape(n), expected(n), k, 300)
 }
 
-// Cells far outside a shape.
-pub(crate) fn classes(before: Tally) -> Tally {
-    let shape = Shape {
-        columns: 16,
-        rows: 9,
-        planes: 2,
-        strength: 5,
-    };
-    let mut tally = before;
-    let mut k = 0;
-    while k < CLASSES {
-        let n = numbers(random::seed(k, 400));
-        let given = given::class(shape, n.columns, n.rows, n.planes);
-        let expected = second::placing::class(shape, n.columns, n.rows, n.planes);
-        let compared = tally::compare(tally, tally::CLASS, given, expected, k, 400);
-        tally = compared;
-        k += 1;
-    }
-    tally
+// A cell far outside a shape.
+fn class(tally: Tally, k: usize) -> Tally {
+    let n = numbers(random::seed(k, 400));
+    fields::class(tally, shape_of(16, 9, 2, 5), n.columns, n.rows, n.planes, k)
 }
 
 // The kinds of settings: of the stack's table, near the limits, and with few or many classes. Of each kind the least m, b, c and
@@ -183,24 +158,31 @@ fn setting(k: usize, i: usize) -> usize {
     wide(LEAST[at]) + random::below(x, wide(BEYOND[at]) + 1)
 }
 
-pub(crate) fn gauges(before: Tally) -> Tally {
+fn gauge(tally: Tally, k: usize) -> Tally {
+    let m = setting(k, 0);
+    let b = setting(k, 1);
+    let c = setting(k, 2);
+    let t = setting(k, 3);
+    let expected = second::gauge::gauge(m, b, c, t);
+    tally::compare(
+        tally,
+        tally::GAUGE,
+        given::gauge(m, b, c, t),
+        expected,
+        k,
+        500,
+    )
+}
+
+// In 200 rounds 3 shapes are made, a cell is looked up and 2 settings are gauged.
+pub(crate) fn all(before: Tally) -> Tally {
     let mut tally = before;
     let mut k = 0;
-    while k < GAUGES {
-        let m = setting(k, 0);
-        let b = setting(k, 1);
-        let c = setting(k, 2);
-        let t = setting(k, 3);
-        let expected = second::gauge::gauge(m, b, c, t);
-        let compared = tally::compare(
-            tally,
-            tally::GAUGE,
-            given::gauge(m, b, c, t),
-            expected,
-            k,
-            500,
-        );
-        tally = compared;
+    while k < 200 {
+        let made = shape(shape(shape(tally, k), k + 200), k + 400);
+        let gauged = gauge(gauge(made, k), k + 200);
+        let placed = class(gauged, k);
+        tally = placed;
         k += 1;
     }
     tally

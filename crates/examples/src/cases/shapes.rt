@@ -3,7 +3,7 @@ ghost use Prim.Native.Nat.{_<_, _≤_};
 use crate::cases::random;
 use lattice::shape::Shape;
 
-fn shape_of(columns: u16, rows: u16, planes: u16, strength: u16) -> Shape {
+pub(crate) fn shape_of(columns: u16, rows: u16, planes: u16, strength: u16) -> Shape {
     Shape {
         columns,
         rows,

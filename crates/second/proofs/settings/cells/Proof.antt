@@ -8,6 +8,6 @@ use Rattle.second.proofs.settings.cells.Tie as tie
 pub cells-spec : {M : Type 1} → statement M
 cells-spec =
     tie.close
-    (tie.spec (λ c κs. search needs) (λ c. search needs)
-    (λ c. omega (arith, mul-le-mul {n₁ = c .before .times .result} {m₁ = c .before .before .args .shape .planes} {n₂ = 4294967295} {m₂ = 65535} (omega arith) (omega arith)))
+    (tie.spec (λ c. search needs) (λ c κs. search needs) (λ c. search needs)
+    (λ c. omega (arith, mul-le-mul {n₁ = c .before .times .result} {m₁ = c .before .before .before .args .shape .planes} {n₂ = 4294967295} {m₂ = 65535} (omega arith) (omega arith)))
     (λ c. search needs) (λ c. search needs))

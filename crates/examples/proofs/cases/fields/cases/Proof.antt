@@ -5,13 +5,14 @@ use Rattle.examples.proofs.cases.fields.cases.Statement.{statement}
 use Rattle.examples.proofs.cases.fields.cases.Tie as tie
 
 abbrev Inv-loop : tie.InvT-loop
-Inv-loop shape cells bytes k tally₀ v₀ tally v = v ≤ 14
+Inv-loop shape cells bytes k tally₀ x₀ v₀ tally x v = v ≤ 14
 
 abbrev μ-loop : tie.MeasureT-loop
-μ-loop shape cells bytes k tally₀ v₀ tally v = 14 - v
+μ-loop shape cells bytes k tally₀ x₀ v₀ tally x v = 14 - v
 
 pub cases-spec : {M : Type 1} → statement M
 cases-spec =
     tie.close
-    (tie.spec Inv-loop μ-loop (λ c. search needs) (λ c κs. search needs) (λ c. search needs) (λ c. search needs)
+    (tie.spec Inv-loop μ-loop (λ c κs. search needs) (λ c. search needs) (λ c κs. search needs) (λ c κs. search needs)
+    (λ c κs. search needs) (λ c κs. search needs) (λ c κs. search needs) (λ c. search needs) (λ c. search needs)
     (λ c. search needs) (λ c. search needs))
