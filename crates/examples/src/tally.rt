@@ -3,8 +3,10 @@ ghost use Prim.Native.Nat.{_<_};
 use crate::print;
 use crate::print::say;
 use second::answer::Answer;
+use second::answer::Buffer;
 use second::answer::CELLS;
 use second::answer::FIGURES;
+use second::answer::Figures;
 
 // The operations that are compared.
 pub(crate) const SHAPE: usize = 0;
@@ -52,19 +54,42 @@ fn add(tally: Tally, operation: usize, entry: usize) -> Tally
     counts
 }
 
-// The number, every figure, and every byte of the lent buffer and of what lies behind the lent part.
-fn same(a: Answer, b: Answer) -> bool {
+fn same_figures(a: Figures, b: Figures) -> bool {
     let mut i = 0;
-    while i < CELLS {
-        if a.buffer[i] != b.buffer[i] {
-            return false;
-        }
-        if a.figures[i % FIGURES] != b.figures[i % FIGURES] {
+    while i < FIGURES {
+        if a[i] != b[i] {
             return false;
         }
         i += 1;
     }
-    a.number == b.number
+    true
+}
+
+// Every byte of the lent buffer and of what lies behind the lent part.
+fn same_buffers(a: Buffer, b: Buffer) -> bool {
+    let mut i = 0;
+    while i < CELLS {
+        if a[i] != b[i] {
+            return false;
+        }
+        i += 1;
+    }
+    true
+}
+
+// The number, every figure and every byte.
+fn same(a: Answer, b: Answer) -> bool {
+    if a.number != b.number {
+        return false;
+    }
+    let figures = a.figures;
+    let others = b.figures;
+    if !same_figures(figures, others) {
+        return false;
+    }
+    let buffer = a.buffer;
+    let other = b.buffer;
+    same_buffers(buffer, other)
 }
 
 // Says what an operation gave, what was expected, and in which case. Where the two look alike, the buffers differ.

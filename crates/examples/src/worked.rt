@@ -62,12 +62,17 @@ fn show_rows(card: Buffer) {
     say(print::END_LINE, [0; 5]);
 }
 
-// A card is read, into a payload buffer that holds 77, and then mended.
-fn read_and_mend(name: usize, card: Buffer) {
-    say(name, [0; 5]);
+// A card is read, into a payload buffer that holds 77.
+fn read(card: Buffer) {
     let read = given::decode(CARD_SHAPE, [0x77; CELLS], 1, card, CARD);
     show(print::COUNT, read);
     say(print::PAYLOAD, [read.buffer[0] as usize, 0, 0, 0, 0]);
+}
+
+// And then it is mended.
+fn read_and_mend(name: usize, card: Buffer) {
+    say(name, [0; 5]);
+    read(card);
     let mended = given::correct(CARD_SHAPE, card, CARD);
     show(print::COUNT, mended);
     say(print::ROWS, [0; 5]);

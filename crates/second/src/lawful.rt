@@ -5,7 +5,7 @@ use crate::layout::CHECK;
 use crate::layout::Layout;
 
 // Whether class a of a field is lawful.
-pub(crate) fn lawful(layout: &Layout, a: u16, field: &Buffer) -> bool {
+pub(crate) fn lawful(layout: Layout, a: u16, field: Buffer) -> bool {
     let mut position: usize = 0;
     let mut sum: usize = 0;
     let mut i = 0;

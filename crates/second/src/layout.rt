@@ -43,10 +43,16 @@ fn entry(sizes: &mut [u32; CLASSES], a: usize) -> u16
     a as u16
 }
 
-// The layout of the first cells of an accepted shape. Gives the capacity of the shape: how many of its cells hold no check.
-pub(crate) fn lay_out(shape: Shape, layout: &mut Layout) -> usize
-    ensures { λ r. ⌜ r ≤ 65536 ⌝ }
+// The layout of the first cells of an accepted shape, and its capacity: how many of its cells hold no check.
+pub(crate) struct Laid {
+    pub(crate) layout: Layout,
+    pub(crate) capacity: usize,
+}
+
+pub(crate) fn lay_out(shape: Shape) -> Laid
+    ensures { λ r. ⌜ r .capacity ≤ 65536 ⌝ }
 {
+    let mut layout = [NO_CELL; CELLS];
     let s = settings::settings_of(shape);
     let cells = settings::cells(shape);
     let mut sizes = [0u32; CLASSES];
@@ -62,5 +68,5 @@ pub(crate) fn lay_out(shape: Shape, layout: &mut Layout) -> usize
         }
         i += 1;
     }
-    capacity
+    Laid { layout, capacity }
 }

@@ -3,8 +3,6 @@ ghost use Prim.Native.Nat.{_<_, _≤_};
 ghost use lib.ListN.{getD};
 use crate::answer;
 use crate::answer::Answer;
-use crate::answer::CELLS;
-use crate::layout::NO_CELL;
 use crate::layout::lay_out;
 use crate::settings;
 use lattice::shape::Shape;
@@ -25,8 +23,7 @@ pub fn plan(shape: Shape) -> Answer
         return answer::of(number, [0; 5]);
     }
     let s = settings::settings_of(shape);
-    let mut layout = [NO_CELL; CELLS];
-    let k = lay_out(shape, &mut layout);
+    let k = lay_out(shape).capacity;
     answer::of(0, [s.m as usize, k, k / 8, settings::cells(shape), 0])
 }
 

@@ -10,13 +10,12 @@ use crate::layout::CHECK;
 use crate::layout::Layout;
 use crate::layout::NO_CELL;
 use crate::layout::lay_out;
-use crate::placing::plan;
 use crate::settings;
 use crate::write;
 use lattice::shape::Shape;
 
 // Whether one of the first `cells` bytes of a field is not 0 or 1.
-fn is_soiled(cells: usize, field: &Buffer) -> bool {
+fn is_soiled(cells: usize, field: Buffer) -> bool {
     let mut i = 0;
     while i < CELLS {
         if i < cells {
@@ -29,44 +28,54 @@ fn is_soiled(cells: usize, field: &Buffer) -> bool {
     false
 }
 
-// More than there are classes.
-const OUT_OF_REACH: usize = 513;
+// No cell, and more than there are cells or classes.
+const OUT_OF_REACH: usize = 1024;
 
-// Turns over the cell of class a that makes the class lawful. Gives how many cells are turned over: none where the class is
-// lawful as it is, and OUT_OF_REACH where no cell of it makes it lawful.
-fn mend_class(layout: &Layout, a: u16, field: &mut Buffer) -> usize
-    ensures { λ r. ⌜ r ≤ 513 ⌝ }
-{
-    if lawful(layout, a, field) {
-        return 0;
-    }
+// The cell of class a that makes the class lawful when it is turned over, OUT_OF_REACH where no cell does.
+fn culprit(layout: Layout, a: u16, field: Buffer) -> usize {
     let mut j = 0;
     while j < CELLS {
         if layout[j] % CHECK == a {
-            field[j] = field[j] ^ 1;
-            if lawful(layout, a, field) {
-                return 1;
+            let mut other = field;
+            other[j] = other[j] ^ 1;
+            if lawful(layout, a, other) {
+                return j;
             }
-            field[j] = field[j] ^ 1;
         }
         j += 1;
     }
     OUT_OF_REACH
 }
 
-// The same for each of m classes: OUT_OF_REACH or more where some class is out of reach.
-fn mend_classes(layout: &Layout, m: u16, field: &mut Buffer) -> usize {
+// Turns over, class by class, the cell that makes the class lawful, where the class is not. The figure: how many there are. The
+// number is 6 where a class is out of reach.
+fn mend_classes(layout: Layout, m: u16, before: Buffer) -> Answer
+    requires { ⌜ m ≤ 512 ⌝ }
+    ensures { λ r. ⌜ (r .number ≤ 6) × (getD (r .figures) 0 0 ≤ 512) ⌝ }
+{
+    let mut field = before;
     let mut count = 0;
     let mut a = 0;
     while a < m {
-        count += mend_class(layout, a, field);
+        if !lawful(layout, a, field) {
+            let j = culprit(layout, a, field);
+            if CELLS <= j {
+                return answer::leaving(6, before);
+            }
+            field[j] = field[j] ^ 1;
+            count += 1;
+        }
         a += 1;
     }
-    count
+    Answer {
+        number: 0,
+        figures: [count, 0, 0, 0, 0],
+        buffer: field,
+    }
 }
 
 // What the cells that hold no check spell, eight to a byte. In the last byte stand those that are left over, the filler.
-fn spelt(layout: &Layout, field: &Buffer) -> Buffer {
+fn spelt(layout: Layout, field: Buffer) -> Buffer {
     let mut spelt = [0u8; CELLS];
     let mut k = 0;
     let mut i = 0;
@@ -86,28 +95,22 @@ fn spelt(layout: &Layout, field: &Buffer) -> Buffer {
 pub fn mend(shape: Shape, field: Buffer, cells: usize) -> Answer
     ensures { λ r. ⌜ (r .number ≤ 7) × (getD (r .figures) 0 0 ≤ 512) ⌝ }
 {
-    let number = write::refusal(shape, plan(shape).figures[2], cells);
+    let number = write::refusal(shape, lay_out(shape).capacity / 8, cells);
     if number != 0 {
         return answer::leaving(number, field);
     }
-    if is_soiled(cells, &field) {
+    if is_soiled(cells, field) {
         return answer::leaving(5, field);
     }
-    let mut layout = [NO_CELL; CELLS];
-    lay_out(shape, &mut layout);
-    let mut mended = field;
-    let count = mend_classes(&layout, settings::settings_of(shape).m, &mut mended);
-    if OUT_OF_REACH <= count {
-        return answer::leaving(6, field);
+    let layout = lay_out(shape).layout;
+    let found = mend_classes(layout, settings::settings_of(shape).m, field);
+    let mended = found.buffer;
+    if spelt(layout, mended)[CELLS - 1] != 0 {
+        if found.number == 0 {
+            return answer::leaving(7, field);
+        }
     }
-    if spelt(&layout, &mended)[CELLS - 1] != 0 {
-        return answer::leaving(7, field);
-    }
-    Answer {
-        number: 0,
-        figures: [count, 0, 0, 0, 0],
-        buffer: mended,
-    }
+    found
 }
 
 // The start of a buffer, before what is left of another.
@@ -135,11 +138,11 @@ pub fn read(shape: Shape, payload: Buffer, bytes: usize, field: Buffer, cells: u
     if found.number != 0 {
         return answer::leaving(found.number, payload);
     }
-    let mut layout = [NO_CELL; CELLS];
-    lay_out(shape, &mut layout);
     let mended = found.buffer;
     let figures = found.figures;
-    let buffer = joined(spelt(&layout, &mended), bytes, payload);
+    let layout = lay_out(shape).layout;
+    let spelt = spelt(layout, mended);
+    let buffer = joined(spelt, bytes, payload);
     Answer {
         number: 0,
         figures,

@@ -9,12 +9,11 @@ use crate::layout::CHECK;
 use crate::layout::Layout;
 use crate::layout::NO_CELL;
 use crate::layout::lay_out;
-use crate::placing::plan;
 use crate::settings;
 use lattice::shape::Shape;
 
 // Bit k of a payload of so many bytes, the highest bit of a byte first, and past its end the filler.
-fn bit(payload: &Buffer, bytes: usize, filler: u8, k: usize) -> u8 {
+fn bit(payload: Buffer, bytes: usize, filler: u8, k: usize) -> u8 {
     let q = k / 8;
     if CELLS <= q {
         return filler;
@@ -27,7 +26,8 @@ fn bit(payload: &Buffer, bytes: usize, filler: u8, k: usize) -> u8 {
 }
 
 // The cells that hold no check, in byte order; a check cell is 0 for now.
-fn lay(layout: &Layout, payload: &Buffer, bytes: usize, filler: u8, field: &mut Buffer) {
+fn lay(layout: Layout, payload: Buffer, bytes: usize, filler: u8, before: Buffer) -> Buffer {
+    let mut field = before;
     let mut k = 0;
     let mut i = 0;
     while i < CELLS {
@@ -41,43 +41,49 @@ fn lay(layout: &Layout, payload: &Buffer, bytes: usize, filler: u8, field: &mut 
         }
         i += 1;
     }
+    field
 }
 
 // The next filling of the check cells of class a, as binary digits count up.
-fn next_filling(layout: &Layout, a: u16, field: &mut Buffer) {
+fn next_filling(layout: Layout, a: u16, before: Buffer) -> Buffer {
+    let mut field = before;
     let mut i = 0;
     while i < CELLS {
         if layout[i] == a {
             if field[i] == 0 {
                 field[i] = 1;
-                return;
+                return field;
             }
             field[i] = 0;
         }
         i += 1;
     }
+    field
 }
 
 // A class has at most 10 check cells, each 0 or 1, and there are at most 512 classes.
 const FILLINGS: u32 = 1024 * 512;
 
 // Tries every filling of the check cells of a class until the class is lawful, and then goes on to the next of m classes.
-fn settle(layout: &Layout, m: u16, field: &mut Buffer)
+fn settle(layout: Layout, m: u16, before: Buffer) -> Buffer
     requires { ⌜ m ≤ 512 ⌝ }
 {
+    let mut field = before;
     let mut a = 0;
     let mut tried = 0;
     while tried < FILLINGS {
         if m <= a {
-            return;
+            return field;
         }
         if lawful(layout, a, field) {
             a += 1;
         } else {
-            next_filling(layout, CHECK + a, field);
+            let other = next_filling(layout, CHECK + a, field);
+            field = other;
         }
         tried += 1;
     }
+    field
 }
 
 // The number with which a shape is declined, or a payload or a field that has not the length of the plan, 0 where all are
@@ -85,14 +91,14 @@ fn settle(layout: &Layout, m: u16, field: &mut Buffer)
 pub(crate) fn refusal(shape: Shape, bytes: usize, cells: usize) -> usize
     ensures { λ r. ⌜ r ≤ 4 ⌝ }
 {
-    let p = plan(shape);
-    if p.number != 0 {
-        return p.number;
+    let number = settings::refusal(shape);
+    if number != 0 {
+        return number;
     }
-    if bytes != p.figures[2] {
+    if bytes != lay_out(shape).capacity / 8 {
         return 3;
     }
-    if cells != p.figures[3] {
+    if cells != settings::cells(shape) {
         return 4;
     }
     if CELLS < cells {
@@ -117,10 +123,7 @@ pub fn write(
     if number != 0 {
         return answer::leaving(number, field);
     }
-    let mut layout = [NO_CELL; CELLS];
-    lay_out(shape, &mut layout);
-    let mut written = field;
-    lay(&layout, &payload, bytes, filler, &mut written);
-    settle(&layout, settings::settings_of(shape).m, &mut written);
-    answer::leaving(0, written)
+    let layout = lay_out(shape).layout;
+    let written = lay(layout, payload, bytes, filler, field);
+    answer::leaving(0, settle(layout, settings::settings_of(shape).m, written))
 }

@@ -7,6 +7,7 @@ use crate::given;
 use crate::tally;
 use crate::tally::Tally;
 use lattice::shape::Shape;
+use second::answer::Answer;
 use second::answer::CELLS;
 
 // The length of the lent field in a case: the plan's, or another one.
@@ -128,21 +129,24 @@ fn cases(before: Tally, shape: Shape, cells: usize, bytes: usize, k: usize) -> T
     tally
 }
 
-fn at_most_cells(x: usize) -> usize
+// Figure i of a plan, and at most the cells that are lent.
+pub(crate) fn length(plan: Answer, i: usize) -> usize
+    requires { ⌜ i < 5 ⌝ }
     ensures { λ r. ⌜ r ≤ 512 ⌝ }
 {
-    if x < CELLS { x } else { CELLS }
+    let n = plan.figures[i];
+    if n < CELLS { n } else { CELLS }
 }
 
 // All that is compared of one shape. Where the plan's lengths are not those of a small field, others are lent.
 fn all_of(before: Tally, shape: Shape, k: usize) -> Tally {
     let expected = second::placing::plan(shape);
     let planned = tally::compare(before, tally::PLAN, given::plan(shape), expected, k, 0);
-    let cells = at_most_cells(expected.figures[3]);
+    let cells = length(expected, 3);
     if cells == 0 {
         return cases(planned, shape, 7, 1, k);
     }
-    cases(planned, shape, cells, at_most_cells(expected.figures[2]), k)
+    cases(planned, shape, cells, length(expected, 2), k)
 }
 
 pub(crate) fn all(before: Tally) -> Tally {

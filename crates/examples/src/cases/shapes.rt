@@ -1,5 +1,6 @@
 // Flat shapes, stacks and refused shapes.
 ghost use Prim.Native.Nat.{_<_, _≤_};
+use crate::cases::fields::length;
 use crate::cases::random;
 use lattice::shape::Shape;
 
@@ -132,8 +133,8 @@ fn columns_at(kind: u16, m: u16) -> u16
 fn edge(kind: u16, planes: u16, strength: u16) -> Shape
     requires { ⌜ (0 < planes) × (planes ≤ 3) ⌝ }
 {
-    let m = second::placing::plan(shape_of(1, 1, planes, strength)).figures[0];
-    let columns = columns_at(kind, m as u16);
+    let plan = second::placing::plan(shape_of(1, 1, planes, strength));
+    let columns = columns_at(kind, length(plan, 0) as u16);
     let rows = if kind == 1 {
         1
     } else {

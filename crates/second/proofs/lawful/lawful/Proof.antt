@@ -6,10 +6,10 @@ use Rattle.second.proofs.lawful.lawful.Statement.{statement}
 use Rattle.second.proofs.lawful.lawful.Tie as tie
 
 abbrev Inv-loop : tie.InvT-loop
-Inv-loop layout a field position₀ sum₀ i₀ position sum i = (i ≤ 512) × (position ≤ i)
+Inv-loop a layout field position₀ sum₀ i₀ position sum i = (i ≤ 512) × (position ≤ i)
 
 abbrev μ-loop : tie.MeasureT-loop
-μ-loop layout a field position₀ sum₀ i₀ position sum i = 512 - i
+μ-loop a layout field position₀ sum₀ i₀ position sum i = 512 - i
 
 pub lawful-spec : {M : Type 1} → statement M
 lawful-spec =

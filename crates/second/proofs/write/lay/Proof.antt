@@ -6,10 +6,10 @@ use Rattle.second.proofs.write.lay.Statement.{statement}
 use Rattle.second.proofs.write.lay.Tie as tie
 
 abbrev Inv-loop : tie.InvT-loop
-Inv-loop layout payload bytes filler field₀ k₀ i₀ field k i = (i ≤ 512) × (k ≤ i)
+Inv-loop payload bytes filler layout field₀ k₀ i₀ field k i = (i ≤ 512) × (k ≤ i)
 
 abbrev μ-loop : tie.MeasureT-loop
-μ-loop layout payload bytes filler field₀ k₀ i₀ field k i = 512 - i
+μ-loop payload bytes filler layout field₀ k₀ i₀ field k i = 512 - i
 
 pub lay-spec : {M : Type 1} → statement M
 lay-spec =

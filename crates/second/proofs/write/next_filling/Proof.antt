@@ -5,10 +5,10 @@ use Rattle.second.proofs.write.next_filling.Statement.{statement}
 use Rattle.second.proofs.write.next_filling.Tie as tie
 
 abbrev Inv-loop : tie.InvT-loop
-Inv-loop layout a field₀ i₀ field i = i ≤ 512
+Inv-loop a layout field₀ i₀ field i = i ≤ 512
 
 abbrev μ-loop : tie.MeasureT-loop
-μ-loop layout a field₀ i₀ field i = 512 - i
+μ-loop a layout field₀ i₀ field i = 512 - i
 
 pub next-filling-spec : {M : Type 1} → statement M
 next-filling-spec =
