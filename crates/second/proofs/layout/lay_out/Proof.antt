@@ -6,7 +6,8 @@ use Rattle.second.proofs.layout.lay_out.Statement.{statement}
 use Rattle.second.proofs.layout.lay_out.Tie as tie
 
 abbrev Inv-loop : tie.InvT-loop
-Inv-loop shape layout₀ s cells sizes₀ capacity₀ i₀ layout sizes capacity i = (i ≤ cells) × (capacity ≤ i) × (cells ≤ 65536) × (s .m ≤ 512)
+Inv-loop shape layout₀ s cells sizes₀ capacity₀ i₀ layout sizes capacity i =
+    (i ≤ cells) × (capacity ≤ i) × (cells ≤ 65536) × (s .m ≤ 512)
 
 abbrev μ-loop : tie.MeasureT-loop
 μ-loop shape layout₀ s cells sizes₀ capacity₀ i₀ layout sizes capacity i = cells - i
