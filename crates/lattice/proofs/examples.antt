@@ -1,4 +1,5 @@
 -- Examples that meet the hypotheses of the theorems.
+mod ThreeCells
 pub mod Placing
 pub mod Stack
 mod Testing

@@ -10,15 +10,15 @@ use Rattle.lattice.specs.Shape.{maxStrength, sizeOk, strengthOk, shapeNu
 use Rattle.lattice.specs.Range.{inRange}
 use Rattle.lattice.specs.Settings.{oddSettings, flatSettings, settingsFor, settingsOf}
 use Rattle.lattice.specs.Cell.{Cell, cell, InField, cellNumber, cellAt}
-use Rattle.lattice.specs.Cluster.{apart, by-row, by-column, Linked, stay, step, Cluster, AtMost, Together}
+use Rattle.lattice.specs.Cluster.{apart, by-row, by-column, Cluster, AtMost, Together}
 use Rattle.lattice.specs.Labelling.{labels, Separates}
 use Rattle.lattice.specs.Class.{minusMod, classWith, classesOf, classOf, classAt, classNumber, inside}
 use Rattle.lattice.specs.Endless.{pointOf, HasClass}
 use Rattle.lattice.proofs.theory.ByteNumbers.{same-cell}
-use Rattle.lattice.proofs.theory.ClusterPaths.{linked-append, linked-reverse}
 use Rattle.lattice.proofs.theory.ClassRemainder.{class-point}
 use Rattle.lattice.proofs.theory.ClassBelow.{class-below}
 use Rattle.lattice.proofs.theorems.Labels.{labelsNeeded}
+use Rattle.lattice.proofs.examples.ThreeCells.{Among, cluster-of-three, at-most-three}
 
 -- a field that the constructor accepts, flat and with both sides at least its strength
 abbrev pub field : Shape
@@ -61,39 +61,17 @@ pub mates-differ : corner ≢ mate
 mates-differ e = let z : _≡_ {A = ℕ} 0 1 = ap (λ (x : Cell). x .row) e in omega arith
 
 -- a cluster of three cells: two of row 0 and one below the second
-abbrev pub three : List Cell
-three = corner ∷ cell 0 0 1 ∷ cell 1 0 1 ∷ []
-
 abbrev pub OfThree : Cell → Type 0
-OfThree x = List·Memᴰ x three
-
--- what holds of the three holds of each
-each : (P : Cell → Type 0) → P corner → P (cell 0 0 1) → P (cell 1 0 1) → (x : Cell) → OfThree x → P x
-each P p q r x (List·Memᴰ·head e) = subst⁻¹ P e p
-each P p q r x (List·Memᴰ·tail (List·Memᴰ·head e)) = subst⁻¹ P e q
-each P p q r x (List·Memᴰ·tail (List·Memᴰ·tail m)) = subst⁻¹ P (List·Memᴰ·eq-of-singleton m) r
-
--- each is linked to the second
-to-second : (x : Cell) → OfThree x → Linked OfThree x (cell 0 0 1)
-unfolding apart
-to-second =
-    each (λ (x : Cell). Linked OfThree x (cell 0 0 1))
-    (step (List·Memᴰ·head refl) (by-column refl refl refl) here)
-    here
-    (step (List·Memᴰ·tail (List·Memᴰ·tail (List·Memᴰ·head refl))) (by-row refl refl refl) here)
-  where
-    here : Linked OfThree (cell 0 0 1) (cell 0 0 1)
-    here = stay (List·Memᴰ·tail (List·Memᴰ·head refl))
+OfThree = Among corner (cell 0 0 1) (cell 1 0 1)
 
 pub three-cluster : Cluster field OfThree
+unfolding apart
 three-cluster =
-    record {
-      inside = each (InField field) corner-inside (in-field 0 1 tt tt) (in-field 1 1 tt tt);
-      linked = λ x y mx my. linked-append (to-second x mx) (linked-reverse (to-second y my));
-    }
+    cluster-of-three field corner (cell 0 0 1) (cell 1 0 1) (by-column refl refl refl) (by-row refl refl refl)
+    corner-inside (in-field 0 1 tt tt) (in-field 1 1 tt tt)
 
 pub three-few : AtMost 3 OfThree
-three-few = record { cells = three; few = lit≤ tt; all = λ x m. m }
+three-few = at-most-three corner (cell 0 0 1) (cell 1 0 1)
 
 -- two of its cells lie together in it
 pub three-together : Together field 3 corner (cell 1 0 1)

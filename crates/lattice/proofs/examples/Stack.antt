@@ -11,10 +11,10 @@ use Rattle.lattice.specs.Range.{inRange}
 use Rattle.lattice.specs.Shape.{maxStrength, sizeOk, strengthOk, shapeNumber, Accepted}
 use Rattle.lattice.specs.Settings.{stackTable, stackSettings, settingsFor}
 use Rattle.lattice.specs.Cell.{Cell, cell, InField}
-use Rattle.lattice.specs.Cluster.{Linked, stay, step, by-plane, by-column, Cluster, AtMost, apart}
+use Rattle.lattice.specs.Cluster.{by-plane, by-column, Cluster, AtMost, apart}
 use Rattle.lattice.specs.Class.{minusMod, classWith, classOf}
-use Rattle.lattice.proofs.theory.ClusterPaths.{linked-append, linked-reverse}
 use Rattle.lattice.proofs.theorems.Clusters.{clusterClasses}
+use Rattle.lattice.proofs.examples.ThreeCells.{Among, cluster-of-three, at-most-three}
 
 abbrev pub stack : Shape
 stack = record { columns = 7; rows = 5; planes = 2; strength = 3 }
@@ -35,39 +35,17 @@ in-stack : (r p c : ℕ) → T (ltb r 5) → T (ltb p 2) → T (ltb c 7) → InF
 in-stack r p c hr hp hc = record { row = lit< hr; plane = lit< hp; column = lit< hc }
 
 -- a hole: row 2, column 3 in both planes, and its neighbour in the second
-abbrev pub hole : List Cell
-hole = cell 2 0 3 ∷ cell 2 1 3 ∷ cell 2 1 4 ∷ []
-
 abbrev pub OfHole : Cell → Type 0
-OfHole x = List·Memᴰ x hole
-
--- what holds of the three holds of each
-each : (P : Cell → Type 0) → P (cell 2 0 3) → P (cell 2 1 3) → P (cell 2 1 4) → (x : Cell) → OfHole x → P x
-each P p q r x (List·Memᴰ·head e) = subst⁻¹ P e p
-each P p q r x (List·Memᴰ·tail (List·Memᴰ·head e)) = subst⁻¹ P e q
-each P p q r x (List·Memᴰ·tail (List·Memᴰ·tail m)) = subst⁻¹ P (List·Memᴰ·eq-of-singleton m) r
-
--- each is linked to the second
-to-second : (x : Cell) → OfHole x → Linked OfHole x (cell 2 1 3)
-unfolding apart
-to-second =
-    each (λ (x : Cell). Linked OfHole x (cell 2 1 3))
-    (step (List·Memᴰ·head refl) (by-plane refl refl refl) here)
-    here
-    (step (List·Memᴰ·tail (List·Memᴰ·tail (List·Memᴰ·head refl))) (by-column refl refl refl) here)
-  where
-    here : Linked OfHole (cell 2 1 3) (cell 2 1 3)
-    here = stay (List·Memᴰ·tail (List·Memᴰ·head refl))
+OfHole = Among (cell 2 0 3) (cell 2 1 3) (cell 2 1 4)
 
 pub hole-cluster : Cluster stack OfHole
+unfolding apart
 hole-cluster =
-    record {
-      inside = each (InField stack) (in-stack 2 0 3 tt tt tt) (in-stack 2 1 3 tt tt tt) (in-stack 2 1 4 tt tt tt);
-      linked = λ x y mx my. linked-append (to-second x mx) (linked-reverse (to-second y my));
-    }
+    cluster-of-three stack (cell 2 0 3) (cell 2 1 3) (cell 2 1 4) (by-plane refl refl refl) (by-column refl refl refl)
+    (in-stack 2 0 3 tt tt tt) (in-stack 2 1 3 tt tt tt) (in-stack 2 1 4 tt tt tt)
 
 pub hole-few : AtMost 3 OfHole
-hole-few = record { cells = hole; few = lit≤ tt; all = λ x m. m }
+hole-few = at-most-three (cell 2 0 3) (cell 2 1 3) (cell 2 1 4)
 
 -- so its cells lie in different classes
 pub hole-classes : (x y : Cell) → OfHole x → OfHole y → classOf stack x ≡ classOf stack y → x ≡ y
