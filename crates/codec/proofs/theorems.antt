@@ -1,7 +1,7 @@
 -- The terms of the theorems: a file for each file of specs/theorems, of the same name.
 mod Values
 mod Refused
-mod Plan
+pub mod Plan
 pub mod Payload
 pub mod Writing
 pub mod Reading

@@ -91,11 +91,11 @@ fn spelt(layout: Layout, field: Buffer) -> Buffer {
     spelt
 }
 
-// Mends the first `cells` of a field. The figure: the count.
+// Mends the first `cells` of a field; there is no payload, and none is asked for. The figure: the count.
 pub fn mend(shape: Shape, field: Buffer, cells: usize) -> Answer
     ensures { λ r. ⌜ (r .number ≤ 7) × (getD (r .figures) 0 0 ≤ 512) ⌝ }
 {
-    let number = write::refusal(shape, lay_out(shape).capacity / 8, cells);
+    let number = write::refusal(shape, 0, 0, cells);
     if number != 0 {
         return answer::leaving(number, field);
     }
@@ -130,7 +130,8 @@ fn joined(start: Buffer, length: usize, rest: Buffer) -> Buffer {
 pub fn read(shape: Shape, payload: Buffer, bytes: usize, field: Buffer, cells: usize) -> Answer
     ensures { λ r. ⌜ r .number ≤ 7 ⌝ }
 {
-    let number = write::refusal(shape, bytes, cells);
+    let laid = lay_out(shape);
+    let number = write::refusal(shape, laid.capacity / 8, bytes, cells);
     if number != 0 {
         return answer::leaving(number, payload);
     }
@@ -140,7 +141,7 @@ pub fn read(shape: Shape, payload: Buffer, bytes: usize, field: Buffer, cells: u
     }
     let mended = found.buffer;
     let figures = found.figures;
-    let layout = lay_out(shape).layout;
+    let layout = laid.layout;
     let spelt = spelt(layout, mended);
     let buffer = joined(spelt, bytes, payload);
     Answer {

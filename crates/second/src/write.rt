@@ -86,16 +86,16 @@ fn settle(layout: Layout, m: u16, before: Buffer) -> Buffer
     field
 }
 
-// The number with which a shape is declined, or a payload or a field that has not the length of the plan, 0 where all are
-// accepted. A field that is longer than the buffer is declined with 4, whatever its plan.
-pub(crate) fn refusal(shape: Shape, bytes: usize, cells: usize) -> usize
+// The number with which a shape is declined, or a payload that has not the length asked for, or a field that has not the length
+// of the plan, 0 where all are accepted. A field that is longer than the buffer is declined with 4, whatever its plan.
+pub(crate) fn refusal(shape: Shape, asked: usize, bytes: usize, cells: usize) -> usize
     ensures { λ r. ⌜ r ≤ 4 ⌝ }
 {
     let number = settings::refusal(shape);
     if number != 0 {
         return number;
     }
-    if bytes != lay_out(shape).capacity / 8 {
+    if bytes != asked {
         return 3;
     }
     if cells != settings::cells(shape) {
@@ -119,11 +119,12 @@ pub fn write(
 ) -> Answer
     ensures { λ r. ⌜ r .number ≤ 4 ⌝ }
 {
-    let number = refusal(shape, bytes, cells);
+    let laid = lay_out(shape);
+    let number = refusal(shape, laid.capacity / 8, bytes, cells);
     if number != 0 {
         return answer::leaving(number, field);
     }
-    let layout = lay_out(shape).layout;
+    let layout = laid.layout;
     let written = lay(layout, payload, bytes, filler, field);
     answer::leaving(0, settle(layout, settings::settings_of(shape).m, written))
 }

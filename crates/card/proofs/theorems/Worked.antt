@@ -1,5 +1,5 @@
 -- Our own examples of the program: the term of the theorem, by computation of the definitions.
-use Prim.Native.Nat.{ℕ, _/_, _≤_}
+use Prim.Native.Nat.{ℕ, _≤_}
 use mathlib.Core.Bool.{false}
 use mathlib.Core.Path.{refl, _≡_, _∙_, ap}
 use mathlib.Core.List.{List, []}
@@ -23,7 +23,7 @@ use Rattle.codec.specs.Payload.{payloadBytes, rank, payloadBit, padding, dataVa
 use Rattle.codec.specs.Plan.{planClasses, planCapacity, planBytes, planCells}
 use Rattle.codec.specs.Encode.{encodeNumber, encodedField}
 use Rattle.codec.specs.Decode.{fieldNumber, correctedCount, decodeNumber, decodeCount, decodeLeaves}
-use Rattle.codec.proofs.theory.Accepted.{plan-bytes}
+use Rattle.codec.proofs.theorems.Plan.{planMeaning}
 use Rattle.card.specs.Text.{ascii, digitCount, decimal, numberLine, headerText, hexDigit, payloadText, cellsText, rowText}
 use Rattle.card.specs.Text.{fieldText, refusalText}
 use Rattle.card.specs.Parse.{keyAt, numberEnds, numberAt, lineAt, headerOf, isHex, hexValue, payloadOk, payloadOf}
@@ -45,18 +45,13 @@ longest-taken : (s : List ℕ) → length s ≡ 65536 → programNumber s ≡ nu
 unfolding programNumber
 longest-taken s e = rw (le-leb (length s) maxInput (omega (arith, e)))
 
--- the payload's bytes are an eighth of the data cells
-eighth : (s : Shape) → Accepted s → planBytes s ≡ count (holdsData (layoutOf s)) (cellsOf s) / 8
-unfolding payloadBytes capacity
-eighth s accepted = plan-bytes s accepted
-
 -- a shape whose first k cells hold eight bits has a payload of a byte or more, and an empty one is refused with 3
 not-empty : (s : Shape) → Accepted s → (k : ℕ) → k ≤ cellsOf s → 8 ≤ count (holdsData (layoutOf s)) k
     → eqb 0 (planBytes s) ≡ false
 not-empty s accepted k p q =
     ne-eqb 0 (planBytes s)
     (λ (e : 0 ≡ planBytes s).
-    omega (arith, e, eighth s accepted, q, count-mono (holdsData (layoutOf s)) k (cellsOf s) p))
+    omega (arith, e, planMeaning .bytes s accepted, q, count-mono (holdsData (layoutOf s)) k (cellsOf s) p))
 
 empty-refused : (s : Shape) (field : List ℕ) → Accepted s → eqb 0 (planBytes s) ≡ false → encodeNumber s [] field ≡ 3
 unfolding encodeNumber

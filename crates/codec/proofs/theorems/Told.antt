@@ -31,6 +31,25 @@ use Rattle.codec.proofs.theory.CellValues.{cell-most}
 use Rattle.codec.proofs.theory.EncodedField.{encoded-cells}
 use Rattle.codec.proofs.theorems.Recovery.{recovery}
 
+module _ (s : Shape) (p : List ℕ) (selected : Cell → Bool) (i : ℕ) (h : i < cellsOf s) where
+  -- a cell of the damaged field
+  held : fieldOf (damagedField s p selected) i ≡ damaged (fieldOf (encodedField s p)) (λ j. selected (cellAt s j)) i
+  held = getD-listOf (damaged (fieldOf (encodedField s p)) (λ j. selected (cellAt s j))) (cellsOf s) i h
+
+  stays : selected (cellAt s i) ≡ false → fieldOf (damagedField s p selected) i ≡ fieldOf (encodedField s p) i
+  stays e = held ∙ damaged-kept (fieldOf (encodedField s p)) (λ j. selected (cellAt s j)) i e
+
+  differs : selected (cellAt s i) ≡ true → fieldOf (damagedField s p selected) i ≢ fieldOf (encodedField s p) i
+  differs e same =
+      omega (
+        arith,
+        same,
+        held,
+        damaged-flipped (fieldOf (encodedField s p)) (λ j. selected (cellAt s j)) i e,
+        written-cells s p i h,
+        cell-most _ (encoded-cells (layoutOf s) p (cellsOf s) i h),
+      )
+
 module _ (s : Shape) (p : List ℕ) (S : Cell → Type 0) (cluster : Cluster s S) (small : AtMost (s .strength) S)
     (selected : Cell → Bool) (inside : (x : Cell) → selected x ≡ true → S x) where
   F : List ℕ
@@ -43,10 +62,9 @@ module _ (s : Shape) (p : List ℕ) (S : Cell → Type 0) (cluster : Cluster s S
   harmed : (i : ℕ) → i < cellsOf s → fieldOf G i ≢ fieldOf F i → S (cellAt s i)
   unfolding F G
   harmed i h other =
-      let whole = damaged (fieldOf (encodedField s p)) (λ j. selected (cellAt s j)) in
       inside (cellAt s i)
       (damaged-selected (fieldOf (encodedField s p)) (λ j. selected (cellAt s j)) i
-      (λ e. other (getD-listOf whole (cellsOf s) i h ∙ e)))
+      (λ e. other (held s p selected i h ∙ e)))
 
   -- the cells that differ are among those of the cluster
   found : (i : ℕ) → i < cellsOf s → not (eqb (fieldOf G i) (fieldOf F i)) ≡ true
@@ -94,27 +112,3 @@ damageTold =
 -- Theorem. A selected cell of a damaged field differs from the field written, and the others do not.
 pub damageDiffers : DamageDiffers
 damageDiffers = record { selected = differs; others = stays }
-  where
-    held : (s : Shape) (p : List ℕ) (selected : Cell → Bool) (i : ℕ) → i < cellsOf s
-        → fieldOf (damagedField s p selected) i ≡ damaged (fieldOf (encodedField s p)) (λ j. selected (cellAt s j)) i
-    held s p selected i h =
-        getD-listOf (damaged (fieldOf (encodedField s p)) (λ j. selected (cellAt s j))) (cellsOf s) i h
-
-    stays : (s : Shape) (p : List ℕ) (selected : Cell → Bool) (i : ℕ) → i < cellsOf s → selected (cellAt s i) ≡ false
-        → fieldOf (damagedField s p selected) i ≡ fieldOf (encodedField s p) i
-    stays s p selected i h e =
-        held s p selected i h ∙ damaged-kept (fieldOf (encodedField s p)) (λ j. selected (cellAt s j)) i e
-
-    differs : (s : Shape) (p : List ℕ) (selected : Cell → Bool) (i : ℕ) → i < cellsOf s → selected (cellAt s i) ≡ true
-        → fieldOf (damagedField s p selected) i ≢ fieldOf (encodedField s p) i
-    differs s p selected i h e same =
-        let f = fieldOf (encodedField s p) in
-        let turned = damaged-flipped f (λ j. selected (cellAt s j)) i e in
-        omega (
-          arith,
-          same,
-          held s p selected i h,
-          turned,
-          written-cells s p i h,
-          cell-most _ (encoded-cells (layoutOf s) p (cellsOf s) i h),
-        )
