@@ -1,6 +1,6 @@
 -- Examples in a stack and in single classes that meet the hypotheses of the theorems on coding: the stack of our own worked
 -- example, a hole across both of its planes, and fields that are refused with 6 and with 7.
-use Prim.Native.Nat.{ℕ, zero, suc}
+use Prim.Native.Nat.{zero, suc}
 use mathlib.Core.Bool.{Bool, true, _||_}
 use mathlib.Core.List.{List, [], _∷_, List·Memᴰ·head, List·Memᴰ·tail}
 use mathlib.Core.Logic.{_⊎_, inl, inr}

@@ -1,6 +1,6 @@
 -- The plan's figures: the term of the theorem.
 use Prim.Native.Nat.{ℕ, _/_}
-use mathlib.Core.Path.{_≡_, sym, ap, _∙_}
+use mathlib.Core.Path.{sym, ap, _∙_}
 use Rattle.lattice.specs.Check.{capacity}
 use Rattle.lattice.specs.Class.{layoutOf}
 use Rattle.lattice.proofs.theory.Answers.{beside-zero}

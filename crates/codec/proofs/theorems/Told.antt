@@ -1,5 +1,5 @@
 -- Damage beyond the promise: the term of the theorem.
-use Prim.Native.Nat.{ℕ, _<_, _≤_}
+use Prim.Native.Nat.{ℕ, _<_}
 use mathlib.Core.Bool.{Bool, true, not, false}
 use mathlib.Core.List.{List, List·Memᴰ}
 use mathlib.Core.Logic.{_≢_}
@@ -12,7 +12,7 @@ use lib.ListN.{length, replicate, length-replicate}
 use Rattle.lattice.specs.declared.shape.Shape.{Shape}
 use Rattle.lattice.specs.Shape.{Accepted, cellsOf}
 use Rattle.lattice.specs.Cell.{Cell, cellAt, cellNumber}
-use Rattle.lattice.specs.Cluster.{Cluster, AtMost, distance}
+use Rattle.lattice.specs.Cluster.{Cluster, AtMost}
 use Rattle.lattice.specs.Class.{layoutOf}
 use Rattle.lattice.proofs.theory.ClusterPaths.{together-near}
 use Rattle.lattice.proofs.theory.Pigeonhole.{count-covered}

@@ -1,5 +1,4 @@
 -- Three cells of which the second is joined to both others: they are a cluster.
-use Prim.Native.Nat.{ℕ}
 use mathlib.Core.List.{List, [], _∷_, List·Memᴰ, List·Memᴰ·head, List·Memᴰ·tail, List·Memᴰ·eq-of-singleton}
 use mathlib.Core.Path.{refl, subst⁻¹}
 use lib.Dec.{lit≤}
