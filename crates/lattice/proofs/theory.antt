@@ -10,7 +10,7 @@ pub mod Widths
 pub mod Stores
 pub mod Tables
 pub mod Sorted
-mod Distinct
+pub mod Distinct
 pub mod Pigeonhole
 -- refusals and answers
 pub mod Due

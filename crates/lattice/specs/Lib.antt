@@ -4,6 +4,7 @@
 pub mod Refusal
 pub mod Range
 pub mod Counting
+pub mod Distinct
 pub mod Shape
 pub mod Settings
 pub mod Cell

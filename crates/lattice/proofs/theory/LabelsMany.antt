@@ -8,8 +8,9 @@ use Rattle.lattice.specs.Shape.{cellsOf}
 use Rattle.lattice.specs.Cell.{Cell, InField, cellNumber, cellAt}
 use Rattle.lattice.specs.Cluster.{distance}
 use Rattle.lattice.specs.Labelling.{labels, Separates}
+use Rattle.lattice.specs.Distinct.{Distinct}
 use Rattle.lattice.proofs.theory.ByteNumbers.{below, at-number}
-use Rattle.lattice.proofs.theory.Distinct.{Distinct, distinct-map}
+use Rattle.lattice.proofs.theory.Distinct.{distinct-map}
 use Rattle.lattice.proofs.theory.Pigeonhole.{ValueBelow, different-values-many}
 use Rattle.lattice.proofs.theory.ClusterPaths.{near-together}
 

@@ -1,60 +1,61 @@
--- Counting: pairwise different numbers that are all values of a function are at most as many as its arguments, or its different
--- values.
+-- The pigeonhole: pairwise different entries that all stand in a list are at most as many as its entries. So pairwise different
+-- numbers that are all values of a function are at most as many as its arguments, or its different values.
 use Prim.Native.Nat.{ℕ, zero, suc, _+_, _≤_, _<_}
 use mathlib.Core.Bool.{Bool, true, false, cond, _||_, false≢true}
-use mathlib.Core.List.{List, [], _∷_, List·Memᴰ, List·Memᴰ·head, List·Memᴰ·tail, List·Memᴰ·not-nil, List·Memᴰ·cases-cons}
-use mathlib.Core.Logic.{_⊎_, inl, inr, ⊎-elim}
+use mathlib.Core.List.{List, [], _∷_, map, Memᴰ·cast, Memᴰ·map}
+use mathlib.Core.List.{List·Memᴰ, List·Memᴰ·head, List·Memᴰ·tail, List·Memᴰ·not-nil, List·Memᴰ·cases-cons}
+use mathlib.Core.Logic.{_≢_, _⊎_, inl, inr, ⊎-elim}
 use mathlib.Core.Path.{_≡_, refl, ap, _∙_, sym}
 use native.Mathlib.Nat.{not-suc-le-zero}
 use native.Mathlib.Decide.{ℕ-discrete}
 use native.Mathlib.Omega.{arith}
 use borrow.Author.Tests.{eqb-true, eqb-false}
 use lib.Dec.{eqb}
-use lib.ListN.{length}
+use lib.ListN.{length, length-map}
 use Rattle.lattice.specs.Labelling.{takes, differentValues}
 use Rattle.lattice.specs.Counting.{count}
-use Rattle.lattice.proofs.theory.Distinct.{Distinct}
+use Rattle.lattice.specs.Distinct.{Distinct}
+
+-- the list without one entry
+without : {A : Type 0} {c : A} (l : List A) → List·Memᴰ c l → List A
+without (a ∷ l) (List·Memᴰ·head e) = l
+without (a ∷ l) (List·Memᴰ·tail m) = a ∷ without l m
+
+without-length : {A : Type 0} {c : A} (l : List A) (m : List·Memᴰ c l) → length l ≡ suc (length (without l m))
+unfolding without
+without-length (a ∷ l) (List·Memᴰ·head e) = refl
+without-length (a ∷ l) (List·Memᴰ·tail m) = ap suc (without-length l m)
+
+-- what is left has every other entry
+without-has : {A : Type 0} {c b : A} (l : List A) (m : List·Memᴰ c l) → List·Memᴰ b l → c ≢ b → List·Memᴰ b (without l m)
+unfolding without
+without-has {c = c} {b = b} (a ∷ l) (List·Memᴰ·head e) k h =
+    ⊎-elim (λ (q : b ≡ a). absurd (h (e ∙ sym q))) (λ (r : List·Memᴰ b l). r) (List·Memᴰ·cases-cons k)
+without-has {c = c} {b = b} (a ∷ l) (List·Memᴰ·tail m) k h =
+    ⊎-elim
+    (λ (q : b ≡ a). List·Memᴰ·head q)
+    (λ (r : List·Memᴰ b l). List·Memᴰ·tail (without-has l m r h))
+    (List·Memᴰ·cases-cons k)
+
+-- The pigeonhole, over any type: pairwise different entries that all stand in a list are at most as many as its entries.
+pub pigeonhole : {A : Type 0} (xs l : List A) → Distinct xs → ((x : A) → List·Memᴰ x xs → List·Memᴰ x l) → length xs ≤ length l
+pigeonhole [] l d h = omega arith
+pigeonhole (x ∷ xs) l d h =
+    let first = h x (List·Memᴰ·head refl) in
+    omega (
+      arith,
+      pigeonhole xs (without l first) (d .1) (λ y m. without-has l first (h y (List·Memᴰ·tail m)) (d .0 y m)),
+      without-length l first,
+    )
 
 -- each entry of xs is a value of g at some entry of l
-abbrev Covered : {A : Type 0} → (A → ℕ) → List A → List ℕ → Type 0
-Covered {A} g l xs = (x : ℕ) → List·Memᴰ x xs → (c : A) × List·Memᴰ c l × (x ≡ g c)
+abbrev pub Covered : {A B : Type 0} → (A → B) → List A → List B → Type 0
+Covered {A} {B} g l xs = (x : B) → List·Memᴰ x xs → (c : A) × List·Memᴰ c l × (x ≡ g c)
 
-module _ {A : Type 0} (g : A → ℕ) where
-  -- the list without one entry
-  without : {c : A} (l : List A) → List·Memᴰ c l → List A
-  without (a ∷ l) (List·Memᴰ·head e) = l
-  without (a ∷ l) (List·Memᴰ·tail m) = a ∷ without l m
-
-  without-length : {c : A} (l : List A) (m : List·Memᴰ c l) → length l ≡ suc (length (without l m))
-  unfolding without
-  without-length (a ∷ l) (List·Memᴰ·head e) = refl
-  without-length (a ∷ l) (List·Memᴰ·tail m) = ap suc (without-length l m)
-
-  -- what is left has every entry with another value
-  without-has : {c b : A} (l : List A) (m : List·Memᴰ c l) → List·Memᴰ b l → ¬ (g c ≡ g b) → List·Memᴰ b (without l m)
-  unfolding without
-  without-has {c} {b} (a ∷ l) (List·Memᴰ·head e) k h = go (List·Memᴰ·cases-cons k)
-    where
-      go : (b ≡ a) ⊎ List·Memᴰ b l → List·Memᴰ b l
-      go (inl e′) = absurd (h (ap g (e ∙ sym e′)))
-      go (inr k′) = k′
-  without-has {c} {b} (a ∷ l) (List·Memᴰ·tail m) k h = go (without-has l m) (List·Memᴰ·cases-cons k)
-    where
-      go : (List·Memᴰ b l → ¬ (g c ≡ g b) → List·Memᴰ b (without l m)) → (b ≡ a) ⊎ List·Memᴰ b l → List·Memᴰ b (a ∷ without l m)
-      go rest (inl e) = List·Memᴰ·head e
-      go rest (inr k′) = List·Memᴰ·tail (rest k′ h)
-
-  -- Pairwise different numbers, each a value of g at some entry of a list, are at most as many as the list's entries.
-  covered-length : (xs : List ℕ) (l : List A) → Distinct xs → Covered g l xs → length xs ≤ length l
-  covered-length [] l d h = omega arith
-  covered-length (x ∷ xs) l d h =
-      let first = h x (List·Memᴰ·head refl) in
-      omega (arith, covered-length xs (without l (first .1)) (d .1) (rest first), without-length l (first .1))
-    where
-      rest : (first : (c : A) × List·Memᴰ c l × (x ≡ g c)) → Covered g (without l (first .1)) xs
-      rest first y m =
-          let other = h y (List·Memᴰ·tail m) in
-          (other .0, without-has l (first .1) (other .1) (λ e. d .0 y m (first .2 ∙ e ∙ sym (other .2))), other .2)
+-- Pairwise different values of g at the entries of a list are at most as many as these.
+pub covered-length : {A B : Type 0} (g : A → B) (xs : List B) (l : List A) → Distinct xs → Covered g l xs → length xs ≤ length l
+covered-length g xs l d h =
+    rw (length-map l g) at (pigeonhole xs (map g l) d (λ x m. let r = h x m in Memᴰ·cast (r .2) (Memᴰ·map g (r .1))))
 
 -- the numbers below m
 upTo : ℕ → List ℕ
@@ -182,21 +183,15 @@ values-distinct f (suc n) = go (takes f (f n) n) refl (values-distinct f n)
 pub different-values-many : (f : ℕ → ℕ) (n : ℕ) (xs : List ℕ) → Distinct xs → ((x : ℕ) → List·Memᴰ x xs → ValueBelow f n x)
     → length xs ≤ differentValues f n
 different-values-many f n xs d h =
-    rw (← values-length f n) (covered-length (λ (v : ℕ). v) xs (values f n) d (λ x m. (x, values-complete f n x (h x m), refl)))
+    rw (← values-length f n) (pigeonhole xs (values f n) d (λ x m. values-complete f n x (h x m)))
 
 -- A function whose values at the numbers below n are below m has at most m different values there.
 pub different-values-few : (f : ℕ → ℕ) (m n : ℕ) → ((i : ℕ) → i < n → f i < m) → differentValues f n ≤ m
 different-values-few f m n h =
-    omega (
-      arith,
-      values-length f n,
-      upTo-length m,
-      covered-length (λ (v : ℕ). v) (values f n) (upTo m) (values-distinct f n) in-range,
-    )
+    omega (arith, values-length f n, upTo-length m, pigeonhole (values f n) (upTo m) (values-distinct f n) in-range)
   where
-    in-range : Covered (λ (v : ℕ). v) (upTo m) (values f n)
-    in-range x k = let r = values-sound f n x k in
-        (x, upTo-has m x (rw (r .2) (h (r .0) (r .1))), refl)
+    in-range : (x : ℕ) → List·Memᴰ x (values f n) → List·Memᴰ x (upTo m)
+    in-range x k = let r = values-sound f n x k in upTo-has m x (rw (r .2) (h (r .0) (r .1)))
 
 -- the numbers below n that pass a test
 hits : (ℕ → Bool) → ℕ → List ℕ

@@ -11,10 +11,11 @@ use Rattle.lattice.specs.Settings.{oddSettings, evenSettings, flatSettin
 use Rattle.lattice.specs.declared.shape.Shape.{Shape}
 use Rattle.lattice.specs.Cell.{Cell, cell, InField}
 use Rattle.lattice.specs.Cluster.{apart, distance}
+use Rattle.lattice.specs.Distinct.{Distinct}
 use Rattle.lattice.proofs.theory.Distances.{apart-self, apart-sym, apart-eq, apart-triangle, apart-below, apart-above}
 use Rattle.lattice.proofs.theory.Distances.{apart-within}
 use Rattle.lattice.proofs.theory.SettingsLaws.{flat-odd, flat-even}
-use Rattle.lattice.proofs.theory.Distinct.{Distinct, distinct-append}
+use Rattle.lattice.proofs.theory.Distinct.{distinct-append}
 
 -- n cells of a row of plane 0, from column a on
 run : ℕ → ℕ → ℕ → List Cell
