@@ -4,10 +4,10 @@ use mathlib.Core.Path.{_≡_, refl, _∙_}
 use native.Mathlib.Omega.{arith}
 use Rattle.lattice.specs.Check.{checks}
 use Rattle.lattice.specs.Position.{size}
-use Rattle.lattice.specs.theorems.Capacity.{ChecksAreBitLength, CapacitySum}
+use Rattle.lattice.specs.theorems.Capacity.{ChecksAreBitLength, ClassCapacity, CapacitySum}
 use Rattle.lattice.proofs.theory.BitLength.{top-of}
 use Rattle.lattice.proofs.theory.Counting.{sum-same}
-use Rattle.lattice.proofs.theory.CapacityByClass.{data-cells, capacity-by-class}
+use Rattle.lattice.proofs.theory.CapacityByClass.{data-cells, class-data, capacity-by-class}
 
 pub checksAreBitLength : ChecksAreBitLength
 unfolding checks
@@ -19,6 +19,9 @@ checksAreBitLength =
   where
     bits : (n k j : ℕ) → k ≡ suc j → 2 ^ j ≤ n → n < 2 ^ suc j → (1 ≤ k) × (2 ^ (k - 1) ≤ n) × (n < 2 ^ k)
     bits n k j e l u = let q : k - 1 ≡ j = omega arith in (omega arith, rw q l, rw e u)
+
+pub classCapacity : ClassCapacity
+classCapacity L a = class-data L a
 
 pub capacitySum : CapacitySum
 capacitySum L m p = capacity-by-class L m p ∙ sum-same _ _ m (λ a l. data-cells (size L a))

@@ -21,7 +21,8 @@ module _ (f : ℕ → Bool) (n : ℕ) where
   pub count-no : f n ≡ false → count f (n + 1) ≡ count f n
   count-no p = count-step ∙ rw p (omega arith)
 
-abbrev bit : Bool → ℕ
+-- what a test adds to a count
+abbrev pub bit : Bool → ℕ
 bit b = cond b 1 0
 
 bit-most : (b : Bool) → cond b 1 0 ≤ 1

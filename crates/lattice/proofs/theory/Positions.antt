@@ -1,6 +1,6 @@
 -- The sizes of classes and the positions of their cells, for any layout of cells in classes.
 use Prim.Native.Nat.{ℕ, zero, suc, _+_, _-_, _<_, _≤_}
-use mathlib.Core.Bool.{Bool, true, false, cond}
+use mathlib.Core.Bool.{Bool, true, false, cond, _&&_}
 use mathlib.Core.Path.{_≡_, refl, sym, ap, ap₂, _∙_}
 use native.Mathlib.Decide.{decLt}
 use native.Mathlib.Nat.{add-comm, zero-add, le-refl}
@@ -9,7 +9,7 @@ use lib.Dec.{eqb}
 use borrow.Author.Tests.{eq-eqb, ne-eqb, eqb-true}
 use Rattle.lattice.specs.Position.{Layout, sizeTo, position}
 use Rattle.lattice.specs.Counting.{count, sumBelow}
-use Rattle.lattice.proofs.theory.Counting.{count-step, count-yes, count-no, count-most, count-mono, count-reach, sum-same}
+use Rattle.lattice.proofs.theory.Counting.{bit, count-step, count-yes, count-no, count-most, count-mono, count-reach, sum-same}
 use Rattle.lattice.proofs.theory.Counting.{sum-none, sum-add, sum-one}
 
 module _ (L : Layout) where
@@ -70,24 +70,44 @@ module _ (L : Layout) where
       let e : L .class (r .0) ≡ a = eqb-true (L .class (r .0)) a (r .2) in
       (r .0, r .1, e, omega (arith, ap (λ (b : ℕ). sizeTo L b (r .0)) e, r .3))
 
--- how often a test of class and position holds over the cells: the sum over the classes of how often it holds over their
--- positions
-module _ (L : Layout) (P : ℕ → ℕ → Bool) (m : ℕ) where
+both : (b c : Bool) → bit (b && c) ≡ cond b (bit c) 0
+both true c = refl
+both false c = refl
+
+-- each of the first n cells is in one class, and all classes are below m: how often a test holds over the cells is the sum of how
+-- often it holds over those of each class
+sum-classes : (L : Layout) (test : ℕ → Bool) (m n : ℕ) → ((i : ℕ) → i < n → L .class i < m)
+    → sumBelow (λ a. count (λ i. eqb (L .class i) a && test i) n) m ≡ count test n
+sum-classes L test m zero p = sum-none (λ a. 0) m (λ a l. refl)
+sum-classes L test m (suc n) p =
+    sum-add (λ a. bit (eqb (L .class n) a && test n)) (λ a. count (λ i. eqb (L .class i) a && test i) n) m
+    ∙ ap₂
+    _+_
+    (sum-same _ _ m (λ a l. both (eqb (L .class n) a) (test n))
+    ∙ sum-one (λ a. bit (test n)) (L .class n) m (p n (le-refl _)))
+    (sum-classes L test m n (λ i l. p i (omega arith)))
+
+module _ (L : Layout) (P : ℕ → ℕ → Bool) where
   one-more : (b : Bool) (f : ℕ → Bool) (k : ℕ) → count f (cond b 1 0 + k) ≡ cond b (cond (f k) 1 0) 0 + count f k
   one-more true f k = ap (λ (j : ℕ). count f j) (add-comm 1 k) ∙ count-step f k
   one-more false f k = ap (λ (j : ℕ). count f j) (zero-add k) ∙ sym (zero-add (count f k))
 
-  pub by-class : (n : ℕ) → ((i : ℕ) → i < n → L .class i < m)
-      → sumBelow (λ a. count (λ p. P a (p + 1)) (sizeTo L a n)) m ≡ count (λ i. P (L .class i) (position L i)) n
+  -- a test of class and position holds as often over the cells of a class as over its positions
+  pub in-class : (a n : ℕ) → count (λ i. eqb (L .class i) a && P (L .class i) (position L i)) n
+      ≡ count (λ p. P a (p + 1)) (sizeTo L a n)
   unfolding sizeTo position
-  by-class zero p = sum-none (λ a. count (λ p. P a (p + 1)) (sizeTo L a 0)) m (λ a l. refl)
-  by-class (suc n) p =
-      sum-same _ _ m (λ a l. one-more (eqb (L .class n) a) (λ p. P a (p + 1)) (sizeTo L a n))
-      ∙ sum-add
-      (λ a. cond (eqb (L .class n) a) (cond (P a (sizeTo L a n + 1)) 1 0) 0)
-      (λ a. count (λ p. P a (p + 1)) (sizeTo L a n))
-      m
-      ∙ ap₂
-      _+_
-      (sum-one (λ a. cond (P a (sizeTo L a n + 1)) 1 0) (L .class n) m (p n (le-refl _)))
-      (by-class n (λ i l. p i (omega arith)))
+  in-class a zero = refl
+  in-class a (suc n) =
+      ap₂ _+_ (both (eqb (L .class n) a) _ ∙ here (eqb (L .class n) a) refl) (in-class a n)
+      ∙ sym (one-more (eqb (L .class n) a) (λ p. P a (p + 1)) (sizeTo L a n))
+    where
+      here : (b : Bool) → eqb (L .class n) a ≡ b
+          → cond b (bit (P (L .class n) (sizeTo L (L .class n) n + 1))) 0 ≡ cond b (bit (P a (sizeTo L a n + 1))) 0
+      here true e = ap (λ (c : ℕ). bit (P c (sizeTo L c n + 1))) (eqb-true (L .class n) a e)
+      here false e = refl
+
+  -- so over all cells it holds as often as over the positions of all classes together
+  pub by-class : (m n : ℕ) → ((i : ℕ) → i < n → L .class i < m)
+      → sumBelow (λ a. count (λ p. P a (p + 1)) (sizeTo L a n)) m ≡ count (λ i. P (L .class i) (position L i)) n
+  by-class m n p =
+      sum-same _ _ m (λ a l. sym (in-class a n)) ∙ sum-classes L (λ i. P (L .class i) (position L i)) m n p
