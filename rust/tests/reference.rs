@@ -94,3 +94,37 @@ fn one_codeword_for_each_choice_of_data() {
         assert_eq!(codewords, 1 << (n - checks(n)));
     }
 }
+
+/// Of words of n cells, as numbers: none can have come from both, each with at most one cell turned over.
+fn told_apart(n: usize, one: usize, other: usize) -> bool {
+    (0..1usize << n).all(|word| (word ^ one).count_ones() > 1 || (word ^ other).count_ones() > 1)
+}
+
+/// The most words of n cells that are told apart: those taken, and others from `first` on.
+fn most_words(n: usize, first: usize, taken: &mut Vec<usize>) -> usize {
+    let mut most = taken.len();
+    for word in first..1 << n {
+        if taken.iter().all(|&other| told_apart(n, word, other)) {
+            taken.push(word);
+            most = most.max(most_words(n, word + 1, taken));
+            taken.pop();
+        }
+    }
+    most
+}
+
+#[test]
+fn no_set_of_words_is_twice_as_large() {
+    for n in 0..=5 {
+        let in_use = 1 << (n - checks(n));
+        let most = most_words(n, 0, &mut Vec::new());
+        assert!(in_use <= most && most < 2 * in_use, "{n} cells: {in_use} words in use, {most} at most");
+    }
+}
+
+#[test]
+fn some_sets_of_words_are_larger() {
+    let words = [0, 39, 59, 60, 75, 86, 93, 110, 113, 141, 147, 158, 170, 181, 199, 216, 228, 233, 242, 255];
+    assert!(words.iter().all(|&one| words.iter().all(|&other| one == other || told_apart(8, one, other))));
+    assert_eq!((words.len(), 1 << (8 - checks(8))), (20, 16));
+}

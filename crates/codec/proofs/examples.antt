@@ -1,3 +1,4 @@
 -- Examples that meet the hypotheses of the theorems.
 pub mod Coding
 mod Stack
+mod Codes

@@ -8,5 +8,6 @@ pub mod Reading
 pub mod Recovery
 pub mod Undamaged
 mod Told
+pub mod Bound
 mod Examples
 pub mod Worked

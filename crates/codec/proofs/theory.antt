@@ -10,16 +10,23 @@ pub mod WorkArrays
 pub mod CellValues
 pub mod FieldLists
 pub mod FilledLists
+mod PassingCells
 pub mod Differences
 -- the code in a class
 pub mod Syndrome
 pub mod Tags
 pub mod PowerPositions
 mod CheckBits
+mod CompletedField
 pub mod Correction
 mod Reach
 pub mod Damage
 pub mod DamagedCells
+-- codes for a class, whatever they are
+mod BinaryWords
+mod Balls
+pub mod HammingBound
+pub mod WordsInUse
 -- payload, padding and checks
 pub mod ByteBits
 pub mod PayloadByte

@@ -13,6 +13,7 @@ pub mod Answer
 pub mod Reach
 pub mod Conditions
 pub mod Damage
+pub mod Bound
 -- theorems
 pub mod theorems
 -- what work arrays and buffers hold: only contracts of functions that are private to the crate cite these

@@ -8,5 +8,6 @@ pub mod Reading
 pub mod Recovery
 pub mod Undamaged
 pub mod Told
+pub mod Bound
 pub mod Examples
 pub mod Worked

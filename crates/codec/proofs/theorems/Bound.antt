@@ -1,0 +1,55 @@
+-- No denser square: the terms of the theorems.
+use Prim.Native.Nat.{ℕ, zero, suc}
+use mathlib.Core.Bool.{false≢true}
+use mathlib.Core.List.{[], _∷_}
+use mathlib.Core.Logic.{_≢_}
+use mathlib.Core.Path.{_≡_, refl, sym, _∙_}
+use native.Mathlib.Omega.{arith}
+use lib.Dec.{lit<}
+use Rattle.lattice.specs.Check.{isPower, isCheck, dataCells}
+use Rattle.codec.specs.Field.{fieldOf, isCell, isReceived, cellsOk}
+use Rattle.codec.specs.Bound.{Word}
+use Rattle.codec.specs.theorems.Bound.{NoDenserCode, CodeInUse, BoundExamples}
+use Rattle.codec.proofs.theory.FieldLists.{ok-received}
+use Rattle.codec.proofs.theory.HammingBound.{fewer}
+use Rattle.codec.proofs.theory.WordsInUse.{use-corrects, usedWords, use-listed, use-length, use-most}
+
+-- Theorem. Any set of words of n cells that corrects one has fewer than twice 2^k words.
+pub noDenserCode : NoDenserCode
+noDenserCode n S code words listed = fewer n S code words listed
+
+-- Theorem. The words in use are such a set, and they are 2^k.
+pub codeInUse : CodeInUse
+codeInUse =
+    record {
+      corrects = use-corrects;
+      least = λ L a. (usedWords L a, use-listed L a, use-length L a);
+      most = use-most;
+    }
+
+-- Theorem. Our own examples hold.
+pub boundExamples : BoundExamples
+unfolding isPower isCheck dataCells isCell isReceived cellsOk
+boundExamples =
+    record {
+      comes = (record { word = here; one = λ i j d e. absurd (d refl) }, record { word = there; one = λ i j d e. second i d ∙ sym (second j e) });
+      not-comes = (
+        λ c. omega (arith, c .one 0 1 (λ e. omega (arith, e)) (λ e. omega (arith, e))),
+        λ c. false≢true (c .word .cells 2 (lit< tt)),
+        λ c. omega (arith, c .word .long),
+      );
+      class-words = (refl, refl);
+      data-cells = (refl, refl, refl, refl, refl, refl);
+    }
+  where
+    here : Word 3 (0 ∷ 0 ∷ 1 ∷ [])
+    here = record { long = refl; cells = ok-received (fieldOf (0 ∷ 0 ∷ 1 ∷ [])) 3 refl }
+
+    there : Word 3 (0 ∷ 1 ∷ 1 ∷ [])
+    there = record { long = refl; cells = ok-received (fieldOf (0 ∷ 1 ∷ 1 ∷ [])) 3 refl }
+
+    second : (i : ℕ) → fieldOf (0 ∷ 0 ∷ 1 ∷ []) i ≢ fieldOf (0 ∷ 1 ∷ 1 ∷ []) i → i ≡ 1
+    second zero d = absurd (d refl)
+    second (suc zero) d = refl
+    second (suc (suc zero)) d = absurd (d refl)
+    second (suc (suc (suc i))) d = absurd (d refl)
