@@ -32,7 +32,10 @@ pub boundExamples : BoundExamples
 unfolding isPower isCheck dataCells isCell isReceived cellsOk
 boundExamples =
     record {
-      comes = (record { word = here; one = λ i j d e. absurd (d refl) }, record { word = there; one = λ i j d e. second i d ∙ sym (second j e) });
+      comes = (
+        record { word = here; one = λ i j d e. absurd (d refl) },
+        record { word = there; one = λ i j d e. second i d ∙ sym (second j e) },
+      );
       not-comes = (
         λ c. omega (arith, c .one 0 1 (λ e. omega (arith, e)) (λ e. omega (arith, e))),
         λ c. false≢true (c .word .cells 2 (lit< tt)),

@@ -36,8 +36,8 @@ module _ (test : ℕ → Bool) (f : Field) where
           (λ (q : i ≡ n).
           getD-at (passing test f n) (f n) [] 0 (count test i) (passing-length n ∙ ap (count test) (sym q)) ∙ ap f (sym q))
           (λ (k : i < n).
-          List·getD-append (passing test f n) (f n ∷ []) 0 (count test i) (omega (arith, passing-length n, count-more test i n k e))
-          ∙ before k)
+          let below : count test i < length (passing test f n) = omega (arith, passing-length n, count-more test i n k e) in
+          List·getD-append (passing test f n) (f n ∷ []) 0 (count test i) below ∙ before k)
           (eq-or-lt-of-le (le-of-suc-le-suc l))
       go false t before =
           ⊎-elim

@@ -36,6 +36,10 @@ module _ (L : Layout) (a : ℕ) where
   abbrev ownData : ℕ → Bool
   ownData i = own i && holdsData L i
 
+  -- the number of the latter
+  abbrev k : ℕ
+  k = dataCells (size L a)
+
   own-class : (i : ℕ) → own i ≡ true → L .class i ≡ a
   own-class i e = eqb-true (L .class i) a e
 
@@ -91,20 +95,21 @@ module _ (L : Layout) (a : ℕ) where
 
   chosen-lawful : {n : ℕ} {v : List ℕ} → Word n v → Lawful L (tagsOf L) (chosen v)
   unfolding chosen
-  chosen-lawful {v = v} h = completed-lawful L (λ i. fieldOf v (count ownData i)) (λ i l. most-cell _ (word-most h (count ownData i)))
+  chosen-lawful {v = v} h =
+      completed-lawful L (λ i. fieldOf v (count ownData i)) (λ i l. most-cell _ (word-most h (count ownData i)))
 
   chosen-data : (v : List ℕ) (i : ℕ) → holdsData L i ≡ true → chosen v i ≡ fieldOf v (count ownData i)
   unfolding chosen
   chosen-data v i e = completed-data L (λ j. fieldOf v (count ownData j)) i e
 
   -- different choices give different words
-  chosen-one : (u v : List ℕ) → Word (dataCells (size L a)) u → Word (dataCells (size L a)) v → chosenWord u ≡ chosenWord v → u ≡ v
+  chosen-one : (u v : List ℕ) → Word k u → Word k v → chosenWord u ≡ chosenWord v → u ≡ v
   unfolding chosenWord
   chosen-one u v g h e = ext-getD 0 u v (g .long ∙ sym (h .long)) each
     where
-      each : (k : ℕ) → k < length u → fieldOf u k ≡ fieldOf v k
-      each k l =
-          let r = count-reach ownData (L .cells) k (omega (arith, g .long, classCapacity L a)) in
+      each : (j : ℕ) → j < length u → fieldOf u j ≡ fieldOf v j
+      each j l =
+          let r = count-reach ownData (L .cells) j (omega (arith, g .long, classCapacity L a)) in
           let i = r .0 in
           let data′ = and-right (own i) (holdsData L i) (r .2) in
           ap (fieldOf u) (sym (r .3))
@@ -117,7 +122,7 @@ module _ (L : Layout) (a : ℕ) where
   dataWord : Field → List ℕ
   dataWord f = passing ownData f (L .cells)
 
-  data-word : (f : Field) → Cells f (L .cells) → Word (dataCells (size L a)) (dataWord f)
+  data-word : (f : Field) → Cells f (L .cells) → Word k (dataWord f)
   unfolding dataWord
   data-word f c = subst (λ (n : ℕ). Word n (dataWord f)) (classCapacity L a) (passing-word ownData f (L .cells) c)
 
@@ -134,15 +139,12 @@ module _ (L : Layout) (a : ℕ) where
 
   -- so many different words are in use
   pub usedWords : List (List ℕ)
-  usedWords = map chosenWord (allWords (dataCells (size L a)))
+  usedWords = map chosenWord (allWords k)
 
   pub use-listed : Listed (InUse L a) usedWords
   unfolding usedWords chosenWord
   use-listed = record { distinct = distinct; inside = inside }
     where
-      k : ℕ
-      k = dataCells (size L a)
-
       distinct : Distinct usedWords
       distinct =
           distinct-map chosenWord (allWords k) (all-distinct k) (λ u v l m. chosen-one u v (all-are k u l) (all-are k v m))
@@ -152,15 +154,15 @@ module _ (L : Layout) (a : ℕ) where
           let r = Memᴰ·of-map chosenWord (allWords k) m in
           (chosen (r .0), chosen-lawful (all-are k (r .0) (r .1)), sym (r .2))
 
-  pub use-length : length usedWords ≡ 2 ^ dataCells (size L a)
+  pub use-length : length usedWords ≡ 2 ^ k
   unfolding usedWords
-  use-length = length-map (allWords (dataCells (size L a))) chosenWord ∙ all-length (dataCells (size L a))
+  use-length = length-map (allWords k) chosenWord ∙ all-length k
 
   -- and no more
-  pub use-most : (words : List (List ℕ)) → Listed (InUse L a) words → length words ≤ 2 ^ dataCells (size L a)
+  pub use-most : (words : List (List ℕ)) → Listed (InUse L a) words → length words ≤ 2 ^ k
   use-most words h =
-      rw (all-length (dataCells (size L a))) at
-      (covered-length chosenWord words (allWords (dataCells (size L a))) (h .distinct)
+      rw (all-length k) at
+      (covered-length chosenWord words (allWords k) (h .distinct)
       (λ w m.
       let r = h .inside w m in
       (dataWord (r .0), all-has _ _ (data-word (r .0) (r .1 .cells)), r .2 ∙ use-chosen (r .0) (r .1))))

@@ -9,8 +9,8 @@ use lib.Dec.{eqb}
 use borrow.Author.Tests.{eq-eqb, ne-eqb, eqb-true}
 use Rattle.lattice.specs.Position.{Layout, sizeTo, position}
 use Rattle.lattice.specs.Counting.{count, sumBelow}
-use Rattle.lattice.proofs.theory.Counting.{bit, count-step, count-yes, count-no, count-most, count-mono, count-reach, sum-same}
-use Rattle.lattice.proofs.theory.Counting.{sum-none, sum-add, sum-one}
+use Rattle.lattice.proofs.theory.Counting.{bit, count-step, count-yes, count-no, count-most, count-mono, count-reach}
+use Rattle.lattice.proofs.theory.Counting.{sum-same, sum-none, sum-add, sum-one}
 
 module _ (L : Layout) where
   -- a class has one cell more after each of its cells, and no more after the others

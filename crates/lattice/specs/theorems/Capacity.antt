@@ -12,8 +12,8 @@ pub record ChecksAreBitLength : Type 0 where
   pub none : checks 0 ≡ 0
   pub some : (n : ℕ) → 1 ≤ n → (1 ≤ checks n) × (2 ^ (checks n - 1) ≤ n) × (n < 2 ^ checks n)
 
--- Theorem. For any layout of cells in classes, the cells of a class that hold no check are as many as the positions that hold none
--- in a class of its size.
+-- Theorem. For any layout of cells in classes, the cells of a class that hold no check are as many as the positions that hold
+-- none in a class of its size.
 abbrev pub ClassCapacity : Type 0
 ClassCapacity = (L : Layout) (a : ℕ) → count (λ i. eqb (L .class i) a && holdsData L i) (L .cells) ≡ dataCells (size L a)
 
