@@ -22,11 +22,11 @@ pub mod Correction
 mod Reach
 pub mod Damage
 pub mod DamagedCells
--- codes for a class, whatever they are
-mod BinaryWords
+-- any code for a class, and the code in use
+pub mod BinaryWords
 mod Balls
 pub mod HammingBound
-pub mod WordsInUse
+pub mod ClassCodewords
 -- payload, padding and checks
 pub mod ByteBits
 pub mod PayloadByte

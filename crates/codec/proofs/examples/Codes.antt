@@ -5,31 +5,30 @@ use mathlib.Core.List.{List, [], _∷_, List·Memᴰ·not-nil, List·Memᴰ·eq-
 use mathlib.Core.Logic.{_≢_, _⊎_, inl, inr, ⊎-elim}
 use mathlib.Core.Path.{_≡_, refl, ap, sym, subst, _∙_}
 use native.Mathlib.Decide.{ℕ-discrete}
-use native.Mathlib.Nat.{not-suc-le-zero}
 use native.Mathlib.Omega.{arith}
 use Rattle.lattice.specs.Check.{dataCells}
-use Rattle.codec.specs.Field.{fieldOf, isCell, isReceived, cellsOk}
+use Rattle.codec.specs.Field.{fieldOf, isCell}
 use Rattle.codec.specs.Bound.{Word, ComesFrom, CorrectsOne, Listed}
-use Rattle.codec.proofs.theory.FieldLists.{ok-received}
+use Rattle.codec.proofs.theory.BinaryWords.{is-word}
 use Rattle.codec.proofs.theorems.Bound.{noDenserCode}
 
 -- the words 0 0 0 and 1 1 1
-abbrev pub white : List ℕ
+abbrev white : List ℕ
 white = 0 ∷ 0 ∷ 0 ∷ []
 
-abbrev pub black : List ℕ
+abbrev black : List ℕ
 black = 1 ∷ 1 ∷ 1 ∷ []
 
-abbrev pub Repetition : List ℕ → Type 0
+abbrev Repetition : List ℕ → Type 0
 Repetition w = (w ≡ white) ⊎ (w ≡ black)
 
 white-word : Word 3 white
-unfolding isCell isReceived cellsOk
-white-word = record { long = refl; cells = ok-received (fieldOf white) 3 refl }
+unfolding isCell
+white-word = is-word white refl
 
 black-word : Word 3 black
-unfolding isCell isReceived cellsOk
-black-word = record { long = refl; cells = ok-received (fieldOf black) 3 refl }
+unfolding isCell
+black-word = is-word black refl
 
 -- no word can have come from both: two of its three cells are 0, which differ from 1 1 1, or two are not, which differ from 0 0 0
 not-both : (w : List ℕ) → ComesFrom 3 white w → ComesFrom 3 black w → ⊥
@@ -85,15 +84,15 @@ module _ {n : ℕ} (w : List ℕ) (word : Word n w) where
   single-listed = record { distinct = (λ y m. absurd (List·Memᴰ·not-nil m), tt); inside = λ u m. List·Memᴰ·eq-of-singleton m }
 
 -- of no cell, and of one: 1 is below twice 2 to the power of 0
-empty-word : Word 0 []
-empty-word = record { long = refl; cells = λ i l. absurd (not-suc-le-zero l) }
-
 one-word : Word 1 (1 ∷ [])
-unfolding isCell isReceived cellsOk
-one-word = record { long = refl; cells = ok-received (fieldOf (1 ∷ [])) 1 refl }
+unfolding isCell
+one-word = is-word (1 ∷ []) refl
 
-pub none-fewer : 1 < 2 * 2 ^ dataCells 0
-none-fewer = noDenserCode 0 (λ u. u ≡ []) (single-corrects [] empty-word) ([] ∷ []) (single-listed [] empty-word)
+pub no-cell-fewer : 1 < 2 * 2 ^ dataCells 0
+no-cell-fewer =
+    let word = is-word [] refl in
+    noDenserCode 0 (λ u. u ≡ []) (single-corrects [] word) ([] ∷ []) (single-listed [] word)
 
-pub one-fewer : 1 < 2 * 2 ^ dataCells 1
-one-fewer = noDenserCode 1 (λ u. u ≡ 1 ∷ []) (single-corrects (1 ∷ []) one-word) ((1 ∷ []) ∷ []) (single-listed (1 ∷ []) one-word)
+pub one-cell-fewer : 1 < 2 * 2 ^ dataCells 1
+one-cell-fewer =
+    noDenserCode 1 (λ u. u ≡ 1 ∷ []) (single-corrects (1 ∷ []) one-word) ((1 ∷ []) ∷ []) (single-listed (1 ∷ []) one-word)

@@ -6,30 +6,30 @@ use mathlib.Core.Logic.{_≢_}
 use mathlib.Core.Path.{_≡_, refl, sym, _∙_}
 use native.Mathlib.Omega.{arith}
 use lib.Dec.{lit<}
-use Rattle.lattice.specs.Check.{isPower, isCheck, dataCells}
-use Rattle.codec.specs.Field.{fieldOf, isCell, isReceived, cellsOk}
+use Rattle.codec.specs.Field.{fieldOf, isCell}
 use Rattle.codec.specs.Bound.{Word}
 use Rattle.codec.specs.theorems.Bound.{NoDenserCode, CodeInUse, BoundExamples}
-use Rattle.codec.proofs.theory.FieldLists.{ok-received}
-use Rattle.codec.proofs.theory.HammingBound.{fewer}
-use Rattle.codec.proofs.theory.WordsInUse.{use-corrects, usedWords, use-listed, use-length, use-most}
+use Rattle.codec.proofs.theory.BinaryWords.{is-word}
+use Rattle.codec.proofs.theory.ClassCodewords.{codewords-correct, allCodewords, codewords-listed, codewords-length}
+use Rattle.codec.proofs.theory.ClassCodewords.{codewords-most}
+use Rattle.codec.proofs.theory.HammingBound.{packing-bound}
 
 -- Theorem. Any set of words of n cells that corrects one has fewer than twice 2^k words.
 pub noDenserCode : NoDenserCode
-noDenserCode n S code words listed = fewer n S code words listed
+noDenserCode n S code words listed = packing-bound n S code words listed
 
--- Theorem. The words in use are such a set, and they are 2^k.
+-- Theorem. The codewords of a class are such a set, and they are 2^k.
 pub codeInUse : CodeInUse
 codeInUse =
     record {
-      corrects = use-corrects;
-      least = λ L a. (usedWords L a, use-listed L a, use-length L a);
-      most = use-most;
+      corrects = codewords-correct;
+      least = λ L a. (allCodewords L a, codewords-listed L a, codewords-length L a);
+      most = codewords-most;
     }
 
 -- Theorem. Our own examples hold.
 pub boundExamples : BoundExamples
-unfolding isPower isCheck dataCells isCell isReceived cellsOk
+unfolding isCell
 boundExamples =
     record {
       comes = (
@@ -42,14 +42,13 @@ boundExamples =
         λ c. omega (arith, c .word .long),
       );
       class-words = (refl, refl);
-      data-cells = (refl, refl, refl, refl, refl, refl);
     }
   where
     here : Word 3 (0 ∷ 0 ∷ 1 ∷ [])
-    here = record { long = refl; cells = ok-received (fieldOf (0 ∷ 0 ∷ 1 ∷ [])) 3 refl }
+    here = is-word (0 ∷ 0 ∷ 1 ∷ []) refl
 
     there : Word 3 (0 ∷ 1 ∷ 1 ∷ [])
-    there = record { long = refl; cells = ok-received (fieldOf (0 ∷ 1 ∷ 1 ∷ [])) 3 refl }
+    there = is-word (0 ∷ 1 ∷ 1 ∷ []) refl
 
     second : (i : ℕ) → fieldOf (0 ∷ 0 ∷ 1 ∷ []) i ≢ fieldOf (0 ∷ 1 ∷ 1 ∷ []) i → i ≡ 1
     second zero d = absurd (d refl)

@@ -15,56 +15,56 @@ use Rattle.codec.proofs.theory.BinaryWords.{word-most}
 use Rattle.codec.proofs.theory.CellValues.{most-cell}
 
 -- a word with the cell i flipped
-flipped : List ℕ → ℕ → List ℕ
-flipped w i = set w i (flip (fieldOf w i))
+flipOne : List ℕ → ℕ → List ℕ
+flipOne w i = set w i (flip (fieldOf w i))
 
-flipped-here : (w : List ℕ) (i : ℕ) → i < length w → fieldOf (flipped w i) i ≡ flip (fieldOf w i)
-unfolding flipped
-flipped-here w i l = getD-set-same w i (flip (fieldOf w i)) 0 l
+flip-here : (w : List ℕ) (i : ℕ) → i < length w → fieldOf (flipOne w i) i ≡ flip (fieldOf w i)
+unfolding flipOne
+flip-here w i l = getD-set-same w i (flip (fieldOf w i)) 0 l
 
-flipped-else : (w : List ℕ) (i j : ℕ) → j ≢ i → fieldOf (flipped w i) j ≡ fieldOf w j
-unfolding flipped
-flipped-else w i j d = getD-set-other w i j (flip (fieldOf w i)) 0 d
+flip-else : (w : List ℕ) (i j : ℕ) → j ≢ i → fieldOf (flipOne w i) j ≡ fieldOf w j
+unfolding flipOne
+flip-else w i j d = getD-set-other w i j (flip (fieldOf w i)) 0 d
 
-flipped-length : (w : List ℕ) (i : ℕ) → length (flipped w i) ≡ length w
-unfolding flipped
-flipped-length w i = length-set w i (flip (fieldOf w i))
+flip-length : (w : List ℕ) (i : ℕ) → length (flipOne w i) ≡ length w
+unfolding flipOne
+flip-length w i = length-set w i (flip (fieldOf w i))
 
 -- it can have come from the word
 module _ {n : ℕ} {w : List ℕ} (h : Word n w) (k : ℕ) (l : k < n) where
-  flipped-word : Word n (flipped w k)
-  flipped-word = record { long = flipped-length w k ∙ h .long; cells = λ i m. most-cell _ (go i (ℕ-discrete i k)) }
+  flip-word : Word n (flipOne w k)
+  flip-word = record { long = flip-length w k ∙ h .long; cells = λ i m. most-cell _ (go i (ℕ-discrete i k)) }
     where
-      go : (i : ℕ) → Dec (i ≡ k) → fieldOf (flipped w k) i ≤ 1
+      go : (i : ℕ) → Dec (i ≡ k) → fieldOf (flipOne w k) i ≤ 1
       go i (yes e) =
-          subst (λ (j : ℕ). fieldOf (flipped w k) j ≤ 1) (sym e) (omega (arith, flipped-here w k (omega (arith, h .long))))
-      go i (no d) = omega (arith, flipped-else w k i d, word-most h i)
+          subst (λ (j : ℕ). fieldOf (flipOne w k) j ≤ 1) (sym e) (omega (arith, flip-here w k (omega (arith, h .long))))
+      go i (no d) = omega (arith, flip-else w k i d, word-most h i)
 
-  flipped-comes : ComesFrom n w (flipped w k)
-  flipped-comes =
-      record { word = flipped-word; one = λ i j d e. differs i d (ℕ-discrete i k) ∙ sym (differs j e (ℕ-discrete j k)) }
+  flip-comes : ComesFrom n w (flipOne w k)
+  flip-comes =
+      record { word = flip-word; one = λ i j d e. differs i d (ℕ-discrete i k) ∙ sym (differs j e (ℕ-discrete j k)) }
     where
-      differs : (i : ℕ) → fieldOf w i ≢ fieldOf (flipped w k) i → Dec (i ≡ k) → i ≡ k
+      differs : (i : ℕ) → fieldOf w i ≢ fieldOf (flipOne w k) i → Dec (i ≡ k) → i ≡ k
       differs i d (yes e) = e
-      differs i d (no e) = absurd (d (sym (flipped-else w k i e)))
+      differs i d (no e) = absurd (d (sym (flip-else w k i e)))
 
 -- the word with each of its first k cells flipped, one at a time
 flips : List ℕ → ℕ → List (List ℕ)
 flips w zero = []
-flips w (suc k) = flipped w k ∷ flips w k
+flips w (suc k) = flipOne w k ∷ flips w k
 
 flips-length : (w : List ℕ) (k : ℕ) → length (flips w k) ≡ k
 unfolding flips
 flips-length w zero = refl
 flips-length w (suc k) = ap suc (flips-length w k)
 
-flips-are : (w x : List ℕ) (k : ℕ) → List·Memᴰ x (flips w k) → (i : ℕ) × (i < k) × (x ≡ flipped w i)
+flips-are : (w x : List ℕ) (k : ℕ) → List·Memᴰ x (flips w k) → (i : ℕ) × (i < k) × (x ≡ flipOne w i)
 unfolding flips
 flips-are w x zero m = absurd (List·Memᴰ·not-nil m)
 flips-are w x (suc k) m = go (flips-are w x k) (List·Memᴰ·cases-cons m)
   where
-    go : (List·Memᴰ x (flips w k) → (i : ℕ) × (i < k) × (x ≡ flipped w i)) → (x ≡ flipped w k) ⊎ List·Memᴰ x (flips w k)
-        → (i : ℕ) × (i < suc k) × (x ≡ flipped w i)
+    go : (List·Memᴰ x (flips w k) → (i : ℕ) × (i < k) × (x ≡ flipOne w i)) → (x ≡ flipOne w k) ⊎ List·Memᴰ x (flips w k)
+        → (i : ℕ) × (i < suc k) × (x ≡ flipOne w i)
     go rest (inl e) = (k, le-refl _, e)
     go rest (inr p) = let r = rest p in (r .0, omega (arith, r .1), r .2)
 
@@ -78,22 +78,22 @@ ball-length n w = omega (arith, flips-length w n)
 
 module _ {n : ℕ} {w : List ℕ} (h : Word n w) where
   -- a cell flipped makes another word, and two cells flipped make different ones
-  flipped-other : (i : ℕ) → i < n → w ≢ flipped w i
-  flipped-other i l e =
+  flip-differs : (i : ℕ) → i < n → w ≢ flipOne w i
+  flip-differs i l e =
       omega (
         arith,
         word-most h i,
-        flipped-here w i (omega (arith, h .long)),
+        flip-here w i (omega (arith, h .long)),
         ap (λ (x : List ℕ). fieldOf x i) e,
       )
 
-  flipped-apart : (i j : ℕ) → i < n → i ≢ j → flipped w i ≢ flipped w j
-  flipped-apart i j l d e =
+  flip-apart : (i j : ℕ) → i < n → i ≢ j → flipOne w i ≢ flipOne w j
+  flip-apart i j l d e =
       omega (
         arith,
         word-most h i,
-        flipped-here w i (omega (arith, h .long)),
-        flipped-else w j i d,
+        flip-here w i (omega (arith, h .long)),
+        flip-else w j i d,
         ap (λ (x : List ℕ). fieldOf x i) e,
       )
 
@@ -101,14 +101,14 @@ module _ {n : ℕ} {w : List ℕ} (h : Word n w) where
   unfolding flips
   flips-distinct zero l = tt
   flips-distinct (suc k) l = (
-    λ y m e. let r = flips-are w y k m in flipped-apart k (r .0) l (λ q. omega (arith, r .1)) (e ∙ r .2),
+    λ y m e. let r = flips-are w y k m in flip-apart k (r .0) l (λ q. omega (arith, r .1)) (e ∙ r .2),
     flips-distinct k (omega arith),
   )
 
   pub ball-distinct : Distinct (ball n w)
   unfolding ball
   ball-distinct =
-      (λ y m e. let r = flips-are w y n m in flipped-other (r .0) (r .1) (e ∙ r .2), flips-distinct n (le-refl _))
+      (λ y m e. let r = flips-are w y n m in flip-differs (r .0) (r .1) (e ∙ r .2), flips-distinct n (le-refl _))
 
   -- the words of the ball can have come from the word
   pub ball-comes : (x : List ℕ) → List·Memᴰ x (ball n w) → ComesFrom n w x
@@ -119,5 +119,5 @@ module _ {n : ℕ} {w : List ℕ} (h : Word n w) where
       subst (λ (y : List ℕ). ComesFrom n w y) (sym e) (record { word = h; one = λ i j d k. absurd (d refl) }))
       (λ (p : List·Memᴰ x (flips w n)).
       let r = flips-are w x n p in
-      subst (λ (y : List ℕ). ComesFrom n w y) (sym (r .2)) (flipped-comes h (r .0) (r .1)))
+      subst (λ (y : List ℕ). ComesFrom n w y) (sym (r .2)) (flip-comes h (r .0) (r .1)))
       (List·Memᴰ·cases-cons m)

@@ -6,14 +6,19 @@ use mathlib.Core.List.{List·Memᴰ, List·Memᴰ·head, List·Memᴰ·not-nil, 
 use mathlib.Core.Logic.{_≢_, ⊎-elim}
 use mathlib.Core.Path.{_≡_, refl, ap, _∙_, sym, subst}
 use native.Mathlib.Decide.{decLt}
-use native.Mathlib.Nat.{not-suc-le-zero}
 use native.Mathlib.Omega.{arith}
 use lib.ListN.{length, length-append, length-map, List·getD-eq-default}
+use Rattle.lattice.specs.Counting.{allBelow}
 use Rattle.lattice.specs.Distinct.{Distinct}
 use Rattle.lattice.proofs.theory.Distinct.{distinct-append, distinct-map}
 use Rattle.codec.specs.Field.{fieldOf, isCell}
 use Rattle.codec.specs.Bound.{Word}
+use Rattle.codec.proofs.theory.AllBelow.{below-all}
 use Rattle.codec.proofs.theory.CellValues.{cell-most, most-cell}
+
+-- a list of cells is a word
+pub is-word : (w : List ℕ) → allBelow (λ i. isCell (fieldOf w i)) (length w) ≡ true → Word (length w) w
+is-word w e = record { long = refl; cells = below-all (λ i. isCell (fieldOf w i)) (length w) e }
 
 -- each entry of a word is at most 1, and so is the 0 that stands behind them
 pub word-most : {n : ℕ} {w : List ℕ} → Word n w → (i : ℕ) → fieldOf w i ≤ 1
@@ -24,30 +29,26 @@ word-most {n} {w} h i = go (decLt i n)
     go (no l) = omega (arith, List·getD-eq-default w 0 {n = i} (omega (arith, h .long)))
 
 -- the words of n + 1 cells that begin with x
-begun : ℕ → List (List ℕ) → List (List ℕ)
+abbrev begun : ℕ → List (List ℕ) → List (List ℕ)
 begun x words = map (λ w. x ∷ w) words
 
 pub allWords : ℕ → List (List ℕ)
 allWords zero = [] ∷ []
 allWords (suc n) = begun 0 (allWords n) ++ begun 1 (allWords n)
 
-begun-length : (x : ℕ) (words : List (List ℕ)) → length (begun x words) ≡ length words
-unfolding begun
-begun-length x words = length-map words (λ w. x ∷ w)
-
 pub all-length : (n : ℕ) → length (allWords n) ≡ 2 ^ n
 unfolding allWords
 all-length zero = refl
 all-length (suc n) =
     length-append (begun 0 (allWords n)) (begun 1 (allWords n))
-    ∙ omega (arith, begun-length 0 (allWords n), begun-length 1 (allWords n), all-length n)
+    ∙ omega (arith, length-map (allWords n) (λ w. 0 ∷ w), length-map (allWords n) (λ w. 1 ∷ w), all-length n)
 
 -- every word is there
 rest : {n x : ℕ} {w : List ℕ} → Word (suc n) (x ∷ w) → Word n w
 rest h = record { long = omega (arith, h .long); cells = λ i l. h .cells (suc i) (omega arith) }
 
 pub all-has : (n : ℕ) (w : List ℕ) → Word n w → List·Memᴰ w (allWords n)
-unfolding allWords begun
+unfolding allWords
 all-has zero [] h = List·Memᴰ·head refl
 all-has zero (x ∷ w) h = absurd (omega (arith, h .long))
 all-has (suc n) [] h = absurd (omega (arith, h .long))
@@ -58,11 +59,6 @@ all-has (suc n) (suc zero ∷ w) h =
 all-has (suc n) (suc (suc x) ∷ w) h = absurd (omega (arith, cell-most _ (h .cells 0 (omega arith))))
 
 -- and nothing else
-begun-are : (x : ℕ) (words : List (List ℕ)) (y : List ℕ) → List·Memᴰ y (begun x words)
-    → (w : List ℕ) × List·Memᴰ w words × (x ∷ w ≡ y)
-unfolding begun
-begun-are x words y m = Memᴰ·of-map (λ w. x ∷ w) words m
-
 longer : (n x : ℕ) (w : List ℕ) → isCell x ≡ true → Word n w → Word (suc n) (x ∷ w)
 longer n x w c h = record { long = ap suc (h .long); cells = go }
   where
@@ -73,11 +69,11 @@ longer n x w c h = record { long = ap suc (h .long); cells = go }
 pub all-are : (n : ℕ) (w : List ℕ) → List·Memᴰ w (allWords n) → Word n w
 unfolding allWords
 all-are zero w m =
-    subst (Word 0) (sym (List·Memᴰ·eq-of-singleton m)) (record { long = refl; cells = λ i l. absurd (not-suc-le-zero l) })
+    subst (Word 0) (sym (List·Memᴰ·eq-of-singleton m)) (is-word [] refl)
 all-are (suc n) w m =
     ⊎-elim
-    (λ k. go 0 (most-cell 0 (omega arith)) (begun-are 0 (allWords n) w k) (all-are n))
-    (λ k. go 1 (most-cell 1 (omega arith)) (begun-are 1 (allWords n) w k) (all-are n))
+    (λ k. go 0 (most-cell 0 (omega arith)) (Memᴰ·of-map (λ v. 0 ∷ v) (allWords n) k) (all-are n))
+    (λ k. go 1 (most-cell 1 (omega arith)) (Memᴰ·of-map (λ v. 1 ∷ v) (allWords n) k) (all-are n))
     (List·Memᴰ·append-cases (begun 0 (allWords n)) m)
   where
     go : (x : ℕ) → isCell x ≡ true → (v : List ℕ) × List·Memᴰ v (allWords n) × (x ∷ v ≡ w)
@@ -86,7 +82,7 @@ all-are (suc n) w m =
 
 -- each is there once
 pub all-distinct : (n : ℕ) → Distinct (allWords n)
-unfolding allWords begun
+unfolding allWords
 all-distinct zero = (λ y m. absurd (List·Memᴰ·not-nil m), tt)
 all-distinct (suc n) =
     distinct-append (begun 0 (allWords n)) (begun 1 (allWords n)) (half 0 (all-distinct n)) (half 1 (all-distinct n)) apart
@@ -96,6 +92,6 @@ all-distinct (suc n) =
 
     apart : (v w : List ℕ) → List·Memᴰ v (begun 0 (allWords n)) → List·Memᴰ w (begun 1 (allWords n)) → v ≢ w
     apart v w k l e =
-        let first = begun-are 0 (allWords n) v k in
-        let second = begun-are 1 (allWords n) w l in
+        let first = Memᴰ·of-map (λ x. 0 ∷ x) (allWords n) k in
+        let second = Memᴰ·of-map (λ x. 1 ∷ x) (allWords n) l in
         omega (arith, ap (λ (x : List ℕ). fieldOf x 0) (first .2 ∙ e ∙ sym (second .2)))

@@ -53,10 +53,11 @@ module _ (L : Layout) (d : Field) where
   completed-lawful c = record { cells = completed-cells (L .cells) c; classes = completed-codeword c }
 
 -- two codewords of a class that agree on its data cells are the same
-pub codeword-unique : (L : Layout) (a : ℕ) (f g : Field) → Lawful L (tagsOf L) f → Lawful L (tagsOf L) g
+pub codeword-unique : (L : Layout) (a : ℕ) (f g : Field) → Cells f (L .cells) → Cells g (L .cells)
+    → Codeword L (tagsOf L) f a → Codeword L (tagsOf L) g a
     → ((i : ℕ) → i < L .cells → L .class i ≡ a → holdsData L i ≡ true → f i ≡ g i)
     → (i : ℕ) → i < L .cells → L .class i ≡ a → f i ≡ g i
-codeword-unique L a f g u v e i l c = go (holdsData L i) refl
+codeword-unique L a f g f-cells g-cells f-word g-word e i l c = go (holdsData L i) refl
   where
     part : (b : Bool) (x y : ℕ) → (b ≡ true → x ≡ y) → cond b x 0 ≡ cond b y 0
     part true x y h = h refl
@@ -70,6 +71,6 @@ codeword-unique L a f g u v e i l c = go (holdsData L i) refl
     go : (b : Bool) → holdsData L i ≡ b → f i ≡ g i
     go true h = e i l c h
     go false h =
-        codeword-checks L f (u .cells) a (u .classes a) i l c h
+        codeword-checks L f f-cells a f-word i l c h
         ∙ ap (λ (s : ℕ). s / position L i % 2) same
-        ∙ sym (codeword-checks L g (v .cells) a (v .classes a) i l c h)
+        ∙ sym (codeword-checks L g g-cells a g-word i l c h)

@@ -43,5 +43,6 @@ module _ (L : Layout) (p : List ℕ) where
 -- the field written is the only lawful field that carries the payload
 pub encoded-only : (L : Layout) (p : List ℕ) (f : Field) → Lawful L (tagsOf L) f → Carries L f p → Same f (encoded L p) (L .cells)
 encoded-only L p f u c i l =
-    codeword-unique L (L .class i) f (encoded L p) u (encoded-lawful L p)
+    let v = encoded-lawful L p in
+    codeword-unique L (L .class i) f (encoded L p) (u .cells) (v .cells) (u .classes (L .class i)) (v .classes (L .class i))
     (λ j m q e. c j m e ∙ sym (encoded-carries L p j m e)) i l refl

@@ -95,9 +95,9 @@ words-short (suc n) =
     (omega (arith, data-cells (suc n), checks-most (suc n), b .0)) (b .1)
 
 -- so s is below 2 × 2^k
-pub fewer : (n : ℕ) (S : List ℕ → Type 0) → CorrectsOne n S → (ws : List (List ℕ)) → Listed S ws
+pub packing-bound : (n : ℕ) (S : List ℕ → Type 0) → CorrectsOne n S → (ws : List (List ℕ)) → Listed S ws
     → length ws < 2 * 2 ^ dataCells n
-fewer n S code ws h = go (decLt (length ws) (2 * 2 ^ dataCells n))
+packing-bound n S code ws h = go (decLt (length ws) (2 * 2 ^ dataCells n))
   where
     go : Dec (length ws < 2 * 2 ^ dataCells n) → length ws < 2 * 2 ^ dataCells n
     go (yes l) = l

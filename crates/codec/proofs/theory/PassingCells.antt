@@ -15,7 +15,7 @@ use Rattle.codec.specs.Bound.{Word, passing}
 
 module _ (test : ℕ → Bool) (f : Field) where
   -- one entry for each
-  pub passing-length : (n : ℕ) → length (passing test f n) ≡ count test n
+  passing-length : (n : ℕ) → length (passing test f n) ≡ count test n
   passing-length zero = refl
   passing-length (suc n) = go (test n) (passing-length n)
     where
@@ -46,7 +46,7 @@ module _ (test : ℕ → Bool) (f : Field) where
           (eq-or-lt-of-le (le-of-suc-le-suc l))
 
   -- and each entry is such a cell
-  pub passing-cell : (n k : ℕ) → k < count test n
+  passing-cell : (n k : ℕ) → k < count test n
       → (i : ℕ) × (i < n) × (test i ≡ true) × (count test i ≡ k) × (fieldOf (passing test f n) k ≡ f i)
   passing-cell n k l =
       let r = count-reach test n k l in

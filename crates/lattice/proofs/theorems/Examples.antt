@@ -6,7 +6,7 @@ use Rattle.lattice.specs.Settings.{oddSettings, evenSettings, flatSettin
 use Rattle.lattice.specs.Cell.{cellNumber, cellAt}
 use Rattle.lattice.specs.Class.{minusMod, classWith, classesOf, classOf, inside, classNumber, classGiven}
 use Rattle.lattice.specs.Position.{sizeTo, position}
-use Rattle.lattice.specs.Check.{isPower, isCheck}
+use Rattle.lattice.specs.Check.{isPower, isCheck, dataCells}
 use Rattle.lattice.specs.Order.{order}
 use Rattle.lattice.specs.DistanceTest.{testStrengthOk, testSettingsOk, testNumber, failsAt, outcome, verdict, foundTriple}
 use Rattle.lattice.specs.DistanceTest.{triplesTried}
@@ -18,7 +18,7 @@ unfolding
     inRange maxStrength sizeOk strengthOk shapeNumber
     oddSettings evenSettings flatSettings stackTable stackSettings settingsFor
     cellNumber cellAt minusMod classWith classesOf classOf inside classNumber classGiven
-    sizeTo position isPower isCheck
+    sizeTo position isPower isCheck dataCells
     testStrengthOk testSettingsOk testNumber order failsAt outcome verdict foundTriple triplesTried
 placingExamples =
     record {
@@ -29,6 +29,7 @@ placingExamples =
       byte-number = refl;
       positions = (refl, refl);
       check-positions = (refl, refl, refl, refl, refl, refl, refl);
+      data-cells = (refl, refl, refl, refl, refl, refl);
       columns = (refl, refl, refl);
       rows = (refl, refl, refl);
       planes = (refl, refl, refl);

@@ -1,6 +1,6 @@
 -- How many of the places below n have the remainder of y: laws with no division.
 use Prim.Native.Nat.{ℕ, zero, suc, _+_, _*_, _%_, _<_, _≤_}
-use mathlib.Core.Bool.{Bool, cond}
+use mathlib.Core.Bool.{Bool}
 use mathlib.Core.Path.{_≡_, refl, sym, ap, _∙_}
 use native.Mathlib.Decide.{ℕ-discrete}
 use native.Mathlib.Nat.{add-comm, add-mod-right, mod-eq-of-lt, mod-mod, mod-lt, le-refl}
@@ -10,7 +10,7 @@ use borrow.Author.Tests.{eq-eqb, ne-eqb}
 use lib.Dec.{eqb}
 use Rattle.lattice.specs.Counting.{count}
 use Rattle.lattice.specs.Lines.{among}
-use Rattle.lattice.proofs.theory.Counting.{count-same, count-none, count-mono}
+use Rattle.lattice.proofs.theory.Counting.{bit, count-same, count-none, count-mono}
 use Rattle.lattice.proofs.theory.Remainder.{add-same, cancel-same}
 
 -- two tests of equality that mean the same
@@ -20,9 +20,6 @@ same-test a b c d p q = go (ℕ-discrete a b)
     go : Dec (a ≡ b) → eqb a b ≡ eqb c d
     go (yes e) = eq-eqb a b e ∙ sym (eq-eqb c d (p e))
     go (no e) = ne-eqb a b e ∙ sym (ne-eqb c d (λ z. e (q z)))
-
-abbrev bit : Bool → ℕ
-bit b = cond b 1 0
 
 -- a count over a stretch, which begins at j
 pub count-from : (g : ℕ → Bool) (j w : ℕ) → count (λ x. g (j + x)) w + count g j ≡ count g (j + w)
@@ -86,7 +83,7 @@ module _ (m : ℕ) where
   among-after y (suc n) p l = go (ℕ-discrete n y) (λ r. among-after y n (omega arith) r)
     where
       go : Dec (n ≡ y) → (y < n → count (λ z. eqb (z % m) (y % m)) n ≡ 1)
-          → cond (eqb (n % m) (y % m)) 1 0 + count (λ z. eqb (z % m) (y % m)) n ≡ 1
+          → bit (eqb (n % m) (y % m)) + count (λ z. eqb (z % m) (y % m)) n ≡ 1
       go (yes e) before =
           omega (
             arith,

@@ -1,21 +1,17 @@
 -- The sizes of the classes from the beginnings of the lines: an addition for each line, and two sums for each class.
 use Prim.Native.Nat.{ℕ, zero, suc, _+_, _-_, _*_, _%_, _<_, _≤_}
-use mathlib.Core.Bool.{Bool, cond}
 use mathlib.Core.Path.{_≡_, refl, sym, ap, ap₂, _∙_}
 use native.Mathlib.Nat.{add-mod-right, mod-eq-of-lt, le-refl}
 use native.Mathlib.Numerals.{add-one}
 use native.Mathlib.Omega.{arith}
 use lib.Dec.{eqb}
 use Rattle.lattice.specs.Position.{Layout, sizeTo}
-use Rattle.lattice.proofs.theory.Counting.{count-step}
+use Rattle.lattice.proofs.theory.Counting.{bit, count-step}
 use Rattle.lattice.proofs.theory.Positions.{size-none}
 use Rattle.lattice.proofs.theory.Remainder.{add-same, cancel-same}
 use Rattle.lattice.specs.Lines.{ByLines, HasPeriod, noOffset, among, startsAt, heads}
 use Rattle.lattice.proofs.theory.Among.{same-test, among-many}
 use Rattle.lattice.proofs.theory.LineSizes.{line-size}
-
-abbrev bit : Bool → ℕ
-bit b = cond b 1 0
 
 module _ (m : ℕ) where
   among-step : (y n : ℕ) → among m y (n + 1) ≡ bit (eqb (n % m) (y % m)) + among m y n

@@ -1,5 +1,5 @@
 -- The pigeonhole: pairwise different entries that all stand in a list are at most as many as its entries. So pairwise different
--- numbers that are all values of a function are at most as many as its arguments, or its different values.
+-- values of a function are at most as many as its arguments, and numbers among them as its different values.
 use Prim.Native.Nat.{ℕ, zero, suc, _+_, _≤_, _<_}
 use mathlib.Core.Bool.{Bool, true, false, cond, _||_, false≢true}
 use mathlib.Core.List.{List, [], _∷_, map, Memᴰ·cast, Memᴰ·map}
@@ -49,7 +49,7 @@ pigeonhole (x ∷ xs) l d h =
     )
 
 -- each entry of xs is a value of g at some entry of l
-abbrev pub Covered : {A B : Type 0} → (A → B) → List A → List B → Type 0
+abbrev Covered : {A B : Type 0} → (A → B) → List A → List B → Type 0
 Covered {A} {B} g l xs = (x : B) → List·Memᴰ x xs → (c : A) × List·Memᴰ c l × (x ≡ g c)
 
 -- Pairwise different values of g at the entries of a list are at most as many as these.

@@ -70,13 +70,14 @@ module _ (L : Layout) where
       let e : L .class (r .0) ≡ a = eqb-true (L .class (r .0)) a (r .2) in
       (r .0, r .1, e, omega (arith, ap (λ (b : ℕ). sizeTo L b (r .0)) e, r .3))
 
+-- what two tests add to a count: what the second does where the first holds
 both : (b c : Bool) → bit (b && c) ≡ cond b (bit c) 0
 both true c = refl
 both false c = refl
 
 -- each of the first n cells is in one class, and all classes are below m: how often a test holds over the cells is the sum of how
 -- often it holds over those of each class
-sum-classes : (L : Layout) (test : ℕ → Bool) (m n : ℕ) → ((i : ℕ) → i < n → L .class i < m)
+pub sum-classes : (L : Layout) (test : ℕ → Bool) (m n : ℕ) → ((i : ℕ) → i < n → L .class i < m)
     → sumBelow (λ a. count (λ i. eqb (L .class i) a && test i) n) m ≡ count test n
 sum-classes L test m zero p = sum-none (λ a. 0) m (λ a l. refl)
 sum-classes L test m (suc n) p =
@@ -88,7 +89,7 @@ sum-classes L test m (suc n) p =
     (sum-classes L test m n (λ i l. p i (omega arith)))
 
 module _ (L : Layout) (P : ℕ → ℕ → Bool) where
-  one-more : (b : Bool) (f : ℕ → Bool) (k : ℕ) → count f (cond b 1 0 + k) ≡ cond b (cond (f k) 1 0) 0 + count f k
+  one-more : (b : Bool) (f : ℕ → Bool) (k : ℕ) → count f (bit b + k) ≡ cond b (bit (f k)) 0 + count f k
   one-more true f k = ap (λ (j : ℕ). count f j) (add-comm 1 k) ∙ count-step f k
   one-more false f k = ap (λ (j : ℕ). count f j) (zero-add k) ∙ sym (zero-add (count f k))
 

@@ -11,7 +11,7 @@ use Rattle.lattice.specs.Shape.{shapeNumber, maxSide, maxPlanes, maxCell
 use Rattle.lattice.specs.Cell.{cell, cellNumber}
 use Rattle.lattice.specs.Class.{classGiven, classesOf, layoutOf}
 use Rattle.lattice.specs.Position.{position}
-use Rattle.lattice.specs.Check.{isCheck}
+use Rattle.lattice.specs.Check.{isCheck, dataCells}
 use Rattle.lattice.specs.Order.{triple}
 use Rattle.lattice.specs.DistanceTest.{maxTestStrength, maxTestClasses, testNumber, verdict, foundTriple, triplesTried}
 
@@ -68,6 +68,14 @@ pub record PlacingExamples : Type 0 where
       × (isCheck 7 5 ≡ false)
       × (isCheck 7 6 ≡ false)
       × (isCheck 7 7 ≡ false)
+  -- of classes of 0, 1, 2, 3, 7 and 10 cells, 0, 0, 0, 1, 4 and 6 hold no check
+  pub data-cells :
+      (dataCells 0 ≡ 0)
+      × (dataCells 1 ≡ 0)
+      × (dataCells 2 ≡ 0)
+      × (dataCells 3 ≡ 1)
+      × (dataCells 7 ≡ 4)
+      × (dataCells 10 ≡ 6)
   -- the limits of a size: 256, 256, 16, and 65,536 in all, beyond which 145 × 113 × 4 = 65,540 is the least that a shape can have
   pub columns :
       (shapeNumber (sized 256 1 1 1) ≡ 0) × (shapeNumber (sized 257 1 1 1) ≡ 1) × (shapeNumber (sized 0 1 1 1) ≡ 1)

@@ -1,5 +1,5 @@
--- The words that a class has in the lawful fields: no word can have come from two of them, and they are 2^k, one for each choice
--- of the k data cells of the class.
+-- The codewords of a class: no word can have come from two of them, and they are 2^k, one for each choice of the k data cells of
+-- the class.
 use Prim.Native.Nat.{ℕ, _^_, _<_, _≤_}
 use mathlib.Core.Bool.{Bool, true, _&&_}
 use mathlib.Core.List.{List, map, List·Memᴰ, Memᴰ·of-map}
@@ -21,7 +21,7 @@ use Rattle.lattice.proofs.theory.Pigeonhole.{covered-length}
 use Rattle.lattice.proofs.theory.Positions.{position-one}
 use Rattle.codec.specs.Field.{Field, fieldOf, Cells}
 use Rattle.codec.specs.Hamming.{tagsOf, Lawful, Near}
-use Rattle.codec.specs.Bound.{Word, ComesFrom, CorrectsOne, Listed, passing, wordOf, InUse}
+use Rattle.codec.specs.Bound.{Word, ComesFrom, CorrectsOne, Listed, passing, wordOf, ClassCodeword}
 use Rattle.codec.proofs.theorems.Reading.{oneCodeword}
 use Rattle.codec.proofs.theory.BinaryWords.{word-most, allWords, all-length, all-has, all-are, all-distinct}
 use Rattle.codec.proofs.theory.CellValues.{most-cell}
@@ -63,18 +63,19 @@ module _ (L : Layout) (a : ℕ) where
   comes-near f w c i j l m p q d e =
       own-one i j p q (c .one (count own i) (count own j) (λ z. d (sym z ∙ here i l p)) (λ z. e (sym z ∙ here j m q)))
     where
-      here : (k : ℕ) → k < L .cells → L .class k ≡ a → fieldOf (wordOf L a f) (count own k) ≡ f k
-      here k b o = passing-at own f (L .cells) k b (eq-eqb (L .class k) a o)
+      here : (x : ℕ) → x < L .cells → L .class x ≡ a → fieldOf (wordOf L a f) (count own x) ≡ f x
+      here x b o = passing-at own f (L .cells) x b (eq-eqb (L .class x) a o)
 
   -- so no word can have come from two of them
-  pub use-corrects : CorrectsOne (size L a) (InUse L a)
+  pub codewords-correct : CorrectsOne (size L a) (ClassCodeword L a)
   unfolding sizeTo
-  use-corrects = record { words = words; apart = apart }
+  codewords-correct = record { words = words; apart = apart }
     where
-      words : (u : List ℕ) → InUse L a u → Word (size L a) u
+      words : (u : List ℕ) → ClassCodeword L a u → Word (size L a) u
       words u r = subst (Word (size L a)) (sym (r .2)) (passing-word own (r .0) (L .cells) (r .1 .cells))
 
-      apart : (u v w : List ℕ) → InUse L a u → InUse L a v → ComesFrom (size L a) u w → ComesFrom (size L a) v w → u ≡ v
+      apart : (u v w : List ℕ) → ClassCodeword L a u → ClassCodeword L a v
+          → ComesFrom (size L a) u w → ComesFrom (size L a) v w → u ≡ v
       apart u v w r s c d =
           let near = comes-near (r .0) w (subst (λ (x : List ℕ). ComesFrom (size L a) x w) (r .2) c) in
           let near′ = comes-near (s .0) w (subst (λ (x : List ℕ). ComesFrom (size L a) x w) (s .2) d) in
@@ -118,7 +119,7 @@ module _ (L : Layout) (a : ℕ) where
           ∙ chosen-data v i data′
           ∙ ap (fieldOf v) (r .3)
 
-  -- and each word in use is that of a choice
+  -- and each codeword is that of a choice
   dataWord : Field → List ℕ
   dataWord f = passing ownData f (L .cells)
 
@@ -126,43 +127,44 @@ module _ (L : Layout) (a : ℕ) where
   unfolding dataWord
   data-word f c = subst (λ (n : ℕ). Word n (dataWord f)) (classCapacity L a) (passing-word ownData f (L .cells) c)
 
-  use-chosen : (f : Field) → Lawful L (tagsOf L) f → wordOf L a f ≡ chosenWord (dataWord f)
+  codeword-chosen : (f : Field) → Lawful L (tagsOf L) f → wordOf L a f ≡ chosenWord (dataWord f)
   unfolding chosenWord dataWord
-  use-chosen f h =
+  codeword-chosen f h =
+      let other = chosen-lawful (data-word f (h .cells)) in
       passing-same own f (chosen (dataWord f)) (L .cells)
       (λ i l e.
-      codeword-unique L a f (chosen (dataWord f)) h (chosen-lawful (data-word f (h .cells)))
+      codeword-unique L a f (chosen (dataWord f)) (h .cells) (other .cells) (h .classes a) (other .classes a)
       (λ j m c d.
       sym (chosen-data (dataWord f) j d
       ∙ passing-at ownData f (L .cells) j m (and-true (own j) (holdsData L j) (eq-eqb (L .class j) a c) d)))
       i l (own-class i e))
 
-  -- so many different words are in use
-  pub usedWords : List (List ℕ)
-  usedWords = map chosenWord (allWords k)
+  -- so many different codewords there are
+  pub allCodewords : List (List ℕ)
+  allCodewords = map chosenWord (allWords k)
 
-  pub use-listed : Listed (InUse L a) usedWords
-  unfolding usedWords chosenWord
-  use-listed = record { distinct = distinct; inside = inside }
+  pub codewords-listed : Listed (ClassCodeword L a) allCodewords
+  unfolding allCodewords chosenWord
+  codewords-listed = record { distinct = distinct; inside = inside }
     where
-      distinct : Distinct usedWords
+      distinct : Distinct allCodewords
       distinct =
           distinct-map chosenWord (allWords k) (all-distinct k) (λ u v l m. chosen-one u v (all-are k u l) (all-are k v m))
 
-      inside : (w : List ℕ) → List·Memᴰ w usedWords → InUse L a w
+      inside : (w : List ℕ) → List·Memᴰ w allCodewords → ClassCodeword L a w
       inside w m =
           let r = Memᴰ·of-map chosenWord (allWords k) m in
           (chosen (r .0), chosen-lawful (all-are k (r .0) (r .1)), sym (r .2))
 
-  pub use-length : length usedWords ≡ 2 ^ k
-  unfolding usedWords
-  use-length = length-map (allWords k) chosenWord ∙ all-length k
+  pub codewords-length : length allCodewords ≡ 2 ^ k
+  unfolding allCodewords
+  codewords-length = length-map (allWords k) chosenWord ∙ all-length k
 
   -- and no more
-  pub use-most : (words : List (List ℕ)) → Listed (InUse L a) words → length words ≤ 2 ^ k
-  use-most words h =
+  pub codewords-most : (words : List (List ℕ)) → Listed (ClassCodeword L a) words → length words ≤ 2 ^ k
+  codewords-most words h =
       rw (all-length k) at
       (covered-length chosenWord words (allWords k) (h .distinct)
       (λ w m.
       let r = h .inside w m in
-      (dataWord (r .0), all-has _ _ (data-word (r .0) (r .1 .cells)), r .2 ∙ use-chosen (r .0) (r .1))))
+      (dataWord (r .0), all-has _ _ (data-word (r .0) (r .1 .cells)), r .2 ∙ codeword-chosen (r .0) (r .1))))
