@@ -11,6 +11,7 @@ pub mod Stores
 pub mod Tables
 pub mod Sorted
 pub mod Distinct
+pub mod Tabulated
 pub mod Pigeonhole
 -- refusals and answers
 pub mod Due

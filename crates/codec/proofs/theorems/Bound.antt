@@ -1,9 +1,10 @@
 -- No denser square: the terms of the theorems.
-use Prim.Native.Nat.{ℕ, zero, suc}
+use Prim.Native.Nat.{ℕ, zero, suc, _+_}
 use mathlib.Core.Bool.{false≢true}
 use mathlib.Core.List.{[], _∷_}
 use mathlib.Core.Logic.{_≢_}
 use mathlib.Core.Path.{_≡_, refl, sym, _∙_}
+use native.Mathlib.Nat.{lt-of-le-of-lt, lt-of-mul-lt-mul-right}
 use native.Mathlib.Omega.{arith}
 use lib.Dec.{lit<}
 use Rattle.codec.specs.Field.{fieldOf, isCell}
@@ -12,11 +13,12 @@ use Rattle.codec.specs.theorems.Bound.{NoDenserCode, CodeInUse, BoundExa
 use Rattle.codec.proofs.theory.BinaryWords.{is-word}
 use Rattle.codec.proofs.theory.ClassCodewords.{codewords-correct, allCodewords, codewords-listed, codewords-length}
 use Rattle.codec.proofs.theory.ClassCodewords.{codewords-most}
-use Rattle.codec.proofs.theory.HammingBound.{packing-bound}
+use Rattle.codec.proofs.theory.HammingBound.{packed, words-short}
 
 -- Theorem. Any set of words of n cells that corrects one has fewer than twice 2^k words.
 pub noDenserCode : NoDenserCode
-noDenserCode n S code words listed = packing-bound n S code words listed
+noDenserCode n S code words listed =
+    lt-of-mul-lt-mul-right (n + 1) (lt-of-le-of-lt (packed n S code words listed) (words-short n))
 
 -- Theorem. The codewords of a class are such a set, and they are 2^k.
 pub codeInUse : CodeInUse

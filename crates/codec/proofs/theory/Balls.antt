@@ -1,14 +1,14 @@
 -- The ball of a word: the word itself and the word with each of its cells flipped, which can have come from it.
-use Prim.Native.Nat.{ℕ, zero, suc, _+_, _<_, _≤_}
-use mathlib.Core.List.{List, [], _∷_, List·Memᴰ, List·Memᴰ·not-nil, List·Memᴰ·cases-cons}
-use mathlib.Core.Logic.{_≢_, _⊎_, inl, inr, ⊎-elim}
+use Prim.Native.Nat.{ℕ, _+_, _<_, _≤_}
+use mathlib.Core.List.{List, _∷_, List·Memᴰ, List·Memᴰ·cases-cons}
+use mathlib.Core.Logic.{_≢_, ⊎-elim}
 use mathlib.Core.Path.{_≡_, refl, ap, _∙_, sym, subst}
 use native.Mathlib.Decide.{ℕ-discrete}
-use native.Mathlib.Nat.{le-refl}
 use native.Mathlib.Omega.{arith}
 use lib.ListN.{length, set, length-set}
 use lib.Seq.{getD-set-same, getD-set-other}
 use Rattle.lattice.specs.Distinct.{Distinct}
+use Rattle.lattice.proofs.theory.Tabulated.{tabulate, tabulate-length, tabulate-are, tabulate-distinct}
 use Rattle.codec.specs.Field.{fieldOf, flip}
 use Rattle.codec.specs.Bound.{Word, ComesFrom}
 use Rattle.codec.proofs.theory.BinaryWords.{word-most}
@@ -48,33 +48,13 @@ module _ {n : ℕ} {w : List ℕ} (h : Word n w) (k : ℕ) (l : k < n) where
       differs i d (yes e) = e
       differs i d (no e) = absurd (d (sym (flip-else w k i e)))
 
--- the word with each of its first k cells flipped, one at a time
-flips : List ℕ → ℕ → List (List ℕ)
-flips w zero = []
-flips w (suc k) = flipOne w k ∷ flips w k
-
-flips-length : (w : List ℕ) (k : ℕ) → length (flips w k) ≡ k
-unfolding flips
-flips-length w zero = refl
-flips-length w (suc k) = ap suc (flips-length w k)
-
-flips-are : (w x : List ℕ) (k : ℕ) → List·Memᴰ x (flips w k) → (i : ℕ) × (i < k) × (x ≡ flipOne w i)
-unfolding flips
-flips-are w x zero m = absurd (List·Memᴰ·not-nil m)
-flips-are w x (suc k) m = go (flips-are w x k) (List·Memᴰ·cases-cons m)
-  where
-    go : (List·Memᴰ x (flips w k) → (i : ℕ) × (i < k) × (x ≡ flipOne w i)) → (x ≡ flipOne w k) ⊎ List·Memᴰ x (flips w k)
-        → (i : ℕ) × (i < suc k) × (x ≡ flipOne w i)
-    go rest (inl e) = (k, le-refl _, e)
-    go rest (inr p) = let r = rest p in (r .0, omega (arith, r .1), r .2)
-
 -- the ball of a word of n cells
 pub ball : ℕ → List ℕ → List (List ℕ)
-ball n w = w ∷ flips w n
+ball n w = w ∷ tabulate (flipOne w) n
 
 pub ball-length : (n : ℕ) (w : List ℕ) → length (ball n w) ≡ n + 1
 unfolding ball
-ball-length n w = omega (arith, flips-length w n)
+ball-length n w = omega (arith, tabulate-length (flipOne w) n)
 
 module _ {n : ℕ} {w : List ℕ} (h : Word n w) where
   -- a cell flipped makes another word, and two cells flipped make different ones
@@ -87,28 +67,26 @@ module _ {n : ℕ} {w : List ℕ} (h : Word n w) where
         ap (λ (x : List ℕ). fieldOf x i) e,
       )
 
-  flip-apart : (i j : ℕ) → i < n → i ≢ j → flipOne w i ≢ flipOne w j
-  flip-apart i j l d e =
-      omega (
-        arith,
-        word-most h i,
-        flip-here w i (omega (arith, h .long)),
-        flip-else w j i d,
-        ap (λ (x : List ℕ). fieldOf x i) e,
-      )
-
-  flips-distinct : (k : ℕ) → k ≤ n → Distinct (flips w k)
-  unfolding flips
-  flips-distinct zero l = tt
-  flips-distinct (suc k) l = (
-    λ y m e. let r = flips-are w y k m in flip-apart k (r .0) l (λ q. omega (arith, r .1)) (e ∙ r .2),
-    flips-distinct k (omega arith),
-  )
+  flip-one : (i j : ℕ) → i < n → flipOne w i ≡ flipOne w j → i ≡ j
+  flip-one i j l e = go (ℕ-discrete i j)
+    where
+      go : Dec (i ≡ j) → i ≡ j
+      go (yes q) = q
+      go (no d) =
+          absurd (omega (
+            arith,
+            word-most h i,
+            flip-here w i (omega (arith, h .long)),
+            flip-else w j i d,
+            ap (λ (x : List ℕ). fieldOf x i) e,
+          ))
 
   pub ball-distinct : Distinct (ball n w)
   unfolding ball
-  ball-distinct =
-      (λ y m e. let r = flips-are w y n m in flip-differs (r .0) (r .1) (e ∙ r .2), flips-distinct n (le-refl _))
+  ball-distinct = (
+    λ y m e. let r = tabulate-are (flipOne w) n m in flip-differs (r .0) (r .1) (e ∙ r .2),
+    tabulate-distinct (flipOne w) n (λ i j l m. flip-one i j l),
+  )
 
   -- the words of the ball can have come from the word
   pub ball-comes : (x : List ℕ) → List·Memᴰ x (ball n w) → ComesFrom n w x
@@ -117,7 +95,7 @@ module _ {n : ℕ} {w : List ℕ} (h : Word n w) where
       ⊎-elim
       (λ (e : x ≡ w).
       subst (λ (y : List ℕ). ComesFrom n w y) (sym e) (record { word = h; one = λ i j d k. absurd (d refl) }))
-      (λ (p : List·Memᴰ x (flips w n)).
-      let r = flips-are w x n p in
+      (λ (p : List·Memᴰ x (tabulate (flipOne w) n)).
+      let r = tabulate-are (flipOne w) n p in
       subst (λ (y : List ℕ). ComesFrom n w y) (sym (r .2)) (flip-comes h (r .0) (r .1)))
       (List·Memᴰ·cases-cons m)

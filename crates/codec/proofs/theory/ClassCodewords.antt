@@ -57,14 +57,15 @@ module _ (L : Layout) (a : ℕ) where
       position-one L i j (p ∙ sym q)
       (omega (arith, ap (λ (c : ℕ). sizeTo L c i) p, ap (λ (c : ℕ). sizeTo L c j) q))
 
-  -- where it can have come from the class's word in f, it differs from f in at most one cell of the class
-  comes-near : (f : Field) (w : List ℕ) → ComesFrom (size L a) (wordOf L a f) w → Near L (spread w) f a
+  -- where it can have come from a codeword, it differs from the codeword's field in at most one cell of the class
+  comes-near : {u w : List ℕ} (r : ClassCodeword L a u) → ComesFrom (size L a) u w → Near L (spread w) (r .0) a
   unfolding Near spread
-  comes-near f w c i j l m p q d e =
+  comes-near {u = u} r c i j l m p q d e =
       own-one i j p q (c .one (count own i) (count own j) (λ z. d (sym z ∙ here i l p)) (λ z. e (sym z ∙ here j m q)))
     where
-      here : (x : ℕ) → x < L .cells → L .class x ≡ a → fieldOf (wordOf L a f) (count own x) ≡ f x
-      here x b o = passing-at own f (L .cells) x b (eq-eqb (L .class x) a o)
+      here : (x : ℕ) → x < L .cells → L .class x ≡ a → fieldOf u (count own x) ≡ r .0 x
+      here x b o =
+          ap (λ (v : List ℕ). fieldOf v (count own x)) (r .2) ∙ passing-at own (r .0) (L .cells) x b (eq-eqb (L .class x) a o)
 
   -- so no word can have come from two of them
   pub codewords-correct : CorrectsOne (size L a) (ClassCodeword L a)
@@ -77,14 +78,12 @@ module _ (L : Layout) (a : ℕ) where
       apart : (u v w : List ℕ) → ClassCodeword L a u → ClassCodeword L a v
           → ComesFrom (size L a) u w → ComesFrom (size L a) v w → u ≡ v
       apart u v w r s c d =
-          let near = comes-near (r .0) w (subst (λ (x : List ℕ). ComesFrom (size L a) x w) (r .2) c) in
-          let near′ = comes-near (s .0) w (subst (λ (x : List ℕ). ComesFrom (size L a) x w) (s .2) d) in
           r .2
           ∙ passing-same own (r .0) (s .0) (L .cells)
           (λ i l e.
           oneCodeword .one L (tagsOf L) (oneCodeword .tells L) (spread w) (r .0) (s .0) a
           (spread-cells (c .word) (L .cells)) (r .1 .cells) (s .1 .cells)
-          near (r .1 .classes a) near′ (s .1 .classes a) i l (own-class i e))
+          (comes-near r c) (r .1 .classes a) (comes-near s d) (s .1 .classes a) i l (own-class i e))
           ∙ sym (s .2)
 
   -- the lawful field with the entries of a word in the data cells of the class, and the class's word in it

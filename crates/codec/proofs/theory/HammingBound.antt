@@ -4,8 +4,7 @@ use Prim.Native.Nat.{ℕ, zero, suc, _+_, _-_, _*_, _^_, _<_, _≤_}
 use mathlib.Core.List.{List, [], _∷_, _++_, List·Memᴰ, List·Memᴰ·head, List·Memᴰ·tail, List·Memᴰ·not-nil, List·Memᴰ·append-cases}
 use mathlib.Core.Logic.{_≢_, ⊎-elim}
 use mathlib.Core.Path.{_≡_, refl, ap, _∙_, sym, subst}
-use native.Mathlib.Decide.{decLt}
-use native.Mathlib.Nat.{mul-le-mul-left, mul-le-mul-right}
+use native.Mathlib.Nat.{mul-le-mul-left}
 use native.Mathlib.Omega.{arith}
 use lib.ListN.{length, length-append}
 use lib.Pow.{pow-add, pow-pos}
@@ -66,7 +65,7 @@ module _ (n : ℕ) (S : List ℕ → Type 0) (code : CorrectsOne n S) where
           (subst (λ (z : List ℕ). ComesFrom n w z) e (ball-comes word x m))
           (ball-comes (code .words (r .0) other) y (r .2)))
 
-  packed : (ws : List (List ℕ)) → Listed S ws → length ws * (n + 1) ≤ 2 ^ n
+  pub packed : (ws : List (List ℕ)) → Listed S ws → length ws * (n + 1) ≤ 2 ^ n
   packed ws h =
       omega (arith, balls-length n ws, all-length n, pigeonhole (balls n ws) (allWords n) (balls-distinct ws h) among)
     where
@@ -87,20 +86,10 @@ checks-short n k t e l =
         ∙ ap (λ (x : ℕ). 2 ^ k * x) (pow-add 2 t 1)
         ∙ omega arith
 
-words-short : (n : ℕ) → 2 ^ n < 2 * 2 ^ dataCells n * (n + 1)
+-- so it is in a class of n cells, as the checks are the bit length of n
+pub words-short : (n : ℕ) → 2 ^ n < 2 * 2 ^ dataCells n * (n + 1)
 words-short zero = omega (arith, pow-pos (dataCells 0))
 words-short (suc n) =
     let b = checksAreBitLength .some (suc n) (omega arith) in
     checks-short (suc n) (dataCells (suc n)) (checks (suc n) - 1)
     (omega (arith, data-cells (suc n), checks-most (suc n), b .0)) (b .1)
-
--- so s is below 2 × 2^k
-pub packing-bound : (n : ℕ) (S : List ℕ → Type 0) → CorrectsOne n S → (ws : List (List ℕ)) → Listed S ws
-    → length ws < 2 * 2 ^ dataCells n
-packing-bound n S code ws h = go (decLt (length ws) (2 * 2 ^ dataCells n))
-  where
-    go : Dec (length ws < 2 * 2 ^ dataCells n) → length ws < 2 * 2 ^ dataCells n
-    go (yes l) = l
-    go (no l) =
-        let q : 2 * 2 ^ dataCells n ≤ length ws = omega arith in
-        absurd (omega (arith, mul-le-mul-right (n + 1) q, packed n S code ws h, words-short n))

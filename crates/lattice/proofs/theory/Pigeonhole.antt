@@ -4,7 +4,7 @@ use Prim.Native.Nat.{ℕ, zero, suc, _+_, _≤_, _<_}
 use mathlib.Core.Bool.{Bool, true, false, cond, _||_, false≢true}
 use mathlib.Core.List.{List, [], _∷_, map, Memᴰ·cast, Memᴰ·map}
 use mathlib.Core.List.{List·Memᴰ, List·Memᴰ·head, List·Memᴰ·tail, List·Memᴰ·not-nil, List·Memᴰ·cases-cons}
-use mathlib.Core.Logic.{_≢_, _⊎_, inl, inr, ⊎-elim}
+use mathlib.Core.Logic.{_≢_, ⊎-elim}
 use mathlib.Core.Path.{_≡_, refl, ap, _∙_, sym}
 use native.Mathlib.Nat.{not-suc-le-zero}
 use native.Mathlib.Decide.{ℕ-discrete}
@@ -15,6 +15,7 @@ use lib.ListN.{length, length-map}
 use Rattle.lattice.specs.Labelling.{takes, differentValues}
 use Rattle.lattice.specs.Counting.{count}
 use Rattle.lattice.specs.Distinct.{Distinct}
+use Rattle.lattice.proofs.theory.Tabulated.{tabulate, tabulate-length, tabulate-has, tabulate-are, tabulate-distinct}
 
 -- the list without one entry
 without : {A : Type 0} {c : A} (l : List A) → List·Memᴰ c l → List A
@@ -58,44 +59,17 @@ covered-length g xs l d h =
     rw (length-map l g) at (pigeonhole xs (map g l) d (λ x m. let r = h x m in Memᴰ·cast (r .2) (Memᴰ·map g (r .1))))
 
 -- the numbers below m
-upTo : ℕ → List ℕ
-upTo zero = []
-upTo (suc m) = m ∷ upTo m
-
-upTo-length : (m : ℕ) → length (upTo m) ≡ m
-unfolding upTo
-upTo-length zero = refl
-upTo-length (suc m) = ap suc (upTo-length m)
-
-upTo-has : (m x : ℕ) → x < m → List·Memᴰ x (upTo m)
-unfolding upTo
-upTo-has zero x h = absurd (not-suc-le-zero h)
-upTo-has (suc m) x h = go (ℕ-discrete x m) (upTo-has m x)
-  where
-    go : Dec (x ≡ m) → (x < m → List·Memᴰ x (upTo m)) → List·Memᴰ x (m ∷ upTo m)
-    go (yes p) rest = List·Memᴰ·head p
-    go (no p) rest = List·Memᴰ·tail (rest (omega arith))
-
-upTo-sound : (m x : ℕ) → List·Memᴰ x (upTo m) → x < m
-unfolding upTo
-upTo-sound zero x k = absurd (List·Memᴰ·not-nil k)
-upTo-sound (suc m) x k = go (upTo-sound m x) (List·Memᴰ·cases-cons k)
-  where
-    go : (List·Memᴰ x (upTo m) → x < m) → (x ≡ m) ⊎ List·Memᴰ x (upTo m) → x < suc m
-    go rest (inl e) = omega arith
-    go rest (inr k′) = omega (arith, rest k′)
-
-upTo-distinct : (m : ℕ) → Distinct (upTo m)
-unfolding upTo
-upTo-distinct zero = tt
-upTo-distinct (suc m) = (λ y k e. omega (arith, upTo-sound m y k), upTo-distinct m)
+abbrev upTo : ℕ → List ℕ
+upTo m = tabulate (λ i. i) m
 
 -- Where each number below n is a value of g at some entry of a list, the list has at least n entries.
 pub all-covered : {A : Type 0} (g : A → ℕ) (n : ℕ) (l : List A)
     → ((k : ℕ) → k < n → (c : A) × List·Memᴰ c l × (k ≡ g c))
     → n ≤ length l
 all-covered g n l h =
-    omega (arith, upTo-length n, covered-length g (upTo n) l (upTo-distinct n) (λ k m. h k (upTo-sound n k m)))
+    rw (tabulate-length (λ i. i) n) at
+    (covered-length g (upTo n) l (tabulate-distinct (λ i. i) n (λ i j p q e. e))
+    (λ k m. let r = tabulate-are (λ i. i) n m in h k (omega (arith, r .1, r .2))))
 
 -- v is the value of f at some number below n
 abbrev pub ValueBelow : (ℕ → ℕ) → ℕ → ℕ → Type 0
@@ -188,10 +162,10 @@ different-values-many f n xs d h =
 -- A function whose values at the numbers below n are below m has at most m different values there.
 pub different-values-few : (f : ℕ → ℕ) (m n : ℕ) → ((i : ℕ) → i < n → f i < m) → differentValues f n ≤ m
 different-values-few f m n h =
-    omega (arith, values-length f n, upTo-length m, pigeonhole (values f n) (upTo m) (values-distinct f n) in-range)
+    omega (arith, values-length f n, tabulate-length (λ i. i) m, pigeonhole (values f n) (upTo m) (values-distinct f n) in-range)
   where
     in-range : (x : ℕ) → List·Memᴰ x (values f n) → List·Memᴰ x (upTo m)
-    in-range x k = let r = values-sound f n x k in upTo-has m x (rw (r .2) (h (r .0) (r .1)))
+    in-range x k = let r = values-sound f n x k in tabulate-has (λ i. i) m x (rw (r .2) (h (r .0) (r .1)))
 
 -- the numbers below n that pass a test
 hits : (ℕ → Bool) → ℕ → List ℕ

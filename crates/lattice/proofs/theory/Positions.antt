@@ -75,6 +75,11 @@ both : (b c : Bool) → bit (b && c) ≡ cond b (bit c) 0
 both true c = refl
 both false c = refl
 
+-- a count to the next number, where a test holds
+one-more : (b : Bool) (f : ℕ → Bool) (k : ℕ) → count f (bit b + k) ≡ cond b (bit (f k)) 0 + count f k
+one-more true f k = ap (λ (j : ℕ). count f j) (add-comm 1 k) ∙ count-step f k
+one-more false f k = ap (λ (j : ℕ). count f j) (zero-add k) ∙ sym (zero-add (count f k))
+
 -- each of the first n cells is in one class, and all classes are below m: how often a test holds over the cells is the sum of how
 -- often it holds over those of each class
 pub sum-classes : (L : Layout) (test : ℕ → Bool) (m n : ℕ) → ((i : ℕ) → i < n → L .class i < m)
@@ -89,10 +94,6 @@ sum-classes L test m (suc n) p =
     (sum-classes L test m n (λ i l. p i (omega arith)))
 
 module _ (L : Layout) (P : ℕ → ℕ → Bool) where
-  one-more : (b : Bool) (f : ℕ → Bool) (k : ℕ) → count f (bit b + k) ≡ cond b (bit (f k)) 0 + count f k
-  one-more true f k = ap (λ (j : ℕ). count f j) (add-comm 1 k) ∙ count-step f k
-  one-more false f k = ap (λ (j : ℕ). count f j) (zero-add k) ∙ sym (zero-add (count f k))
-
   -- a test of class and position holds as often over the cells of a class as over its positions
   pub in-class : (a n : ℕ) → count (λ i. eqb (L .class i) a && P (L .class i) (position L i)) n
       ≡ count (λ p. P a (p + 1)) (sizeTo L a n)

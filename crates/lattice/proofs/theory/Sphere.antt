@@ -1,9 +1,9 @@
 -- The sphere of source document 002, theorem 2.1, cut to t rows and t columns: around row h, where t is 2h + 1 or 2h + 2, the row
 -- j above or below has the columns from j up to t − j. It has m cells, and any two are less than t apart.
 use Prim.Native.Nat.{ℕ, zero, suc, _+_, _-_, _*_, _/_, _%_, _≤_, _<_}
-use mathlib.Core.List.{List, [], _∷_, _++_, List·Memᴰ, List·Memᴰ·not-nil, List·Memᴰ·cases-cons, List·Memᴰ·append-cases}
+use mathlib.Core.List.{List, _++_, List·Memᴰ, List·Memᴰ·append-cases}
 use mathlib.Core.Logic.{_⊎_, inl, inr, ⊎-elim}
-use mathlib.Core.Path.{_≡_, refl, ap, _∙_, sym}
+use mathlib.Core.Path.{_≡_, ap, _∙_, sym}
 use native.Mathlib.Decide.{ℕ-discrete}
 use native.Mathlib.Omega.{arith}
 use lib.ListN.{length, length-append}
@@ -16,16 +16,14 @@ use Rattle.lattice.proofs.theory.Distances.{apart-self, apart-sym, apar
 use Rattle.lattice.proofs.theory.Distances.{apart-within}
 use Rattle.lattice.proofs.theory.SettingsLaws.{flat-odd, flat-even}
 use Rattle.lattice.proofs.theory.Distinct.{distinct-append}
+use Rattle.lattice.proofs.theory.Tabulated.{tabulate, tabulate-length, tabulate-are, tabulate-distinct}
 
 -- n cells of a row of plane 0, from column a on
-run : ℕ → ℕ → ℕ → List Cell
-run r a zero = []
-run r a (suc n) = cell r 0 (a + n) ∷ run r a n
+abbrev run : ℕ → ℕ → ℕ → List Cell
+run r a n = tabulate (λ i. cell r 0 (a + i)) n
 
 run-length : (r a n : ℕ) → length (run r a n) ≡ n
-unfolding run
-run-length r a zero = refl
-run-length r a (suc n) = ap suc (run-length r a n)
+run-length r a n = tabulate-length (λ i. cell r 0 (a + i)) n
 
 -- what is known of its cells
 record InRun (r a n : ℕ) (x : Cell) : Type 0 where
@@ -35,26 +33,19 @@ record InRun (r a n : ℕ) (x : Cell) : Type 0 where
   to : x .column < a + n
 
 run-cells : (r a n : ℕ) (x : Cell) → List·Memᴰ x (run r a n) → InRun r a n x
-unfolding run
-run-cells r a zero x m = absurd (List·Memᴰ·not-nil m)
-run-cells r a (suc n) x m = go (run-cells r a n x) (List·Memᴰ·cases-cons m)
-  where
-    go : (List·Memᴰ x (run r a n) → InRun r a n x) → (x ≡ cell r 0 (a + n)) ⊎ List·Memᴰ x (run r a n) → InRun r a (suc n) x
-    go rest (inl e) =
-        let c : x .column ≡ a + n = ap (λ (y : Cell). y .column) e in
-        record {
-          row = ap (λ (y : Cell). y .row) e;
-          plane = ap (λ (y : Cell). y .plane) e;
-          from = omega arith;
-          to = omega arith;
-        }
-    go rest (inr k) = let i = rest k in record { row = i .row; plane = i .plane; from = i .from; to = omega (arith, i .to) }
+run-cells r a n x m =
+    let i = tabulate-are (λ i. cell r 0 (a + i)) n m in
+    let c : x .column ≡ a + i .0 = ap (λ (y : Cell). y .column) (i .2) in
+    record {
+      row = ap (λ (y : Cell). y .row) (i .2);
+      plane = ap (λ (y : Cell). y .plane) (i .2);
+      from = omega arith;
+      to = omega (arith, i .1);
+    }
 
 run-distinct : (r a n : ℕ) → Distinct (run r a n)
-unfolding run
-run-distinct r a zero = tt
-run-distinct r a (suc n) =
-    (λ y m e. omega (arith, run-cells r a n y m .to, ap (λ (z : Cell). z .column) e), run-distinct r a n)
+run-distinct r a n =
+    tabulate-distinct (λ i. cell r 0 (a + i)) n (λ i j p q e. omega (arith, ap (λ (z : Cell). z .column) e))
 
 -- columns at least i and k inside the t columns are less than t − i − k apart
 columns-near : {t i k a b : ℕ} → i ≤ a → a + i < t → k ≤ b → b + k < t → apart a b + (i + k) < t
