@@ -21,6 +21,7 @@ refusalNumber why.OutOfReach = 6
 refusalNumber why.BadPadding = 7
 refusalNumber why.BadForm = 8
 refusalNumber why.BadSettings = 9
+refusalNumber why.TooManyErasures = 10
 
 -- the number that tests give: 0 where they pass
 abbrev pub testedNumber : Tested → ℕ

@@ -14,6 +14,7 @@ pub enum Refusal {
     BadPadding,
     BadForm,
     BadSettings,
+    TooManyErasures,
 }
 
 impl Refusal {
@@ -32,6 +33,7 @@ impl Refusal {
             Refusal::BadPadding => 7,
             Refusal::BadForm => 8,
             Refusal::BadSettings => 9,
+            Refusal::TooManyErasures => 10,
         }
     }
 }

@@ -1,8 +1,8 @@
 -- Examples that meet the hypotheses of the theorems on placing, each in the field of 5 columns, 5 rows and 1 plane of strength 3.
 use Prim.Native.Nat.{ℕ, _≤_, _<_}
-use mathlib.Core.List.{List·Memᴰ·head, List·Memᴰ·tail}
+use mathlib.Core.List.{[], _∷_, List·Memᴰ·head, List·Memᴰ·tail}
 use mathlib.Core.Logic.{_≢_}
-use mathlib.Core.Path.{_≡_, refl, ap}
+use mathlib.Core.Path.{_≡_, refl, sym, ap, _∙_, subst⁻¹}
 use native.Mathlib.Omega.{arith}
 use lib.Dec.{T, ltb, lit<, lit≤}
 use Rattle.lattice.specs.declared.shape.Shape.{Shape}
@@ -10,7 +10,7 @@ use Rattle.lattice.specs.Shape.{maxStrength, sizeOk, strengthOk, shapeNu
 use Rattle.lattice.specs.Range.{inRange}
 use Rattle.lattice.specs.Settings.{oddSettings, flatSettings, settingsFor, settingsOf}
 use Rattle.lattice.specs.Cell.{Cell, cell, InField, cellNumber, cellAt}
-use Rattle.lattice.specs.Cluster.{apart, by-row, by-column, Cluster, AtMost, Together}
+use Rattle.lattice.specs.Cluster.{apart, by-row, by-column, Linked, stay, Cluster, AtMost, Together}
 use Rattle.lattice.specs.Labelling.{labels, Separates}
 use Rattle.lattice.specs.Class.{minusMod, classWith, classesOf, classOf, classAt, classNumber, inside}
 use Rattle.lattice.specs.Endless.{pointOf, HasClass}
@@ -73,7 +73,21 @@ three-cluster =
 pub three-few : AtMost 3 OfThree
 three-few = at-most-three corner (cell 0 0 1) (cell 1 0 1)
 
--- two of its cells lie together in it
+-- a cell by itself is a cluster; this one is of the class of the first cell of the cluster of three
+abbrev pub OfMate : Cell → Type 0
+OfMate x = x ≡ mate
+
+pub mate-cluster : Cluster field OfMate
+mate-cluster =
+    record {
+      inside = λ x e. subst⁻¹ (InField field) e mate-inside;
+      linked = λ x y p q. subst⁻¹ (λ (z : Cell). Linked OfMate x z) (q ∙ sym p) (stay p);
+    }
+
+pub mate-few : AtMost 3 OfMate
+mate-few = record { cells = mate ∷ []; few = lit≤ tt; all = λ x e. List·Memᴰ·head e }
+
+-- two cells of the cluster of three lie together in it
 pub three-together : Together field 3 corner (cell 1 0 1)
 three-together =
     record {

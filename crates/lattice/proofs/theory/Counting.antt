@@ -108,6 +108,11 @@ pub sum-add : (f g : ℕ → ℕ) (n : ℕ) → sumBelow (λ i. f i + g i) n ≡
 sum-add f g zero = refl
 sum-add f g (suc n) = omega (arith, sum-add f g n)
 
+-- a count as a sum
+pub count-sum : (f : ℕ → Bool) (n : ℕ) → sumBelow (λ i. bit (f i)) n ≡ count f n
+count-sum f zero = refl
+count-sum f (suc n) = omega (arith, count-sum f n)
+
 -- a sum with one term
 term-here : (g : ℕ → ℕ) (c i : ℕ) → c ≡ i → cond (eqb c i) (g i) 0 ≡ g c
 term-here g c i e = rw (eq-eqb c i e) (ap g (sym e))

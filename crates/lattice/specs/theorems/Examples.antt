@@ -132,3 +132,4 @@ pub record PlacingExamples : Type 0 where
       × (refusalNumber why.BadPadding ≡ 7)
       × (refusalNumber why.BadForm ≡ 8)
       × (refusalNumber why.BadSettings ≡ 9)
+      × (refusalNumber why.TooManyErasures ≡ 10)
