@@ -1,4 +1,5 @@
 -- Examples that meet the hypotheses of the theorems.
 pub mod Coding
 mod Stack
+pub mod Erased
 mod Codes

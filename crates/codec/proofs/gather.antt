@@ -1,2 +1,3 @@
 -- What gathering the payload uses alone.
 mod ListedChecks
+mod LowestBits

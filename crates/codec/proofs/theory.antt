@@ -14,14 +14,22 @@ mod PassingCells
 pub mod Differences
 -- the code in a class
 pub mod Syndrome
+mod Pairs
+pub mod ErasedCells
+pub mod KeptCell
+mod FilledClass
 pub mod Tags
 pub mod PowerPositions
 mod CheckBits
 mod CompletedField
 pub mod Correction
+pub mod NearestField
 mod Reach
 pub mod Damage
-pub mod DamagedCells
+pub mod ErasedSelection
+pub mod NamedCells
+mod LocatedClass
+mod LocatedErasures
 -- any code for a class, and the code in use
 pub mod BinaryWords
 mod Balls
@@ -42,10 +50,14 @@ pub mod FlippedBits
 pub mod Gathered
 -- the operations
 pub mod Accepted
+pub mod ClusterCells
 pub mod PlanRefusal
 pub mod FieldTests
 pub mod FieldNumber
+pub mod Examinations
 pub mod OperationNumbers
 mod FieldMeaning
 pub mod ReadFields
+pub mod RecoveredField
 pub mod CorrectedField
+pub mod LocatedCells

@@ -10,7 +10,7 @@ use Rattle.codec.specs.Field.{fieldOf, listOf}
 use Rattle.codec.specs.Plan.{planCells}
 use Rattle.codec.specs.Decode.{correctedField, fieldNumber, correctedCount}
 
--- the number: the shape's, then 4 for a field whose length isn't the plan's, then the field's own 5, 6 and 7
+-- the number: the shape's, then 4 for a field whose length isn't the plan's, then the field's own 5, 10, 6 and 7
 unfoldable pub correctNumber : Shape → List ℕ → ℕ
 correctNumber s field =
     afterShape s

@@ -3,13 +3,14 @@ use Prim.Native.Nat.{ℕ, _<_, _≤_}
 use mathlib.Core.Bool.{Bool, cond, true}
 use mathlib.Core.List.{List}
 use mathlib.Core.Path.{_≡_}
-use mathlib.Core.Logic.{_≢_}
+use mathlib.Core.Logic.{_≢_, _⊎_}
 use Rattle.lattice.specs.declared.shape.Shape.{Shape}
 use Rattle.lattice.specs.Shape.{cellsOf}
 use Rattle.lattice.specs.Cell.{Cell, cellAt}
 use Rattle.lattice.specs.Position.{Layout}
 use Rattle.lattice.specs.Cluster.{distance}
-use Rattle.codec.specs.Field.{Field, fieldOf, listOf, flip, differences}
+use Rattle.lattice.specs.Counting.{count}
+use Rattle.codec.specs.Field.{Field, fieldOf, listOf, erased, flip, differences}
 use Rattle.codec.specs.Encode.{encodedField}
 use Rattle.codec.specs.Decode.{decodeNumber, decodeCount, decodeLeaves}
 use Rattle.codec.specs.Correct.{correctNumber, correctCount, correctLeaves}
@@ -21,6 +22,25 @@ damaged f selected i = cond (selected i) (flip (f i)) (f i)
 -- F is the field written from p, and G is F with the selected cells flipped
 abbrev pub damagedField : Shape → List ℕ → (Cell → Bool) → List ℕ
 damagedField s p selected = listOf (damaged (fieldOf (encodedField s p)) (λ i. selected (cellAt s i))) (cellsOf s)
+
+-- a field with the selected cells erased
+unfoldable pub erasedAt : Field → (ℕ → Bool) → Field
+erasedAt f selected i = cond (selected i) erased (f i)
+
+-- the field written from p with the selected cells erased
+abbrev pub erasedField : Shape → List ℕ → (Cell → Bool) → List ℕ
+erasedField s p selected = listOf (erasedAt (fieldOf (encodedField s p)) (λ i. selected (cellAt s i))) (cellsOf s)
+
+-- the number of selected cells of a field
+abbrev pub selectedCells : Shape → (Cell → Bool) → ℕ
+selectedCells s selected = count (λ i. selected (cellAt s i)) (cellsOf s)
+
+-- at most two cells of each class are selected: of any three selected cells of a class two are one cell
+abbrev pub TwoInEachClass : Layout → (ℕ → Bool) → Type 0
+TwoInEachClass L selected =
+    (i j k : ℕ) → i < L .cells → j < L .cells → k < L .cells
+    → selected i ≡ true → selected j ≡ true → selected k ≡ true
+    → L .class i ≡ L .class j → L .class j ≡ L .class k → (i ≡ j) ⊎ (j ≡ k) ⊎ (i ≡ k)
 
 -- at most one cell of each class is selected
 abbrev pub OneInEachClass : Layout → (ℕ → Bool) → Type 0

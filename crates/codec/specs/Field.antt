@@ -1,6 +1,6 @@
 -- A field as a function: the value of each cell by its byte number.
 use Prim.Native.Nat.{ℕ, zero, suc, _-_, _<_}
-use mathlib.Core.Bool.{Bool, true, not}
+use mathlib.Core.Bool.{Bool, true, cond, not, _||_}
 use mathlib.Core.List.{List, [], _∷_, _++_}
 use mathlib.Core.Path.{_≡_}
 use lib.Dec.{leb, eqb}
@@ -27,15 +27,23 @@ isCell v = leb v 1
 abbrev pub Cells : Field → ℕ → Type 0
 Cells f n = (i : ℕ) → i < n → isCell (f i) ≡ true
 
--- the same of a field that is handed in: it has the values of a cell and no other
+-- an erasure, the papers' unread cell: the value of a cell that was not read
+abbrev pub erased : ℕ
+erased = 2
+
+-- the values of a cell of a field that is handed in: those of a cell, and erased
 unfoldable pub isReceived : ℕ → Bool
-isReceived v = isCell v
+isReceived v = isCell v || eqb v erased
 
 abbrev pub Received : Field → ℕ → Type 0
 Received f n = (i : ℕ) → i < n → isReceived (f i) ≡ true
 
 unfoldable pub cellsOk : Field → ℕ → Bool
 cellsOk f n = allBelow (λ i. isReceived (f i)) n
+
+-- the cells that have the value v: 1 in each of them, and 0 in all others
+unfoldable pub having : ℕ → Field → Field
+having v f i = cond (eqb (f i) v) 1 0
 
 -- to flip a cell, the papers' turning it over, is to make 0 of 1 or 1 of 0
 abbrev pub flip : ℕ → ℕ

@@ -3,13 +3,12 @@
 -- or of 1, 2 and 3 is 0. Where 1 0 1 is read, the exclusive or of 1 and 3 is 2, so the cell at position 2 is flipped. Of 0 1 0
 -- the same cell is flipped, as the exclusive or is 2 again, and the codeword is 0 0 0.
 use Prim.Native.Nat.{ℕ, zero, suc, _<_}
-use mathlib.Core.Bool.{Bool, cond, _&&_, _||_}
+use mathlib.Core.Bool.{cond, _&&_}
 use mathlib.Core.Logic.{_≢_}
 use mathlib.Core.Path.{_≡_}
 use lib.Bits.{bitXor}
 use lib.Dec.{eqb}
 use Rattle.lattice.specs.Position.{Layout, position}
-use Rattle.lattice.specs.Counting.{anyBelow, allBelow}
 use Rattle.codec.specs.Field.{Field, Cells, flip}
 
 -- a tag for each cell, by its byte number
@@ -48,27 +47,10 @@ pub record Lawful (L : Layout) (tag : Tags) (f : Field) : Type 0 where
   pub classes : (a : ℕ) → Codeword L tag f a
 
 -- two fields differ in at most one cell of class a: two cells of the class in which they differ are one cell
-unfoldable pub Near : Layout → Field → Field → ℕ → Type 0
-Near L f g a =
+unfoldable pub OneDiffers : Layout → Field → Field → ℕ → Type 0
+OneDiffers L f g a =
     (i j : ℕ) → i < L .cells → j < L .cells → L .class i ≡ a → L .class j ≡ a → f i ≢ g i → f j ≢ g j → i ≡ j
 
--- g is a lawful field that differs from f in at most one cell of each class
-pub record Nearest (L : Layout) (tag : Tags) (f g : Field) : Type 0 where
-  pub lawful : Lawful L tag g
-  pub near : (a : ℕ) → Near L f g a
-
--- v is the tag of a cell of class a
-unfoldable pub isTag : Layout → Tags → ℕ → ℕ → Bool
-isTag L tag a v = anyBelow (λ i. eqb (L .class i) a && eqb (tag i) v) (L .cells)
-
--- some codeword is in reach of class a: its syndrome is 0 or the tag of a cell of the class
-unfoldable pub inReach : Layout → Tags → Field → ℕ → Bool
-inReach L tag f a = eqb (syndrome L tag f a) 0 || isTag L tag a (syndrome L tag f a)
-
--- a codeword is in reach of each class below m
-unfoldable pub allInReach : Layout → Tags → ℕ → Field → Bool
-allInReach L tag m f = allBelow (inReach L tag f) m
-
--- the corrected field: the cell whose tag is the syndrome of its class is flipped
-unfoldable pub corrected : Layout → Tags → Field → Field
-corrected L tag f i = cond (eqb (syndrome L tag f (L .class i)) (tag i)) (flip (f i)) (f i)
+-- one cell of each class corrected: the cell whose tag is the syndrome of its class is flipped
+unfoldable pub flipped : Layout → Tags → Field → Field
+flipped L tag f i = cond (eqb (syndrome L tag f (L .class i)) (tag i)) (flip (f i)) (f i)

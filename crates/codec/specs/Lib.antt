@@ -3,6 +3,7 @@
 -- definitions
 pub mod Field
 pub mod Hamming
+pub mod Erasure
 pub mod Payload
 pub mod Code
 pub mod Plan

@@ -9,7 +9,6 @@ use lib.ListN.{length, getD}
 use Rattle.lattice.specs.Position.{Layout}
 use Rattle.lattice.specs.Check.{holdsData}
 use Rattle.codec.specs.Field.{Field, flip}
-use Rattle.codec.specs.Hamming.{tagsOf, syndrome, corrected}
 use Rattle.codec.specs.Payload.{rank, payloadBit, heldByte}
 
 -- a byte of the payload begins at the cell of this rank, its eight cells have room, and it is one of the payload's
@@ -17,6 +16,10 @@ pub record BeginsByte (rank room bytes : ℕ) : Type 0 where
   pub first : rank % 8 ≡ 0
   pub enough : 8 ≤ room
   pub inside : rank / 8 < bytes
+
+-- four cells as the bytes of a number, the first cell the lowest
+abbrev pub packedAt : Field → ℕ → ℕ
+packedAt f i = f i + f (i + 1) * 256 + f (i + 2) * 65536 + f (i + 3) * 16777216
 
 -- four cells as a number, and eight, the first cell the highest bit
 abbrev pub fourAt : Field → ℕ → ℕ
@@ -48,12 +51,13 @@ pub record HoldsBits (L : Layout) (f : Field) (l : List ℕ) : Type 0 where
 unfoldable pub flippedAt : Field → ℕ → Field
 flippedAt f c i = cond (eqb i c) (flip (f i)) (f i)
 
--- f with the classes below a corrected
-unfoldable pub correctedTo : Layout → Field → ℕ → Field
-correctedTo L f a i = cond (ltb (L .class i) a) (corrected L (tagsOf L) f i) (f i)
-
--- for each class below m the list has the cell whose position is the syndrome, or no cell of the field where the syndrome is 0
-pub record Damaged (L : Layout) (m : ℕ) (f : Field) (cells : List ℕ) : Type 0 where
+-- the list names for each class below m one of its cells, or none
+pub record Names (L : Layout) (m : ℕ) (cells : List ℕ) : Type 0 where
   pub class : (a : ℕ) → a < m → getD cells a 0 < L .cells → L .class (getD cells a 0) ≡ a
-  pub position : (a : ℕ) → a < m → getD cells a 0 < L .cells → tagsOf L (getD cells a 0) ≡ syndrome L (tagsOf L) f a
-  pub none : (a : ℕ) → a < m → L .cells ≤ getD cells a 0 → syndrome L (tagsOf L) f a ≡ 0
+
+-- f with the named cells flipped, and the same in the classes below a alone
+unfoldable pub flippedBy : Layout → List ℕ → Field → Field
+flippedBy L cells f i = cond (eqb (getD cells (L .class i) 0) i) (flip (f i)) (f i)
+
+unfoldable pub flippedTo : Layout → List ℕ → Field → ℕ → Field
+flippedTo L cells f a i = cond (ltb (L .class i) a) (flippedBy L cells f i) (f i)

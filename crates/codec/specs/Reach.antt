@@ -7,16 +7,19 @@ use Rattle.lattice.specs.declared.shape.Shape.{Shape}
 use Rattle.lattice.specs.Shape.{Accepted, cellsOf}
 use Rattle.lattice.specs.Class.{layoutOf}
 use Rattle.codec.specs.Field.{Field, fieldOf, Received}
+use Rattle.codec.specs.Erasure.{FewErasures}
 use Rattle.codec.specs.Payload.{PaddingRight}
 use Rattle.codec.specs.Code.{NearestTo}
 
--- what is asked of a reading of a field: an accepted shape, a field of the plan's length, and nothing but cells
+-- what is asked of a reading of a field: an accepted shape, a field of the plan's length, nothing but cells and erasures, and at
+-- most two erasures in each class
 pub record Readable (s : Shape) (field : List ℕ) : Type 0 where
   pub accepted : Accepted s
   pub long : length field ≡ cellsOf s
   pub cells : Received (fieldOf field) (cellsOf s)
+  pub few : FewErasures (layoutOf s) (fieldOf field)
 
--- a lawful field in reach, which differs in at most one cell of each class: one with right padding, and one with wrong padding
+-- a lawful field in reach: one with right padding, and one with wrong padding
 abbrev pub RightInReach : Shape → Field → Type 0
 RightInReach s f = (g : Field) × NearestTo s f g × PaddingRight (layoutOf s) g
 

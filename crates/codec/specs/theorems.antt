@@ -6,6 +6,7 @@ pub mod Payload
 pub mod Writing
 pub mod Reading
 pub mod Recovery
+pub mod Erasures
 pub mod Undamaged
 pub mod Told
 pub mod Bound

@@ -1,41 +1,55 @@
-// The damaged cells flipped, class by class: in the field, or in the payload that was gathered from it.
-ghost use mathlib.Core.Bool.{true, false, cond, not};
+// Cells that are named, one for each class, flipped: in the field, or in the payload that was gathered from it.
+ghost use mathlib.Core.Bool.{true, false, cond};
 ghost use mathlib.Core.Path.{_≡_};
 ghost use Prim.Native.Nat.{_+_, _<_, _≤_};
-ghost use lib.Dec.{eqb};
 ghost use lib.ListN.{getD, length};
-ghost use Rattle.lattice.specs.Shape.{maxCells, maxClasses};
+ghost use Rattle.lattice.specs.Shape.{maxCells, maxClasses, Accepted};
+ghost use Rattle.lattice.specs.Class.{classesOf};
 ghost use Rattle.lattice.specs.Position.{Layout};
 ghost use Rattle.lattice.specs.Counting.{count};
 ghost use Rattle.lattice.specs.Listing.{maxChecks, checksTo, ListsChecks};
 ghost use Rattle.codec.specs.Field.{Field, fieldOf, Same};
-ghost use Rattle.codec.specs.Packing.{BitFlipped, HoldsBits, flippedAt, correctedTo, Damaged};
+ghost use Rattle.codec.specs.Packing.{BitFlipped, HoldsBits, flippedAt, flippedTo, Names};
+ghost use Rattle.codec.specs.Working.{names};
 use crate::hamming::flip;
 use crate::index::wide_16;
 use crate::index::wide_32;
 use lattice::shape::Shape;
+use passes::cell_places::NO_CELL;
 use passes::check_cells::MAX_CHECKS;
 
 // One more where the test holds.
-fn count_if(test: bool, n: usize) -> usize
+pub(crate) fn count_if(test: bool, n: usize) -> usize
     requires { ⌜ n < maxCells ⌝ }
     ensures { λ r. ⌜ r ≡ cond test 1 0 + n ⌝ }
 {
     if test { 1 + n } else { n }
 }
 
-// The number of classes below m whose syndrome is not 0.
-pub(crate) fn count_damaged(m: usize, syndromes: &[u32; Shape::MAX_CLASSES]) -> usize
+// The number of classes below m for which a cell is named.
+fn count_named(m: usize, cells: &[u32; Shape::MAX_CLASSES]) -> usize
     requires { ⌜ m ≤ maxClasses ⌝ }
-    ensures { λ r. ⌜ r ≡ count (λ a. not (eqb (getD (now (syndromes .entry)) a 0) 0)) m ⌝ }
+    ensures { λ r. ⌜ r ≡ count (names (now (cells .entry))) m ⌝ }
 {
     let mut n = 0;
     let mut a = 0;
     while a < m {
-        n = count_if(syndromes[a] != 0, n);
+        n = count_if(cells[a] != NO_CELL, n);
         a += 1;
     }
     n
+}
+
+// The number of cells that correction changes in a field with so many erased ones.
+pub(crate) fn count_changed(
+    shape: Shape,
+    erased: usize,
+    damaged: &[u32; Shape::MAX_CLASSES],
+) -> usize
+    requires { ⌜ Accepted shape × (erased ≤ maxCells) ⌝ }
+    ensures { λ r. ⌜ r ≡ count (names (now (damaged .entry))) (classesOf shape) + erased ⌝ }
+{
+    count_named(shape.classes(), damaged) + erased
 }
 
 // Flips a cell of the field; a number that is no cell's leaves it.
@@ -48,18 +62,18 @@ fn flip_cell(field: &mut [u8], cell: usize)
     }
 }
 
-// Flips the damaged cell of each class below m.
-pub(crate) fn flip_cells(m: usize, damaged: &[u32; Shape::MAX_CLASSES], field: &mut [u8])
+// Flips the named cell of each class below m.
+pub(crate) fn flip_cells(m: usize, named: &[u32; Shape::MAX_CLASSES], field: &mut [u8])
     requires { ⌜ m ≤ maxClasses ⌝ }
     ensures { λ _. ⌜ ((L : Layout)
         → L .cells ≡ length (now (field .entry))
-        → Damaged L m (fieldOf (now (field .entry))) (now (damaged .entry))
-        → Same (fieldOf (now (field .exit))) (correctedTo L (fieldOf (now (field .entry))) m)
+        → Names L m (now (named .entry))
+        → Same (fieldOf (now (field .exit))) (flippedTo L (now (named .entry)) (fieldOf (now (field .entry))) m)
         (length (now (field .entry)))) ⌝ }
 {
     let mut a = 0;
     while a < m {
-        flip_cell(field, wide_32(damaged[a]));
+        flip_cell(field, wide_32(named[a]));
         a += 1;
     }
 }
@@ -130,13 +144,13 @@ fn flip_at(checks: &[u16; MAX_CHECKS], amount: usize, cells: usize, cell: usize,
     }
 }
 
-// Flips the bits of the damaged cells of the classes below m.
+// Flips the bits of the named cells of the classes below m.
 pub(crate) fn flip_bits(
     checks: &[u16; MAX_CHECKS],
     amount: usize,
     cells: usize,
     m: usize,
-    damaged: &[u32; Shape::MAX_CLASSES],
+    named: &[u32; Shape::MAX_CLASSES],
     payload: &mut [u8],
 )
     requires { ⌜ (amount ≤ maxChecks) × (m ≤ maxClasses) ⌝ }
@@ -144,13 +158,13 @@ pub(crate) fn flip_bits(
         → L .cells ≡ cells
         → ListsChecks L (L .cells) amount (now (checks .entry))
         → (f : Field)
-        → Damaged L m f (now (damaged .entry))
+        → Names L m (now (named .entry))
         → HoldsBits L f (now (payload .entry))
-        → HoldsBits L (correctedTo L f m) (now (payload .exit))) ⌝ }
+        → HoldsBits L (flippedTo L (now (named .entry)) f m) (now (payload .exit))) ⌝ }
 {
     let mut a = 0;
     while a < m {
-        flip_at(checks, amount, cells, wide_32(damaged[a]), payload);
+        flip_at(checks, amount, cells, wide_32(named[a]), payload);
         a += 1;
     }
 }

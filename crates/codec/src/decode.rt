@@ -1,31 +1,32 @@
-// Decoding: the tests, the payload gathered from the field, and the bits of its damaged cells flipped.
+// Decoding: the tests, the payload gathered from the 1 cells of the field, and bits of cells flipped.
 ghost use mathlib.Core.Path.{_≡_};
 ghost use Prim.Native.Nat.{ℕ, _≤_};
 ghost use lib.ListN.{getD, length};
-ghost use Rattle.lattice.specs.Refusal.{testedNumber, NoOutside};
-ghost use Rattle.lattice.specs.Shape.{cellsOf};
-ghost use Rattle.lattice.specs.Class.{layoutOf};
+ghost use Rattle.lattice.specs.Shape.{Accepted, cellsOf};
+ghost use Rattle.lattice.specs.Class.{classesOf, layoutOf};
 ghost use Rattle.lattice.specs.Listing.{maxChecks, ListsChecks};
-ghost use Rattle.lattice.specs.Sizes.{HoldsZeros};
-ghost use Rattle.codec.specs.Field.{fieldOf};
+ghost use Rattle.lattice.specs.Sizes.{HoldsSizes};
+ghost use Rattle.codec.specs.Field.{Field, fieldOf};
 ghost use Rattle.codec.specs.Payload.{payloadBytes, heldPayload};
-ghost use Rattle.codec.specs.Decode.{correctedField, correctedCount, decodeNumber};
+ghost use Rattle.codec.specs.Decode.{correctedField, decodeNumber};
+ghost use Rattle.codec.specs.Reach.{Readable};
 ghost use Rattle.codec.specs.Answer.{IsDecoded, decodeAnswerNumber, decodeAnswerCount};
-ghost use Rattle.codec.specs.Packing.{HoldsBits};
-ghost use Rattle.codec.specs.Working.{HoldsSyndromes, Correctable, Examined};
-use crate::damage::count_damaged;
+ghost use Rattle.codec.specs.Packing.{HoldsBits, Names, flippedBy};
+ghost use Rattle.codec.specs.Working.{HoldsNone, Located, Sound, examinedNumber, ExaminedField};
+use crate::damage::count_changed;
 use crate::damage::flip_bits;
+use crate::examine::Examination;
 use crate::examine::examine;
 use crate::gather::gather;
 use crate::lengths::length_tests;
 use lattice::refusal::Refusal;
 use lattice::refusal::Tested;
 use lattice::shape::Shape;
-use passes::cell_places::cells_at;
+use passes::cell_places::NO_CELL;
 use passes::check_cells::MAX_CHECKS;
 use passes::check_cells::check_cells;
 
-// The number of cells flipped, or the refusal 1, 2, 3, 4, 5, 6 or 7.
+// The number of cells changed, or the refusal 1, 2, 3, 4, 5, 10, 6 or 7.
 pub enum DecodeAnswer {
     Decoded(usize),
     Refused(Refusal),
@@ -42,7 +43,7 @@ impl DecodeAnswer {
         }
     }
 
-    // The number of cells flipped, 0 beside a refusal.
+    // The number of cells changed, 0 beside a refusal.
     pub fn count(self) -> usize
         ensures { λ r. ⌜ r ≡ decodeAnswerCount self ⌝ }
     {
@@ -64,44 +65,50 @@ fn clear(payload: &mut [u8])
     }
 }
 
-// Flips the bits of the damaged cells; gives the number of cells flipped.
+// Flips the bits of the cells that correction flips.
 fn correct_payload(
     shape: Shape,
     checks: &[u16; MAX_CHECKS],
     amount: usize,
     cells: usize,
-    field: &[u8],
-    syndromes: &[u32; Shape::MAX_CLASSES],
+    damaged: &[u32; Shape::MAX_CLASSES],
+    first: &[u32; Shape::MAX_CLASSES],
+    second: &[u32; Shape::MAX_CLASSES],
     payload: &mut [u8],
-) -> usize
-    requires { ⌜ cells ≡ cellsOf shape ⌝ }
-    requires { ⌜ Correctable shape (now field) ⌝ }
-    requires { ⌜ HoldsSyndromes (layoutOf shape) (fieldOf (now field)) (now syndromes) (cellsOf shape) ⌝ }
+)
+    requires { ⌜ Accepted shape × (cells ≡ cellsOf shape) ⌝ }
+    requires { ⌜ Names (layoutOf shape) (classesOf shape) (now damaged)
+        × Names (layoutOf shape) (classesOf shape) (now first)
+        × Names (layoutOf shape) (classesOf shape) (now second) ⌝ }
     requires { ⌜ (amount ≤ maxChecks) × ListsChecks (layoutOf shape) (cellsOf shape) amount (now checks) ⌝ }
-    requires { ⌜ HoldsBits (layoutOf shape) (fieldOf (now field)) (now payload) ⌝ }
-    ensures { λ _. ⌜ HoldsBits (layoutOf shape) (correctedField shape (fieldOf (now (field .entry)))) (now (payload .exit)) ⌝ }
-    ensures { λ r. ⌜ r ≡ correctedCount shape (fieldOf (now (field .entry))) ⌝ }
+    ensures { λ _. ⌜ ((f : Field)
+        → HoldsBits (layoutOf shape) f (now (payload .entry))
+        → HoldsBits (layoutOf shape)
+        (flippedBy (layoutOf shape) (now (second .entry))
+        (flippedBy (layoutOf shape) (now (first .entry)) (flippedBy (layoutOf shape) (now (damaged .entry)) f)))
+        (now (payload .exit))) ⌝ }
 {
     let m = shape.classes();
-    let mut damaged = [0u32; Shape::MAX_CLASSES];
-    cells_at(shape, syndromes, &mut damaged);
-    flip_bits(checks, amount, cells, m, &damaged, payload);
-    count_damaged(m, syndromes)
+    flip_bits(checks, amount, cells, m, damaged, payload);
+    flip_bits(checks, amount, cells, m, first, payload);
+    flip_bits(checks, amount, cells, m, second, payload);
 }
 
-// Stores the payload that the corrected field holds; gives the number of cells flipped.
+// Stores the payload that the corrected field holds.
 fn store_payload(
     shape: Shape,
     field: &[u8],
     sizes: &[u32; Shape::MAX_CLASSES],
-    syndromes: &[u32; Shape::MAX_CLASSES],
+    damaged: &[u32; Shape::MAX_CLASSES],
+    first: &[u32; Shape::MAX_CLASSES],
+    second: &[u32; Shape::MAX_CLASSES],
     payload: &mut [u8],
-) -> usize
-    requires { ⌜ Correctable shape (now field) ⌝ }
-    requires { ⌜ Examined shape (now field) (now sizes) (now syndromes) ⌝ }
+)
+    requires { ⌜ Readable shape (now field) ⌝ }
+    requires { ⌜ HoldsSizes (layoutOf shape) (now sizes) (cellsOf shape) ⌝ }
+    requires { ⌜ Located shape (now field) (now damaged) (now first) (now second) ⌝ }
     requires { ⌜ length (now payload) ≡ payloadBytes (layoutOf shape) ⌝ }
-    ensures { λ r. ⌜ now (payload .exit) ≡ heldPayload (layoutOf shape) (correctedField shape (fieldOf (now (field .entry)))) ⌝ }
-    ensures { λ r. ⌜ r ≡ correctedCount shape (fieldOf (now (field .entry))) ⌝ }
+    ensures { λ _. ⌜ now (payload .exit) ≡ heldPayload (layoutOf shape) (correctedField shape (fieldOf (now (field .entry)))) ⌝ }
 {
     let mut checks = [0u16; MAX_CHECKS];
     let mut places = [0u16; MAX_CHECKS];
@@ -109,38 +116,64 @@ fn store_payload(
     let cells = shape.cells();
     clear(payload);
     gather(shape, &checks, amount, cells, field, payload);
-    correct_payload(shape, &checks, amount, cells, field, syndromes, payload)
+    correct_payload(
+        shape,
+        &checks,
+        amount,
+        cells,
+        damaged,
+        first,
+        second,
+        payload,
+    );
 }
 
-// The tests of decoding in their order, 1 to 7; where they pass, the arrays hold the size and the syndrome of each class.
+// The tests of decoding in their order, 1, 2, 3, 4, 5, 10, 6, 7; where they pass, the arrays hold the size of each class and say
+// which cells are flipped. At entry no cell is named as first or second.
 fn decode_tests(
     shape: Shape,
     payload: &[u8],
     field: &[u8],
     sizes: &mut [u32; Shape::MAX_CLASSES],
-    syndromes: &mut [u32; Shape::MAX_CLASSES],
-) -> Tested
-    requires { ⌜ HoldsZeros (now syndromes) ⌝ }
-    ensures { λ r. ⌜ testedNumber r ≡ decodeNumber shape (now (payload .entry)) (now (field .entry)) ⌝ }
-    ensures { λ r. ⌜ NoOutside r ⌝ }
-    ensures { λ r. ⌜ (testedNumber r ≡ 0 → Examined shape (now (field .entry)) (now (sizes .exit)) (now (syndromes .exit))) ⌝ }
+    damaged: &mut [u32; Shape::MAX_CLASSES],
+    first: &mut [u32; Shape::MAX_CLASSES],
+    second: &mut [u32; Shape::MAX_CLASSES],
+) -> Examination
+    requires { ⌜ HoldsNone (now first) × HoldsNone (now second) ⌝ }
+    ensures { λ r. ⌜ examinedNumber r ≡ decodeNumber shape (now (payload .entry)) (now (field .entry)) ⌝ }
+    ensures { λ r. ⌜ ExaminedField r ⌝ }
+    ensures { λ r. ⌜ (examinedNumber r ≡ 0
+        → HoldsSizes (layoutOf shape) (now (sizes .exit)) (cellsOf shape)
+        × Sound shape (now (field .entry)) (now (damaged .exit)) (now (first .exit)) (now (second .exit)) r) ⌝ }
 {
     let tested = length_tests(shape, payload, field, sizes);
     if let Tested::Refused(why) = tested {
-        return Tested::Refused(why);
+        return Examination::Refused(why);
     }
-    examine(shape, field, sizes, syndromes)
+    examine(shape, field, sizes, damaged, first, second)
 }
 
-// Stores the payload and gives the number of cells flipped, or gives the refusal 1, 2, 3, 4, 5, 6 or 7.
+// Stores the payload and gives the number of cells changed, or gives the refusal 1, 2, 3, 4, 5, 10, 6 or 7.
 pub fn decode(shape: Shape, payload: &mut [u8], field: &[u8]) -> DecodeAnswer
     ensures { λ r. ⌜ IsDecoded shape (now (payload .entry)) (now (field .entry)) (now (payload .exit)) r ⌝ }
 {
     let mut sizes = [0u32; Shape::MAX_CLASSES];
-    let mut syndromes = [0u32; Shape::MAX_CLASSES];
-    let tested = decode_tests(shape, payload, field, &mut sizes, &mut syndromes);
-    if let Tested::Refused(why) = tested {
-        return DecodeAnswer::Refused(why);
+    let mut damaged = [NO_CELL; Shape::MAX_CLASSES];
+    let mut first = [NO_CELL; Shape::MAX_CLASSES];
+    let mut second = [NO_CELL; Shape::MAX_CLASSES];
+    match decode_tests(
+        shape,
+        payload,
+        field,
+        &mut sizes,
+        &mut damaged,
+        &mut first,
+        &mut second,
+    ) {
+        Examination::Refused(why) => DecodeAnswer::Refused(why),
+        Examination::Passed(erased) => {
+            store_payload(shape, field, &sizes, &damaged, &first, &second, payload);
+            DecodeAnswer::Decoded(count_changed(shape, erased, &damaged))
+        }
     }
-    DecodeAnswer::Decoded(store_payload(shape, field, &sizes, &syndromes, payload))
 }

@@ -6,7 +6,7 @@ ghost use Rattle.lattice.specs.Shape.{maxClasses, cellsOf};
 ghost use Rattle.lattice.specs.Class.{layoutOf};
 ghost use Rattle.lattice.specs.Listing.{maxChecks};
 ghost use Rattle.lattice.specs.Sizes.{HoldsZeros};
-ghost use Rattle.codec.specs.Field.{fieldOf, Cells};
+ghost use Rattle.codec.specs.Field.{fieldOf};
 ghost use Rattle.codec.specs.Encode.{encodedField};
 ghost use Rattle.codec.specs.Answer.{IsEncoded, encodeAnswerNumber};
 ghost use Rattle.codec.specs.Working.{HoldsSyndromes, PayloadFits, FieldFits};
@@ -50,11 +50,10 @@ fn check_bit(syndromes: &[u32; Shape::MAX_CLASSES], place: usize) -> u8
 // The syndromes of the field that holds the data alone; the array is 0 at entry.
 fn data_syndromes(shape: Shape, field: &[u8], syndromes: &mut [u32; Shape::MAX_CLASSES])
     requires { ⌜ FieldFits shape (now field) ⌝ }
-    requires { ⌜ Cells (fieldOf (now field)) (length (now field)) ⌝ }
     requires { ⌜ HoldsZeros (now syndromes) ⌝ }
     ensures { λ _. ⌜ HoldsSyndromes (layoutOf shape) (fieldOf (now (field .entry))) (now (syndromes .exit)) (cellsOf shape) ⌝ }
 {
-    field_syndromes(shape.pass(), field, syndromes);
+    field_syndromes(shape.pass(), field, 1, syndromes);
 }
 
 // Sets the listed checks in the field, which holds the data alone.

@@ -6,7 +6,9 @@ ghost use lib.Dec.{eqb};
 ghost use lib.ListN.{getD};
 ghost use Rattle.lattice.specs.Shape.{maxClasses};
 ghost use Rattle.lattice.specs.Check.{isCheck};
-ghost use Rattle.codec.specs.Field.{flip};
+ghost use Rattle.lattice.specs.Position.{Layout};
+ghost use Rattle.codec.specs.Field.{Field, flip};
+ghost use Rattle.codec.specs.Packing.{flippedBy};
 use lattice::capacity::is_check;
 use lattice::shape::Shape;
 use passes::place::Place;
@@ -27,24 +29,36 @@ pub(crate) fn flip(value: u8) -> u8
     if value == 0 { 1 } else { 0 }
 }
 
-// The syndrome of a class; 0 for a class that the array has no entry for.
-fn syndrome_of(syndromes: &[u32], class: usize) -> u32
-    ensures { λ r. ⌜ r ≡ getD (now (syndromes .entry)) class 0 ⌝ }
+// The value flipped where the array names the cell for its class.
+fn flipped_by(cells: &[u32; Shape::MAX_CLASSES], class: usize, cell: u32, value: u8) -> u8
+    requires { ⌜ class < maxClasses ⌝ }
+    ensures { λ r. ⌜ r ≡ cond (eqb (getD (now (cells .entry)) class 0) cell) (flip value) value ⌝ }
 {
-    if class < syndromes.len() {
-        syndromes[class]
-    } else {
-        0
-    }
-}
-
-// The value of the cell at a place after correction: flipped where the syndrome of its class is its position.
-pub(crate) fn corrected_value(syndromes: &[u32; Shape::MAX_CLASSES], place: Place, value: u8) -> u8
-    ensures { λ r. ⌜ r ≡ cond (eqb (getD (now (syndromes .entry)) (place .class) 0) (place .position)) (flip value) value ⌝ }
-{
-    if syndrome_of(syndromes, place.class) == place.position {
+    if cells[class] == cell {
         flip(value)
     } else {
         value
     }
+}
+
+// The value of a cell after correction, from the value with 0 for an erased cell: flipped for each array that names the cell.
+pub(crate) fn corrected_value(
+    damaged: &[u32; Shape::MAX_CLASSES],
+    first: &[u32; Shape::MAX_CLASSES],
+    second: &[u32; Shape::MAX_CLASSES],
+    class: usize,
+    cell: u32,
+    value: u8,
+) -> u8
+    requires { ⌜ class < maxClasses ⌝ }
+    ensures { λ r. ⌜ ((L : Layout) (f : Field)
+        → L .class cell ≡ class
+        → f cell ≡ value
+        → r
+        ≡ flippedBy L (now (second .entry))
+        (flippedBy L (now (first .entry)) (flippedBy L (now (damaged .entry)) f)) cell) ⌝ }
+{
+    let once = flipped_by(damaged, class, cell, value);
+    let twice = flipped_by(first, class, cell, once);
+    flipped_by(second, class, cell, twice)
 }

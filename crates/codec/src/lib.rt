@@ -4,6 +4,7 @@ pub mod correct;
 mod damage;
 pub mod decode;
 pub mod encode;
+mod erasures;
 mod examine;
 mod fill;
 mod gather;

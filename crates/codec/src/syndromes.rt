@@ -1,4 +1,4 @@
-// The syndromes of the classes of a field, line by line.
+// The syndromes of the classes of a field, line by line. The cells of one value are its 1 cells.
 ghost use mathlib.Core.Path.{_≡_};
 ghost use Prim.Native.Nat.{ℕ, _+_, _*_, _<_, _≤_};
 ghost use lib.ListN.{length, getD};
@@ -8,25 +8,40 @@ ghost use Rattle.lattice.specs.Class.{classesOf, layoutOf};
 ghost use Rattle.lattice.specs.Position.{Layout};
 ghost use Rattle.lattice.specs.Lines.{passOf, OfShape, Room, AtLine, Ready};
 ghost use Rattle.lattice.specs.Sizes.{HoldsZeros};
-ghost use Rattle.codec.specs.Field.{fieldOf, Cells};
+ghost use Rattle.codec.specs.Field.{fieldOf, having};
 ghost use Rattle.codec.specs.Working.{HoldsSyndromes};
 ghost use Rattle.codec.specs.Lines.{LineTaken, Taken, folded};
-use crate::cell::cell_value;
 use lattice::line::Line;
 use lattice::line::Pass;
 use lattice::line::next_place;
 use passes::line_positions::first_line;
 use passes::line_positions::next_positions;
 
+// A position where the cell with a byte number has the value, else 0.
+fn position_if(field: &[u8], i: usize, value: u8, position: u16) -> u16
+    requires { ⌜ i < length (now field) ⌝ }
+    ensures { λ r. ⌜ r ≡ position * having value (fieldOf (now (field .entry))) i ⌝ }
+{
+    if field[i] == value { position } else { 0 }
+}
+
+// The same for a position that may be 65,536.
+fn wide_position_if(field: &[u8], i: usize, value: u8, position: u32) -> u32
+    requires { ⌜ i < length (now field) ⌝ }
+    ensures { λ r. ⌜ r ≡ position * having value (fieldOf (now (field .entry))) i ⌝ }
+{
+    if field[i] == value { position } else { 0 }
+}
+
 // Takes in the line of w cells that begins at cell n, from the place `start` on.
-fn take_line(t: &mut [u16], e: &[u16], field: &[u8], start: usize, n: usize, w: usize)
+fn take_line(t: &mut [u16], e: &[u16], field: &[u8], value: u8, start: usize, n: usize, w: usize)
     requires { ⌜ (start + w ≤ length (now t)) × (start + w ≤ length (now e)) × (n + w ≤ length (now field)) ⌝ }
-    requires { ⌜ Cells (fieldOf (now field)) (length (now field)) ⌝ }
-    ensures { λ _. ⌜ LineTaken (fieldOf (now (field .entry))) start n w (now (e .entry)) (now (t .entry)) (now (t .exit)) ⌝ }
+    ensures { λ _. ⌜ LineTaken (having value (fieldOf (now (field .entry)))) start n w
+        (now (e .entry)) (now (t .entry)) (now (t .exit)) ⌝ }
 {
     let mut x = 0;
     while x < w {
-        t[start + x] = t[start + x] ^ (e[start + x] * cell_value(field, n + x) as u16);
+        t[start + x] = t[start + x] ^ position_if(field, n + x, value, e[start + x]);
         x += 1;
     }
 }
@@ -36,26 +51,26 @@ fn take_lines(
     pass: Pass,
     first: Line,
     field: &[u8],
+    value: u8,
     e: &mut [u16],
     p: &[u16],
     q: &[u16],
     t: &mut [u16],
 )
     requires { ⌜ OfShape pass × (2 ≤ pass .classes) × (length (now field) ≡ pass .cells) × (length (now t) ≡ length (now e)) ⌝ }
-    requires { ⌜ Cells (fieldOf (now field)) (length (now field)) ⌝ }
     requires { ⌜ Ready pass (length (now e)) (now p) (now q) ⌝ }
     requires { ⌜ ((s : Shape) → Accepted s → pass ≡ passOf s → AtLine s 0 first (now e)) ⌝ }
     requires { ⌜ ((y : ℕ) → getD (now t) y 0 ≡ 0) ⌝ }
     ensures { λ _. ⌜ ((s : Shape)
         → Accepted s
         → pass ≡ passOf s
-        → Taken (layoutOf s) (classesOf s) (fieldOf (now (field .entry))) (now (t .exit)) (cellsOf s)) ⌝ }
+        → Taken (layoutOf s) (classesOf s) (having value (fieldOf (now (field .entry)))) (now (t .exit)) (cellsOf s)) ⌝ }
 {
     let mut line = first;
     let mut n = 0;
     let mut l = 0;
     while l < pass.lines {
-        take_line(t, e, field, line.start, n, pass.columns);
+        take_line(t, e, field, value, line.start, n, pass.columns);
         line = next_positions(pass, line, e, p, q);
         n += pass.columns;
         l += 1;
@@ -84,6 +99,7 @@ fn fold(t: &[u16], m: usize, syndromes: &mut [u32])
 fn listed_syndromes(
     pass: Pass,
     field: &[u8],
+    value: u8,
     e: &mut [u16],
     p: &mut [u16],
     q: &mut [u16],
@@ -94,32 +110,30 @@ fn listed_syndromes(
         × (2 ≤ pass .classes)
         × (length (now field) ≡ pass .cells)
         × (maxClasses ≤ length (now syndromes)) ⌝ }
-    requires { ⌜ Cells (fieldOf (now field)) (length (now field)) ⌝ }
     requires { ⌜ HoldsZeros (now syndromes) ⌝ }
     requires { ⌜ Room pass (length (now e)) (length (now p)) (length (now q)) × (length (now t) ≡ length (now e)) ⌝ }
     requires { ⌜ ((y : ℕ) → getD (now t) y 0 ≡ 0) ⌝ }
     ensures { λ _. ⌜ ((s : Shape)
         → Accepted s
         → pass ≡ passOf s
-        → HoldsSyndromes (layoutOf s) (fieldOf (now (field .entry))) (now (syndromes .exit)) (cellsOf s)) ⌝ }
+        → HoldsSyndromes (layoutOf s) (having value (fieldOf (now (field .entry)))) (now (syndromes .exit)) (cellsOf s)) ⌝ }
 {
     let first = first_line(pass, e, p, q);
-    take_lines(pass, first, field, e, p, q, t);
+    take_lines(pass, first, field, value, e, p, q, t);
     fold(t, pass.classes, syndromes);
 }
 
 // The syndromes of two classes or more; the array is 0 at entry.
-fn line_syndromes(pass: Pass, field: &[u8], syndromes: &mut [u32])
+fn line_syndromes(pass: Pass, field: &[u8], value: u8, syndromes: &mut [u32])
     requires { ⌜ OfShape pass
         × (2 ≤ pass .classes)
         × (length (now field) ≡ pass .cells)
         × (maxClasses ≤ length (now syndromes)) ⌝ }
-    requires { ⌜ Cells (fieldOf (now field)) (length (now field)) ⌝ }
     requires { ⌜ HoldsZeros (now syndromes) ⌝ }
     ensures { λ _. ⌜ ((s : Shape)
         → Accepted s
         → pass ≡ passOf s
-        → HoldsSyndromes (layoutOf s) (fieldOf (now (field .entry))) (now (syndromes .exit)) (cellsOf s)) ⌝ }
+        → HoldsSyndromes (layoutOf s) (having value (fieldOf (now (field .entry)))) (now (syndromes .exit)) (cellsOf s)) ⌝ }
 {
     let wide = pass.classes + pass.columns;
     let long = wide + pass.classes;
@@ -130,6 +144,7 @@ fn line_syndromes(pass: Pass, field: &[u8], syndromes: &mut [u32])
     listed_syndromes(
         pass,
         field,
+        value,
         &mut e[..wide],
         &mut p[..long],
         &mut q[..long],
@@ -139,36 +154,34 @@ fn line_syndromes(pass: Pass, field: &[u8], syndromes: &mut [u32])
 }
 
 // The syndrome of the one class of n cells, where the position of cell i is i + 1; the array is 0 at entry.
-fn one_syndrome(n: usize, field: &[u8], syndromes: &mut [u32])
+fn one_syndrome(n: usize, field: &[u8], value: u8, syndromes: &mut [u32])
     requires { ⌜ (n ≤ length (now field)) × (n ≤ maxCells) × (0 < length (now syndromes)) ⌝ }
-    requires { ⌜ Cells (fieldOf (now field)) n ⌝ }
     requires { ⌜ HoldsZeros (now syndromes) ⌝ }
     ensures { λ _. ⌜ ((L : Layout)
         → ((i : ℕ) → i < n → L .class i ≡ 0)
-        → HoldsSyndromes L (fieldOf (now (field .entry))) (now (syndromes .exit)) n) ⌝ }
+        → HoldsSyndromes L (having value (fieldOf (now (field .entry)))) (now (syndromes .exit)) n) ⌝ }
 {
     let mut sum: u32 = 0;
     let mut i = 0;
     while i < n {
-        sum = sum ^ ((i as u32 + 1) * cell_value(field, i) as u32);
+        sum = sum ^ wide_position_if(field, i, value, i as u32 + 1);
         i += 1;
     }
     syndromes[0] = sum;
 }
 
-// The syndrome of each class of a field; the array is 0 at entry.
-pub(crate) fn field_syndromes(pass: Pass, field: &[u8], syndromes: &mut [u32])
+// The syndrome of each class of a field whose 1 cells are those of the value; the array is 0 at entry.
+pub(crate) fn field_syndromes(pass: Pass, field: &[u8], value: u8, syndromes: &mut [u32])
     requires { ⌜ OfShape pass × (length (now field) ≡ pass .cells) × (maxClasses ≤ length (now syndromes)) ⌝ }
-    requires { ⌜ Cells (fieldOf (now field)) (length (now field)) ⌝ }
     requires { ⌜ HoldsZeros (now syndromes) ⌝ }
     ensures { λ _. ⌜ ((s : Shape)
         → Accepted s
         → pass ≡ passOf s
-        → HoldsSyndromes (layoutOf s) (fieldOf (now (field .entry))) (now (syndromes .exit)) (cellsOf s)) ⌝ }
+        → HoldsSyndromes (layoutOf s) (having value (fieldOf (now (field .entry)))) (now (syndromes .exit)) (cellsOf s)) ⌝ }
 {
     if pass.classes == 1 {
-        one_syndrome(pass.cells, field, syndromes);
+        one_syndrome(pass.cells, field, value, syndromes);
     } else {
-        line_syndromes(pass, field, syndromes);
+        line_syndromes(pass, field, value, syndromes);
     }
 }

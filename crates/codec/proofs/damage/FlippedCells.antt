@@ -8,7 +8,7 @@ use lib.ListN.{length, getD, set}
 use lib.Seq.{getD-set-same, getD-set-other}
 use Rattle.codec.specs.Field.{fieldOf, flip, Same}
 use Rattle.codec.specs.Packing.{flippedAt}
-use Rattle.codec.proofs.theory.DamagedCells.{flipped-own, flipped-other}
+use Rattle.codec.proofs.theory.NamedCells.{flipped-own, flipped-other}
 
 pub flipped-inside : (l : List ℕ) (c v : ℕ) → c < length l → v ≡ flip (getD l c 0)
     → Same (fieldOf (set l c v)) (flippedAt (fieldOf l) c) (length l)

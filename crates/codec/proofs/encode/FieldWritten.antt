@@ -8,21 +8,18 @@ use lib.ListN.{length, getD}
 use Rattle.lattice.specs.declared.shape.Shape.{Shape}
 use Rattle.lattice.specs.Shape.{maxClasses, Accepted, cellsOf}
 use Rattle.lattice.specs.Class.{layoutOf}
-use Rattle.lattice.specs.Check.{holdsData}
 use Rattle.lattice.specs.Listing.{maxChecks, ListsChecks, HoldsPlaces}
 use Rattle.lattice.specs.Sizes.{HoldsSizes}
 use Rattle.lattice.proofs.theory.ClassBelow.{classes-limit, class-below}
 use Rattle.lattice.proofs.theory.Limits.{legal}
-use Rattle.codec.specs.Field.{fieldOf, Cells, Same}
+use Rattle.codec.specs.Field.{fieldOf, Same}
 use Rattle.codec.specs.Hamming.{tagsOf}
-use Rattle.codec.specs.Payload.{rank, dataField, encoded, payloadBytes}
+use Rattle.codec.specs.Payload.{dataField, encoded}
 use Rattle.codec.specs.Encode.{encodedField}
 use Rattle.codec.specs.Working.{HoldsSyndromes, PayloadFits, FieldFits}
 use Rattle.codec.specs.Filling.{ChecksListed, dataBuffer, ToCheck}
-use Rattle.codec.proofs.theory.CellValues.{cond-cell, most-cell, zero-cell}
 use Rattle.codec.proofs.encode.ChecksSet.{place-class}
 use Rattle.codec.proofs.theory.FieldLists.{length-listOf, getD-listOf, list-field}
-use Rattle.codec.proofs.theory.PayloadBits.{data-value-most}
 use Rattle.codec.proofs.theory.Syndrome.{syndrome-same}
 
 -- the lists of the checks and their places, as they are made from the sizes of the classes
@@ -62,14 +59,6 @@ module _ (s : Shape) (payload sizes checks places : List ℕ) (amount : ℕ) (fi
     pub filled-same : Same (fieldOf field) (dataField (layoutOf s) payload) (cellsOf s)
     unfolding dataBuffer
     filled-same i l = ap (λ (x : List ℕ). getD x i 0) filled ∙ getD-listOf _ (cellsOf s) i l
-
-    pub filled-are-cells : Cells (fieldOf field) (length field)
-    unfolding dataField
-    filled-are-cells i l =
-        rw (filled-same i (omega (arith, filled-fits .long)))
-        (cond-cell (holdsData (layoutOf s) i) _ _
-        (most-cell _ (data-value-most (payloadBytes (layoutOf s)) payload (rank (layoutOf s) i)))
-        zero-cell)
 
     pub listed-below : (k : ℕ) → k < amount → getD checks k 0 < length field
     listed-below k l = omega (arith, lists .0 .at k l .below, filled-fits .long)

@@ -1,9 +1,9 @@
--- The test that every byte of a buffer is a cell, by the greatest of the bytes.
-use Prim.Native.Nat.{ℕ, _+_, _≤_, max}
+-- The test that every byte of a buffer is a cell or an erasure, by the greatest of the bytes.
+use Prim.Native.Nat.{ℕ, _+_, _<_, _≤_, max}
 use mathlib.Core.Bool.{Bool, true, false, _&&_}
 use mathlib.Core.Path.{_≡_, refl, sym, ap, ap₂, _∙_}
-use native.Mathlib.Decide.{decLe}
-use native.Mathlib.Nat.{le-antisymm}
+use native.Mathlib.Decide.{ℕ-discrete, decLe}
+use native.Mathlib.Nat.{le-antisymm, not-suc-le-zero}
 use native.Mathlib.Omega.{arith}
 use Rattle.codec.specs.Field.{Field, isReceived, cellsOk}
 use Rattle.codec.proofs.theory.AllBelow.{all-step}
@@ -27,20 +27,29 @@ both-received v w = go (decLe v w)
     go (yes l) = ap isReceived (omega arith) ∙ first (isReceived w) (isReceived v) (below-received v w l)
     go (no l) = ap isReceived (omega arith) ∙ second (isReceived w) (isReceived v) (below-received w v (omega arith))
 
--- m tells whether the cells before i are received
+-- m is the greatest of the cells before i, and tells whether they are received
 pub record Tells (f : Field) (m i : ℕ) : Type 0 where
   pub all : isReceived m ≡ cellsOk f i
+  pub most : (j : ℕ) → j < i → f j ≤ m
 
 module _ (f : Field) where
   pub tells-none : Tells f 0 0
   unfolding cellsOk
-  tells-none = record { all = zero-received }
+  tells-none = record { all = zero-received; most = λ j l. absurd (not-suc-le-zero l) }
 
   pub tells-more : (m i v x : ℕ) → Tells f m i → v ≡ f i → x ≡ max m v → Tells f x (i + 1)
   unfolding cellsOk
   tells-more m i v x t e g =
       let both : isReceived x ≡ (isReceived v && isReceived m) = ap isReceived g ∙ both-received m v in
-      record { all = both ∙ ap₂ _&&_ (ap isReceived e) (t .all) ∙ sym (all-step (λ j. isReceived (f j)) i) }
+      record {
+        all = both ∙ ap₂ _&&_ (ap isReceived e) (t .all) ∙ sym (all-step (λ j. isReceived (f j)) i);
+        most = λ j l. greatest j l (ℕ-discrete j i);
+      }
+    where
+      greatest : (j : ℕ) → j < i + 1 → Dec (j ≡ i) → f j ≤ x
+      greatest j l (yes d) = omega (arith, ap f d, e, g)
+      greatest j l (no d) = omega (arith, t .most j (omega (arith, l, d)), g)
 
-  pub tells-all : (m i n : ℕ) (b : Bool) → Tells f m i → i ≤ n → n ≤ i → b ≡ isReceived m → b ≡ cellsOk f n
-  tells-all m i n b t l q e = e ∙ t .all ∙ ap (cellsOk f) (le-antisymm l q)
+  pub tells-all : (m i n : ℕ) → Tells f m i → i ≤ n → n ≤ i
+      → (isReceived m ≡ cellsOk f n) × ((j : ℕ) → j < n → f j ≤ m)
+  tells-all m i n t l q = (t .all ∙ ap (cellsOk f) (le-antisymm l q), λ j k. t .most j (omega arith))

@@ -2,40 +2,40 @@
 use Prim.Native.Nat.{ℕ}
 use mathlib.Core.Bool.{Bool}
 use mathlib.Core.List.{List}
-use mathlib.Core.Path.{_≡_, ap, ap₂, _∙_}
+use mathlib.Core.Path.{_≡_, ap, _∙_}
 use native.Mathlib.Nat.{lt-of-lt-of-le}
-use lib.Dec.{leb}
 use lib.ListN.{getD}
 use Rattle.lattice.specs.declared.shape.Shape.{Shape}
-use Rattle.lattice.specs.Shape.{Accepted}
+use Rattle.lattice.specs.Shape.{Accepted, cellsOf}
 use Rattle.lattice.specs.Class.{classesOf, layoutOf}
 use Rattle.lattice.specs.Counting.{allBelow}
 use Rattle.lattice.proofs.theory.ClassBelow.{classes-limit}
-use Rattle.codec.specs.Field.{fieldOf}
-use Rattle.codec.specs.Hamming.{inReach, allInReach}
-use Rattle.codec.specs.Working.{Examined}
+use Rattle.codec.specs.Field.{fieldOf, having}
+use Rattle.codec.specs.Erasure.{inReach, allInReach}
+use Rattle.codec.specs.Working.{HoldsSyndromes, reachedBy, Located}
 use Rattle.codec.specs.Code.{tagsAt, fieldInReach}
 use Rattle.codec.proofs.theory.AllBelow.{all-same}
-use Rattle.codec.proofs.theory.Tags.{reach-is}
+use Rattle.codec.proofs.theory.Syndrome.{having-syndrome}
 
--- the syndrome of class a is at most its size
-abbrev pub reaches : List ℕ → List ℕ → ℕ → Bool
-reaches sizes syndromes a = leb (getD syndromes a 0) (getD sizes a 0)
+-- the test of class a, from the arrays
+abbrev pub reaches : List ℕ → List ℕ → List ℕ → List ℕ → ℕ → Bool
+reaches syndromes damaged first second a =
+    reachedBy (getD syndromes a 0) (getD damaged a 0) (getD first a 0) (getD second a 0)
 
-pub all-reach : (s : Shape) (field sizes syndromes : List ℕ) (m : ℕ) (b : Bool) → Accepted s → Examined s field sizes syndromes
-    → m ≡ classesOf s → b ≡ allBelow (reaches sizes syndromes) m
+pub all-reach : (s : Shape) (field syndromes damaged first second : List ℕ) (m : ℕ) (b : Bool) → Accepted s
+    → HoldsSyndromes (layoutOf s) (having 1 (fieldOf field)) syndromes (cellsOf s) → Located s field damaged first second
+    → m ≡ classesOf s → b ≡ allBelow (reaches syndromes damaged first second) m
     → b ≡ fieldInReach s (fieldOf field)
 unfolding allInReach
-all-reach s field sizes syndromes m b a x e p =
+all-reach s field syndromes damaged first second m b a held located e p =
     p
-    ∙ ap (allBelow (reaches sizes syndromes)) e
+    ∙ ap (allBelow (reaches syndromes damaged first second)) e
     ∙ all-same
-    (reaches sizes syndromes)
+    (reaches syndromes damaged first second)
     (inReach (layoutOf s) (tagsAt s) (fieldOf field))
     (classesOf s)
     (λ c l.
-    ap₂
-    leb
-    (x .held .at c (lt-of-lt-of-le l (classes-limit s a)))
-    (x .sized .at c (lt-of-lt-of-le l (classes-limit s a)))
-    ∙ reach-is (layoutOf s) (fieldOf field) c)
+    ap
+    (λ (x : ℕ). reachedBy x (getD damaged c 0) (getD first c 0) (getD second c 0))
+    (held .at c (lt-of-lt-of-le l (classes-limit s a)) ∙ having-syndrome (layoutOf s) (tagsAt s) (fieldOf field) c (cellsOf s))
+    ∙ located .reaches c l)

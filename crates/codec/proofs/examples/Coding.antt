@@ -4,24 +4,24 @@ use Prim.Native.Nat.{ℕ, zero, suc, _<_}
 use mathlib.Core.Bool.{Bool, true, _&&_}
 use mathlib.Core.List.{List, [], _∷_, List·Memᴰ·head}
 use mathlib.Core.Logic.{_≢_}
-use mathlib.Core.Path.{_≡_, refl, sym, _∙_, ap}
+use mathlib.Core.Path.{_≡_, refl, sym, _∙_}
 use native.Mathlib.Omega.{arith}
 use borrow.Author.Tests.{eqb-true}
 use lib.Dec.{eqb, lit<}
 use lib.ListN.{length}
-use Rattle.lattice.specs.Shape.{maxStrength, sizeOk, strengthOk, shapeNumber, Accepted, cellsOf}
+use Rattle.lattice.specs.Shape.{maxStrength, sizeOk, strengthOk, shapeNumber, Accepted}
 use Rattle.lattice.specs.Range.{inRange}
 use Rattle.lattice.specs.Settings.{oddSettings, flatSettings, settingsFor}
-use Rattle.lattice.specs.Cell.{Cell, cellAt, cellNumber}
+use Rattle.lattice.specs.Cell.{Cell, cellAt}
 use Rattle.lattice.specs.Class.{minusMod, classWith, classOf, layoutOf, classesOf}
 use Rattle.lattice.specs.Position.{Layout, sizeTo, size, position}
 use Rattle.lattice.specs.Check.{isPower, isCheck, holdsData, capacity}
 use Rattle.lattice.specs.Cluster.{distance, apart}
 use Rattle.lattice.proofs.theory.Bools.{and-left, and-right}
 use Rattle.lattice.proofs.examples.Placing.{field, corner, OfThree}
-use Rattle.lattice.proofs.theorems.Numbering.{numbering}
 use Rattle.codec.specs.Field.{fieldOf, cellsOk, isCell, isReceived}
-use Rattle.codec.specs.Hamming.{tagsOf, syndrome, allInReach, inReach, isTag, corrected}
+use Rattle.codec.specs.Hamming.{tagsOf, syndrome, flipped}
+use Rattle.codec.specs.Erasure.{erasuresTo, filled, corrected, fewErasures, inReach, allInReach}
 use Rattle.codec.specs.Payload.{Bytes, Carries, PaddingRight, paddingOk, padding, payloadBytes, rank}
 use Rattle.codec.specs.Plan.{planNumber, planCapacity, planBytes, planCells}
 use Rattle.codec.specs.Encode.{encodeNumber, encodedField}
@@ -30,10 +30,11 @@ use Rattle.codec.specs.Correct.{correctNumber, correctLeaves}
 use Rattle.codec.specs.Reach.{Readable}
 use Rattle.codec.specs.Code.{LawfulField, NearestTo}
 use Rattle.codec.specs.Damage.{OneInEachClass, WithinPromise}
-use Rattle.codec.proofs.theory.CellValues.{cells-received}
-use Rattle.codec.proofs.theory.Correction.{lawful-nearest}
+use Rattle.codec.proofs.theory.NearestField.{lawful-nearest}
 use Rattle.codec.proofs.theory.PaddingCells.{carries-padding}
 use Rattle.codec.proofs.theory.Accepted.{encode-number}
+use Rattle.codec.proofs.theory.ClusterCells.{one-number}
+use Rattle.codec.proofs.theory.ReadFields.{cells-readable}
 use Rattle.codec.proofs.theorems.Undamaged.{nothingToCorrect}
 use Rattle.codec.proofs.theorems.Writing.{encodeMeaning}
 
@@ -62,13 +63,8 @@ written = encodedField field payload
 
 pub written-readable : Readable field written
 written-readable =
-    record {
-      accepted = accepted;
-      long = encodeMeaning .long field payload;
-      cells =
-          cells-received (fieldOf written) (cellsOf field)
-          (encodeMeaning .lawful field accepted payload payload-long payload-bytes .cells);
-    }
+    cells-readable field written accepted (encodeMeaning .long field payload)
+    (encodeMeaning .lawful field accepted payload payload-long payload-bytes .cells)
 
 pub written-nearest : NearestTo field (fieldOf written) (fieldOf written)
 written-nearest =
@@ -109,9 +105,7 @@ corner-selected x e = List·Memᴰ·head (at-is corner x e)
 -- it is at most one cell of each class
 pub corner-one : OneInEachClass (layoutOf field) (λ i. isCorner (cellAt field i))
 corner-one i j hi hj si sj same =
-    sym (numbering .at field i hi .1)
-    ∙ ap (cellNumber field) (at-is corner (cellAt field i) si ∙ sym (at-is corner (cellAt field j) sj))
-    ∙ numbering .at field j hj .1
+    one-number field i j hi hj (at-is corner (cellAt field i) si ∙ sym (at-is corner (cellAt field j) sj))
 
 -- the field written is corrected, and is lawful and carries the payload
 pub written-corrected : correctNumber field written ≡ 0
@@ -161,9 +155,10 @@ corners =
 
 pub corners-beyond : ¬ WithinPromise field corners (correctLeaves field corners)
 unfolding
-    correctLeaves correctNumber fieldNumber cellsOk isCell isReceived allInReach inReach isTag tagsOf corrected paddingOk padding
-    payloadBytes rank planCells shapeNumber sizeOk strengthOk maxStrength inRange capacity holdsData sizeTo position isPower
-    isCheck cellAt classesOf classOf classWith minusMod settingsFor flatSettings oddSettings distance apart
+    correctLeaves correctNumber fieldNumber cellsOk isCell isReceived fewErasures allInReach inReach tagsOf corrected flipped
+    filled erasuresTo paddingOk padding payloadBytes rank planCells shapeNumber sizeOk strengthOk maxStrength inRange capacity
+    holdsData sizeTo position isPower isCheck cellAt classesOf classOf classWith minusMod settingsFor flatSettings oddSettings
+    distance apart
 corners-beyond told =
     let far : _<_ 8 3 = told .near 0 24 (lit< tt) (lit< tt) (λ e. omega (arith, e)) (λ e. omega (arith, e)) in omega (arith, far)
 

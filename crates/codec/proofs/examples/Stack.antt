@@ -2,7 +2,7 @@
 -- example, a hole across both of its planes, and fields that are refused with 6 and with 7.
 use Prim.Native.Nat.{zero, suc}
 use mathlib.Core.Bool.{Bool, true, _||_}
-use mathlib.Core.List.{List, [], _∷_, List·Memᴰ·head, List·Memᴰ·tail}
+use mathlib.Core.List.{[], _∷_, List·Memᴰ·head, List·Memᴰ·tail}
 use mathlib.Core.Logic.{_⊎_, inl, inr}
 use mathlib.Core.Path.{_≡_, refl, sym}
 use lib.Dec.{lit<}
@@ -12,7 +12,7 @@ use Rattle.lattice.specs.Shape.{maxStrength, sizeOk, strengthOk, shapeNumber}
 use Rattle.lattice.specs.Cell.{Cell, cell}
 use Rattle.lattice.proofs.theory.Bools.{or-cases}
 use Rattle.lattice.proofs.examples.Stack.{stack-accepted, OfHole, hole-cluster, hole-few}
-use Rattle.codec.specs.Field.{Field, fieldOf, isCell, isReceived, cellsOk}
+use Rattle.codec.specs.Field.{Field, fieldOf, isCell}
 use Rattle.codec.specs.Payload.{Bytes}
 use Rattle.codec.specs.Plan.{planBytes}
 use Rattle.codec.specs.Encode.{encodedField}
@@ -20,7 +20,8 @@ use Rattle.codec.specs.Code.{NearestTo}
 use Rattle.codec.specs.Reach.{Readable, WrongInReach}
 use Rattle.codec.specs.Damage.{damagedField, Recovered}
 use Rattle.codec.specs.theorems.Worked.{stack, bytes, strip}
-use Rattle.codec.proofs.theory.FieldLists.{ok-received}
+use Rattle.codec.proofs.theory.AllBelow.{below-all}
+use Rattle.codec.proofs.theory.ReadFields.{cells-readable}
 use Rattle.codec.proofs.examples.Coding.{isAt, at-is}
 use Rattle.codec.proofs.theorems.Reading.{decodeMeaning}
 use Rattle.codec.proofs.theorems.Recovery.{recovery}
@@ -59,9 +60,10 @@ hole-recovered =
 
 -- a class of five cells with no codeword in reach: reading gives 6
 pub none-readable : Readable (strip 5) (0 ∷ 0 ∷ 1 ∷ 0 ∷ 1 ∷ [])
-unfolding shapeNumber sizeOk strengthOk maxStrength inRange cellsOk isReceived isCell
+unfolding shapeNumber sizeOk strengthOk maxStrength inRange isCell
 none-readable =
-    record { accepted = refl; long = refl; cells = ok-received (fieldOf (0 ∷ 0 ∷ 1 ∷ 0 ∷ 1 ∷ [])) 5 refl }
+    cells-readable (strip 5) (0 ∷ 0 ∷ 1 ∷ 0 ∷ 1 ∷ []) refl refl
+    (below-all (λ i. isCell (fieldOf (0 ∷ 0 ∷ 1 ∷ 0 ∷ 1 ∷ []) i)) 5 refl)
 
 pub none-in-reach : (g : Field) → ¬ NearestTo (strip 5) (fieldOf (0 ∷ 0 ∷ 1 ∷ 0 ∷ 1 ∷ [])) g
 none-in-reach =
@@ -70,8 +72,9 @@ none-in-reach =
 
 -- a class of three cells whose padding cell is lost: reading gives 7
 pub wrong-readable : Readable (strip 3) (1 ∷ 1 ∷ 0 ∷ [])
-unfolding shapeNumber sizeOk strengthOk maxStrength inRange cellsOk isReceived isCell
-wrong-readable = record { accepted = refl; long = refl; cells = ok-received (fieldOf (1 ∷ 1 ∷ 0 ∷ [])) 3 refl }
+unfolding shapeNumber sizeOk strengthOk maxStrength inRange isCell
+wrong-readable =
+    cells-readable (strip 3) (1 ∷ 1 ∷ 0 ∷ []) refl refl (below-all (λ i. isCell (fieldOf (1 ∷ 1 ∷ 0 ∷ []) i)) 3 refl)
 
 pub wrong-in-reach : WrongInReach (strip 3) (fieldOf (1 ∷ 1 ∷ 0 ∷ []))
 wrong-in-reach =

@@ -2,6 +2,7 @@
 use Prim.Native.Nat.{ℕ, zero, suc, _+_, _-_, _*_, _%_, _<_, _≤_}
 use mathlib.Core.Bool.{Bool, true, false, cond, _&&_}
 use mathlib.Core.List.{List}
+use mathlib.Core.Logic.{_≢_}
 use mathlib.Core.Path.{_≡_, refl, sym, ap, ap₂, _∙_}
 use native.Mathlib.Decide.{ℕ-discrete}
 use native.Mathlib.Nat.{le-refl, add-zero, mul-one, mul-zero}
@@ -19,9 +20,10 @@ use Rattle.lattice.specs.Class.{classesOf, layoutOf}
 use Rattle.lattice.specs.Position.{Layout}
 use Rattle.lattice.specs.Lines.{AtLine}
 use Rattle.lattice.proofs.theory.AtLine.{at-class, at-position}
-use Rattle.codec.specs.Field.{Field}
+use Rattle.codec.specs.Field.{Field, having}
 use Rattle.codec.specs.Hamming.{Tags, tagsOf, term, syndromeTo}
 use Rattle.codec.specs.Lines.{xorBelow, folded, Taken, LineTaken}
+use Rattle.codec.proofs.theory.CellValues.{having-own, having-other}
 use Rattle.codec.proofs.theory.Tags.{tag-position}
 use Rattle.codec.proofs.theory.Xor.{xor-assoc, xor-exchange}
 
@@ -62,6 +64,14 @@ chosen true zero p l = mul-zero p
 chosen true (suc zero) p l = mul-one p
 chosen true (suc (suc v)) p l = absurd (omega arith)
 chosen false v p l = refl
+
+-- a position where a cell has a value, else 0
+module _ (value : ℕ) (f : Field) (i p : ℕ) where
+  pub product-own : f i ≡ value → p ≡ p * having value f i
+  product-own e = rw (having-own value f i e) (sym (mul-one p))
+
+  pub product-other : f i ≢ value → 0 ≡ p * having value f i
+  product-other d = rw (having-other value f i d) (sym (mul-zero p))
 
 -- what the entry at place y adds to the class a
 abbrev entry : ℕ → ℕ → List ℕ → ℕ → ℕ
@@ -185,12 +195,6 @@ line-more f start n x e before t v p h q =
         ∙ ap (λ (z : ℕ). bitXor z (getD e (start + x) 0 * f (n + x))) (p .above (start + x) (le-refl _))
         ∙ ap (λ (z : ℕ). bitXor (getD before (start + z) 0) (getD e (start + z) 0 * f (n + z))) (sym d)
     own k l (no d) = other (start + k) (λ (z : start + k ≡ start + x). d (omega arith)) ∙ p .own k (omega arith)
-
--- a product with 0 or 1 is no larger
-pub once-below : (e v n : ℕ) → e < n → v ≤ 1 → e * v < n
-once-below e zero n p q = omega (arith, p)
-once-below e (suc zero) n p q = omega (arith, p)
-once-below e (suc (suc v)) n p q = absurd (omega arith)
 
 -- one entry more of a fold
 pub fold-none : (m a : ℕ) (t : List ℕ) → folded m a 0 t ≡ 0

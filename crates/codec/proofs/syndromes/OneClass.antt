@@ -33,12 +33,13 @@ module _ (L : Layout) (n : ℕ) (alone : Alone L n) where
       ∙ ap (λ (k : ℕ). k + 1) (count-all (λ j. eqb (L .class j) 0) i (λ j m. eq-eqb (L .class j) 0 (alone j (omega arith))))
 
   -- one cell more
-  pub one-more : (f : Field) (i s v : ℕ) → i < n → s ≡ syndromeTo L (tagsOf L) f 0 i → v ≡ f i → v ≤ 1
-      → bitXor s ((i + 1) * v) ≡ syndromeTo L (tagsOf L) f 0 (i + 1)
+  pub one-more : (f : Field) (i s v : ℕ) → i < n → s ≡ syndromeTo L (tagsOf L) f 0 i → v ≡ (i + 1) * f i → f i ≤ 1
+      → bitXor s v ≡ syndromeTo L (tagsOf L) f 0 (i + 1)
   one-more f i s v l p q most =
       ap₂ bitXor p
-      (chosen true v (i + 1) most
-      ∙ ap₂ (λ (x y : ℕ). cond (eqb x 1) y 0) q (sym (tag-position L i ∙ one-position i l))
+      (q
+      ∙ chosen true (f i) (i + 1) most
+      ∙ ap (λ (p : ℕ). cond (eqb (f i) 1) p 0) (sym (tag-position L i ∙ one-position i l))
       ∙ ap (λ (b : Bool). cond (b && eqb (f i) 1) (tagsOf L i) 0) (sym (eq-eqb (L .class i) 0 (alone i l))))
       ∙ sym (syndrome-step L (tagsOf L) f 0 i)
 

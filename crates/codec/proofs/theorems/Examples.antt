@@ -10,8 +10,9 @@ use Rattle.lattice.specs.Check.{isPower, isCheck, checks, holdsData, capacity}
 use Rattle.lattice.specs.Order.{order}
 use Rattle.lattice.specs.DistanceTest.{failsAt, outcome, testStrengthOk, testSettingsOk, testNumber, verdict, foundTriple}
 use Rattle.lattice.specs.DistanceTest.{triplesTried}
-use Rattle.codec.specs.Field.{isCell, isReceived, cellsOk, differences}
-use Rattle.codec.specs.Hamming.{tagsOf, isTag, inReach, allInReach, corrected}
+use Rattle.codec.specs.Field.{isCell, isReceived, cellsOk, having, differences}
+use Rattle.codec.specs.Hamming.{tagsOf, flipped}
+use Rattle.codec.specs.Erasure.{erasuresTo, erasedSum, filled, corrected, fewErasures, inReach, allInReach}
 use Rattle.codec.specs.Payload.{payloadBytes, rank, padding, paddingOk, heldPayload}
 use Rattle.codec.specs.Plan.{planCapacity, planBytes, planCells}
 use Rattle.codec.specs.Decode.{fieldNumber, correctedCount, decodeNumber, decodeCount, decodeLeaves}
@@ -25,7 +26,8 @@ unfolding
     oddSettings evenSettings flatSettings settingsFor cellAt minusMod classWith classesOf classOf
     sizeTo position isPower isCheck checks holdsData capacity
     order failsAt outcome testStrengthOk testSettingsOk testNumber verdict foundTriple triplesTried
-    isCell isReceived cellsOk differences tagsOf isTag inReach allInReach corrected
+    isCell isReceived cellsOk having differences tagsOf flipped erasuresTo erasedSum filled corrected
+    fewErasures inReach allInReach
     payloadBytes rank padding paddingOk heldPayload planCapacity planBytes planCells
     fieldNumber correctedCount decodeNumber decodeCount decodeLeaves
 paperExamplesHold = (

@@ -9,32 +9,31 @@ use Rattle.lattice.specs.Class.{layoutOf}
 use Rattle.codec.specs.Field.{fieldOf}
 use Rattle.codec.specs.Decode.{correctedField}
 use Rattle.codec.specs.theorems.Reading.{OneCodeword, OneNearest, DecodeMeaning, CorrectMeaning}
-use Rattle.codec.proofs.theory.Correction.{near-corrected, near-reach, nearest-one}
-use Rattle.codec.proofs.theory.Tags.{tags-tell, reach-size}
+use Rattle.codec.proofs.theory.NearestField.{near-corrected, near-reached, nearest-one}
+use Rattle.codec.proofs.theory.Tags.{tags-tell, reached-size}
 use Rattle.codec.proofs.theory.Accepted.{plan-bytes}
-use Rattle.codec.proofs.theory.CellValues.{received-cells}
 use Rattle.codec.proofs.theory.FieldLists.{length-listOf, getD-listOf}
 use Rattle.codec.proofs.theory.HeldPayload.{held-length, held-bytes}
 use Rattle.codec.proofs.theory.ReadFields.{means, carry, decode-same, decode-leaves, decode-count, decoded, correct-same}
 use Rattle.codec.proofs.theory.ReadFields.{correct-leaves, correct-count, corrected}
 
--- Theorem. At most one codeword of a class differs in at most one cell, and none does where the syndrome is above the class's
--- size.
+-- Theorem. A class with at most two erasures may stand for at most one codeword, and for none where it has no erasure and the
+-- syndrome is above the class's size.
 pub oneCodeword : OneCodeword
 oneCodeword =
     record {
-      one = λ L tag tells f g h a f-cells g-cells h-cells g-near g-word h-near h-word i below own.
-          sym (near-corrected tells f g a f-cells g-cells g-near g-word i below own)
-          ∙ near-corrected tells f h a f-cells h-cells h-near h-word i below own;
+      one = λ L tag tells f g h a received few g-cells h-cells g-near g-word h-near h-word i below own.
+          sym (near-corrected tells f received g a few g-cells g-near g-word i below own)
+          ∙ near-corrected tells f received h a few h-cells h-near h-word i below own;
       tells = tags-tell;
-      none = λ L f g a f-cells g-cells above near word.
-          omega (arith, reach-size L f a (near-reach (tags-tell L) f g a f-cells g-cells near word));
+      none = λ L f g a received read g-cells above near word.
+          omega (arith, reached-size L a _ (near-reached (tags-tell L) f received g a read g-cells near word));
     }
 
--- Theorem. There is at most one lawful field that differs in at most one cell of each class.
+-- Theorem. There is at most one lawful field for which every class may stand.
 pub oneNearest : OneNearest
 oneNearest s field readable g h =
-    nearest-one (tags-tell (layoutOf s)) (fieldOf field) (received-cells (fieldOf field) (cellsOf s) (readable .cells)) g h
+    nearest-one (tags-tell (layoutOf s)) (fieldOf field) (readable .cells) (readable .few) g h
 
 -- Theorem. Decoding gives 0, 6 or 7 by the lawful fields in reach, and with 0 the payload that it carries and the number of cells
 -- where it differs.

@@ -19,12 +19,11 @@ use Rattle.codec.specs.theorems.Undamaged.{NothingToCorrect}
 use Rattle.codec.specs.Damage.{damaged, damagedField, Recovered}
 use Rattle.codec.specs.Code.{tagsAt, NearestTo}
 use Rattle.codec.proofs.theory.Accepted.{plan-bytes}
-use Rattle.codec.proofs.theory.CellValues.{cells-received}
-use Rattle.codec.proofs.theory.Correction.{lawful-nearest, nearest-same}
+use Rattle.codec.proofs.theory.NearestField.{lawful-nearest, nearest-same}
 use Rattle.codec.proofs.theory.Differences.{differences-self, differences-zero}
 use Rattle.codec.proofs.theory.FieldLists.{listOf-same, list-field, listOf-fieldOf, cells-same}
 use Rattle.codec.proofs.theory.HeldPayload.{carries-held}
-use Rattle.codec.proofs.theory.ReadFields.{means, correct-leaves}
+use Rattle.codec.proofs.theory.ReadFields.{cells-readable, means, correct-leaves}
 use Rattle.codec.proofs.theorems.Reading.{decodeMeaning, correctMeaning}
 use Rattle.codec.proofs.theorems.Recovery.{recoveryByClass}
 use Rattle.codec.proofs.theorems.Writing.{encodeMeaning}
@@ -55,15 +54,12 @@ written s accepted p long bytes buffer fits =
     subst (λ (G : List ℕ). Recovered s p (encodedField s p) G buffer) (unharmed s p)
     (recoveryByClass s accepted p long bytes none (λ i j hi hj si sj same. absurd (true≢false (sym si))) buffer fits)
 
--- a field that is corrected was readable
-readable : (s : Shape) (field : List ℕ) → correctNumber s field ≡ 0 → Readable s field
-readable s field e =
-    let t = correct-taken s field e in
-    record { accepted = t .fits .accepted; long = t .fits .long; cells = t .cells }
-
 module _ (s : Shape) (field : List ℕ) (success : correctNumber s field ≡ 0) where
+  readable : Readable s field
+  readable = correct-taken s field success
+
   found : RightInReach s (fieldOf field)
-  found = correctMeaning s field (readable s field success) .success .0 success
+  found = correctMeaning s field readable .success .0 success
 
   M : List ℕ
   M = correctLeaves s field
@@ -71,21 +67,16 @@ module _ (s : Shape) (field : List ℕ) (success : correctNumber s field ≡ 0) 
   -- the corrected buffer holds the lawful field that was found
   holds : Same (fieldOf M) (found .0) (cellsOf s)
   unfolding M
-  holds = correctMeaning s field (readable s field success) .leaves (found .0) (found .1) (found .2)
+  holds = correctMeaning s field readable .leaves (found .0) (found .1) (found .2)
 
   M-long : length M ≡ cellsOf s
   unfolding M
-  M-long = correctMeaning s field (readable s field success) .long success
+  M-long = correctMeaning s field readable .long success
 
   M-readable : Readable s M
   M-readable =
-      record {
-        accepted = readable s field success .accepted;
-        long = M-long;
-        cells =
-            cells-received (fieldOf M) (cellsOf s)
-            (cells-same (found .0) (fieldOf M) (cellsOf s) (λ i h. sym (holds i h)) (found .1 .lawful .cells));
-      }
+      cells-readable s M (readable .accepted) M-long
+      (cells-same (found .0) (fieldOf M) (cellsOf s) (λ i h. sym (holds i h)) (found .1 .lawful .cells))
 
   M-nearest : NearestTo s (fieldOf M) (found .0)
   M-nearest =
@@ -110,14 +101,14 @@ module _ (s : Shape) (field : List ℕ) (success : correctNumber s field ≡ 0) 
     count-none = differences-zero (fieldOf M) (found .0) (cellsOf s) holds ∙ sym (differences-self (fieldOf M) (cellsOf s))
 
     read-back : decodeNumber s buffer field ≡ 0
-    read-back = decodeMeaning s buffer field (readable s field success) fits .success .1 found
+    read-back = decodeMeaning s buffer field readable fits .success .1 found
 
     again : Recovered s (decodeLeaves s buffer field) M M buffer
     again =
         let m = decodeMeaning s buffer M M-readable fits in
         record {
           decoded-number = m .success .1 (found .0, M-nearest, found .2);
-          decoded-payload = sym (payload-of M M-readable M-nearest) ∙ payload-of field (readable s field success) (found .1);
+          decoded-payload = sym (payload-of M M-readable M-nearest) ∙ payload-of field readable (found .1);
           decoded-count = m .count (found .0) M-nearest (found .2) ∙ count-none;
           corrected-number = M-success;
           corrected-field =

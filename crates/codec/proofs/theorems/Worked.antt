@@ -7,8 +7,9 @@ use Rattle.lattice.specs.Cell.{cellAt}
 use Rattle.lattice.specs.Class.{minusMod, classWith, classesOf, classOf}
 use Rattle.lattice.specs.Position.{sizeTo, position}
 use Rattle.lattice.specs.Check.{isPower, isCheck, holdsData, capacity}
-use Rattle.codec.specs.Field.{isCell, isReceived, cellsOk, differences}
-use Rattle.codec.specs.Hamming.{tagsOf, isTag, inReach, allInReach, corrected}
+use Rattle.codec.specs.Field.{isCell, isReceived, cellsOk, having, differences}
+use Rattle.codec.specs.Hamming.{tagsOf, flipped}
+use Rattle.codec.specs.Erasure.{erasuresTo, erasedSum, filled, corrected, fewErasures, inReach, allInReach}
 use Rattle.codec.specs.Payload.{payloadBytes, rank, payloadBit, padding, dataValue, dataField, encoded, paddingOk}
 use Rattle.codec.specs.Plan.{planClasses, planCapacity, planBytes, planCells}
 use Rattle.codec.specs.Encode.{encodeNumber, encodedField}
@@ -22,7 +23,8 @@ unfolding
     inRange maxStrength sizeOk strengthOk shapeNumber
     oddSettings evenSettings flatSettings stackTable stackSettings settingsFor
     cellAt minusMod classWith classesOf classOf sizeTo position isPower isCheck holdsData capacity
-    isCell isReceived cellsOk differences tagsOf isTag inReach allInReach corrected
+    isCell isReceived cellsOk having differences tagsOf flipped erasuresTo erasedSum filled corrected
+    fewErasures inReach allInReach
     payloadBytes rank payloadBit padding dataValue dataField encoded paddingOk
     planClasses planCapacity planBytes planCells encodeNumber encodedField fieldNumber decodeNumber correctNumber
 codingExamples =

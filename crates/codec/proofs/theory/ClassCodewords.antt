@@ -20,12 +20,13 @@ use Rattle.lattice.proofs.theory.Distinct.{distinct-map}
 use Rattle.lattice.proofs.theory.Pigeonhole.{covered-length}
 use Rattle.lattice.proofs.theory.Positions.{position-one}
 use Rattle.codec.specs.Field.{Field, fieldOf, Cells}
-use Rattle.codec.specs.Hamming.{tagsOf, Lawful, Near}
+use Rattle.codec.specs.Hamming.{tagsOf, Lawful, OneDiffers}
 use Rattle.codec.specs.Bound.{Word, ComesFrom, CorrectsOne, Listed, passing, wordOf, ClassCodeword}
 use Rattle.codec.proofs.theorems.Reading.{oneCodeword}
 use Rattle.codec.proofs.theory.BinaryWords.{word-most, allWords, all-length, all-has, all-are, all-distinct}
-use Rattle.codec.proofs.theory.CellValues.{most-cell}
+use Rattle.codec.proofs.theory.CellValues.{most-cell, cells-received}
 use Rattle.codec.proofs.theory.CompletedField.{completed, completed-data, completed-lawful, codeword-unique}
+use Rattle.codec.proofs.theory.NearestField.{one-near, cells-few}
 use Rattle.codec.proofs.theory.PassingCells.{passing-at, passing-word, passing-same, same-passing}
 
 module _ (L : Layout) (a : ℕ) where
@@ -58,9 +59,9 @@ module _ (L : Layout) (a : ℕ) where
       (omega (arith, ap (λ (c : ℕ). sizeTo L c i) p, ap (λ (c : ℕ). sizeTo L c j) q))
 
   -- where it can have come from a codeword, it differs from the codeword's field in at most one cell of the class
-  comes-near : {u w : List ℕ} (r : ClassCodeword L a u) → ComesFrom (size L a) u w → Near L (spread w) (r .0) a
-  unfolding Near spread
-  comes-near {u = u} r c i j l m p q d e =
+  comes-one : {u w : List ℕ} (r : ClassCodeword L a u) → ComesFrom (size L a) u w → OneDiffers L (spread w) (r .0) a
+  unfolding OneDiffers spread
+  comes-one {u = u} r c i j l m p q d e =
       own-one i j p q (c .one (count own i) (count own j) (λ z. d (sym z ∙ here i l p)) (λ z. e (sym z ∙ here j m q)))
     where
       here : (x : ℕ) → x < L .cells → L .class x ≡ a → fieldOf u (count own x) ≡ r .0 x
@@ -81,9 +82,11 @@ module _ (L : Layout) (a : ℕ) where
           r .2
           ∙ passing-same own (r .0) (s .0) (L .cells)
           (λ i l e.
+          let cells = spread-cells (c .word) (L .cells) in
           oneCodeword .one L (tagsOf L) (oneCodeword .tells L) (spread w) (r .0) (s .0) a
-          (spread-cells (c .word) (L .cells)) (r .1 .cells) (s .1 .cells)
-          (comes-near r c) (r .1 .classes a) (comes-near s d) (s .1 .classes a) i l (own-class i e))
+          (cells-received (spread w) (L .cells) cells) (cells-few L (spread w) cells a) (r .1 .cells) (s .1 .cells)
+          (one-near L (spread w) (r .0) cells a (comes-one r c)) (r .1 .classes a)
+          (one-near L (spread w) (s .0) cells a (comes-one s d)) (s .1 .classes a) i l (own-class i e))
           ∙ sym (s .2)
 
   -- the lawful field with the entries of a word in the data cells of the class, and the class's word in it

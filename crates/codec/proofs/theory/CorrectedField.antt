@@ -1,30 +1,26 @@
--- A field that passes the tests, corrected: the damaged cell of each class is flipped.
+-- A field that passes the tests, corrected: cells of the classes are flipped, and the payload is gathered.
 use Prim.Native.Nat.{ℕ, _<_, _≤_}
-use mathlib.Core.Bool.{not}
 use mathlib.Core.List.{List}
-use mathlib.Core.Path.{_≡_, sym, ap, subst, _∙_}
+use mathlib.Core.Path.{_≡_, sym, subst, _∙_}
 use native.Mathlib.Nat.{mod-eq-of-lt, lt-of-lt-of-le}
 use native.Mathlib.Omega.{arith}
-use lib.Dec.{eqb}
-use lib.ListN.{length, getD}
+use lib.ListN.{length}
 use lib.Pow.{pow-mono}
 use Rattle.lattice.specs.declared.shape.Shape.{Shape}
 use Rattle.lattice.specs.Refusal.{figure}
 use Rattle.lattice.specs.Shape.{maxClasses, shapeNumber, Accepted, cellsOf}
 use Rattle.lattice.specs.Class.{classesOf, layoutOf}
 use Rattle.lattice.specs.Position.{Layout}
-use Rattle.lattice.specs.Counting.{count}
-use Rattle.lattice.specs.Listing.{CellsAt}
 use Rattle.lattice.proofs.theory.Answers.{beside-zero}
 use Rattle.lattice.proofs.theory.ClassBelow.{classes-limit}
-use Rattle.codec.specs.Field.{Field, fieldOf, listOf, Cells, Same}
-use Rattle.codec.specs.Decode.{correctedField, correctedCount}
+use Rattle.codec.specs.Field.{Field, fieldOf, Cells, Same, having}
+use Rattle.codec.specs.Decode.{correctedField}
 use Rattle.codec.specs.Payload.{payloadBytes, rank, heldByte, heldPayload}
-use Rattle.codec.specs.Packing.{HoldsBytes, HoldsBits, correctedTo, Damaged}
-use Rattle.codec.specs.Working.{HoldsSyndromes, Correctable}
+use Rattle.codec.specs.Packing.{HoldsBytes, HoldsBits, Names, flippedBy, flippedTo}
+use Rattle.codec.specs.Working.{Located}
 use Rattle.codec.proofs.theory.Accepted.{class-at-below}
-use Rattle.codec.proofs.theory.CellValues.{cell-most, received-cells}
-use Rattle.codec.proofs.theory.DamagedCells.{corrected-to-all, damaged-count, damaged-are}
+use Rattle.codec.proofs.theory.CellValues.{cell-most}
+use Rattle.codec.proofs.theory.NamedCells.{named-same, flipped-to-all}
 use Rattle.codec.proofs.theory.FieldLists.{list-field}
 use Rattle.codec.proofs.theory.HeldByte.{bitsOf, byte-below}
 use Rattle.codec.proofs.theory.HeldPayload.{held-length, held-bit}
@@ -37,39 +33,32 @@ module _ (s : Shape) (accepted : Accepted s) (m : ℕ) (given : m ≡ figure (sh
   pub classes-few : m ≤ maxClasses
   classes-few = rw classes-given (classes-limit s accepted)
 
--- a field that passes has nothing but cells
-pub field-cells : (s : Shape) (field : List ℕ) → Correctable s field → Cells (fieldOf field) (length field)
-field-cells s field correctable i l = received-cells _ _ (correctable .cells) i (rw (correctable .fits .long) at l)
+-- cells named for as many classes
+pub names-given : (L : Layout) (cells : List ℕ) (m n : ℕ) → m ≡ n → Names L n cells → Names L m cells
+names-given L cells m n e = subst (λ (k : ℕ). Names L k cells) (sym e)
 
-module _ (s : Shape) (field syndromes : List ℕ) (correctable : Correctable s field)
-    (held : HoldsSyndromes (layoutOf s) (fieldOf field) syndromes (cellsOf s)) (m : ℕ) (own : m ≡ classesOf s) where
-  pub all-damaged : (damaged : List ℕ) → CellsAt (layoutOf s) (classesOf s) syndromes damaged
-      → Damaged (layoutOf s) m (fieldOf field) damaged
-  all-damaged damaged at =
-      subst (λ (k : ℕ). Damaged (layoutOf s) k (fieldOf field) damaged) (sym own)
-      (damaged-are s (correctable .fits .accepted) (fieldOf field) (received-cells _ _ (correctable .cells))
-      (correctable .reach) syndromes damaged held at)
+-- cells named for every class are flipped in the whole field
+pub all-flipped : (s : Shape) → Accepted s → (m : ℕ) → m ≡ classesOf s → (cells : List ℕ) (f : Field)
+    → Same (flippedTo (layoutOf s) cells f m) (flippedBy (layoutOf s) cells f) (cellsOf s)
+all-flipped s accepted m own cells f =
+    flipped-to-all (layoutOf s) cells f m (cellsOf s) (λ i l. rw own (class-at-below s accepted i l))
 
-  pub all-corrected : Same (correctedTo (layoutOf s) (fieldOf field) m) (correctedField s (fieldOf field)) (cellsOf s)
-  all-corrected =
-      corrected-to-all (layoutOf s) (fieldOf field) m (cellsOf s)
-      (λ i l. rw own (class-at-below s (correctable .fits .accepted) i l))
+-- and so after other cells
+pub flipped-next : (s : Shape) → Accepted s → (m : ℕ) → m ≡ classesOf s → (cells : List ℕ) (f g h : Field)
+    → Same h (flippedTo (layoutOf s) cells f m) (cellsOf s) → Same f g (cellsOf s)
+    → Same h (flippedBy (layoutOf s) cells g) (cellsOf s)
+flipped-next s accepted m own cells f g h made same i l =
+    made i l ∙ all-flipped s accepted m own cells f i l ∙ named-same (layoutOf s) cells f g (cellsOf s) same i l
 
-  -- the corrected cells are the corrected field
-  pub cells-corrected : (last : List ℕ) → length last ≡ length field
-      → Same (fieldOf last) (correctedTo (layoutOf s) (fieldOf field) m) (length field)
-      → last ≡ listOf (correctedField s (fieldOf field)) (cellsOf s)
-  cells-corrected last long same =
-      list-field last (correctedField s (fieldOf field)) (cellsOf s) (long ∙ correctable .fits .long)
-      (λ i l. same i (rw (correctable .fits .long) l) ∙ all-corrected i l)
-
-  -- the syndromes that are not 0 are as many as the cells flipped
-  pub damaged-counted : (r : ℕ) → r ≡ count (λ a. not (eqb (getD syndromes a 0) 0)) m → r ≡ correctedCount s (fieldOf field)
-  damaged-counted r e =
-      e
-      ∙ ap (count (λ a. not (eqb (getD syndromes a 0) 0))) own
-      ∙ damaged-count s (correctable .fits .accepted) (fieldOf field) (received-cells _ _ (correctable .cells))
-      (correctable .reach) syndromes held
+-- the cells that correction flips, in a field with 0 in each erased cell
+pub located-corrects : (s : Shape) (field damaged first second : List ℕ) → Located s field damaged first second
+    → (g : Field) → Same g (having 1 (fieldOf field)) (cellsOf s)
+    → Same (flippedBy (layoutOf s) second (flippedBy (layoutOf s) first (flippedBy (layoutOf s) damaged g)))
+    (correctedField s (fieldOf field)) (cellsOf s)
+located-corrects s field damaged first second located g same i l =
+    named-same (layoutOf s) second _ _ (cellsOf s)
+    (named-same (layoutOf s) first _ _ (cellsOf s) (named-same (layoutOf s) damaged _ _ (cellsOf s) same)) i l
+    ∙ located .corrects i l
 
 -- the payload of the right length that was gathered from a field has the bits of its data cells
 pub gathered-bits : (L : Layout) (f : Field) (l : List ℕ)

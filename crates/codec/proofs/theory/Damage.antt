@@ -6,9 +6,11 @@ use mathlib.Core.Path.{_≡_, refl, sym, _∙_}
 use native.Mathlib.Omega.{arith}
 use Rattle.lattice.specs.Position.{Layout}
 use Rattle.codec.specs.Field.{Field, Cells, flip, isCell}
-use Rattle.codec.specs.Hamming.{Tags, Lawful, Near, Nearest}
+use Rattle.codec.specs.Hamming.{Tags, Lawful, OneDiffers}
+use Rattle.codec.specs.Erasure.{Nearest}
 use Rattle.codec.specs.Damage.{damaged, OneInEachClass}
 use Rattle.codec.proofs.theory.CellValues.{most-cell}
+use Rattle.codec.proofs.theory.NearestField.{one-near}
 
 module _ (f : Field) (selected : ℕ → Bool) where
   pub damaged-flipped : (i : ℕ) → selected i ≡ true → damaged f selected i ≡ flip (f i)
@@ -35,11 +37,15 @@ module _ (f : Field) (selected : ℕ → Bool) where
       go false e = absurd (d (damaged-kept i e))
 
 module _ (L : Layout) (tag : Tags) (f : Field) (selected : ℕ → Bool) (one : OneInEachClass L selected) where
-  damaged-near : (a : ℕ) → Near L (damaged f selected) f a
-  unfolding Near
-  damaged-near a i j l m c d x y =
+  damaged-one : (a : ℕ) → OneDiffers L (damaged f selected) f a
+  unfolding OneDiffers
+  damaged-one a i j l m c d x y =
       one i j l m (damaged-selected f selected i x) (damaged-selected f selected j y) (c ∙ sym d)
 
   -- a lawful field is the nearest to it after the damage
   pub damaged-nearest : Lawful L tag f → Nearest L tag (damaged f selected) f
-  damaged-nearest h = record { lawful = h; near = damaged-near }
+  damaged-nearest h =
+      record {
+        lawful = h;
+        near = λ a. one-near L (damaged f selected) f (damaged-cells f selected (L .cells) (h .cells)) a (damaged-one a);
+      }

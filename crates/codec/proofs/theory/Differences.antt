@@ -7,9 +7,10 @@ use borrow.Author.Tests.{eq-eqb, ne-eqb}
 use lib.Dec.{eqb}
 use Rattle.lattice.specs.Position.{Layout}
 use Rattle.lattice.proofs.theory.Counting.{count-same, count-none}
-use Rattle.codec.specs.Field.{Field, Cells, Same, differences}
-use Rattle.codec.specs.Hamming.{Tags, Tells, Nearest, corrected}
-use Rattle.codec.proofs.theory.Correction.{nearest-corrected}
+use Rattle.codec.specs.Field.{Field, Received, Same, differences}
+use Rattle.codec.specs.Hamming.{Tags, Tells}
+use Rattle.codec.specs.Erasure.{FewErasures, Nearest, corrected}
+use Rattle.codec.proofs.theory.NearestField.{nearest-corrected}
 
 -- the number of differences depends on the cells alone, and not on the fields' order
 pub differences-same : (f g h k : Field) (n : ℕ) → Same f g n → Same h k n → differences f h n ≡ differences g k n
@@ -36,8 +37,8 @@ pub differences-self : (f : Field) (n : ℕ) → differences f f n ≡ 0
 differences-self f n = differences-zero f f n (λ i l. refl)
 
 module _ {L : Layout} {tag : Tags} (tells : Tells L tag) (f : Field) where
-  -- correction flips as many cells as the nearest lawful field differs in
-  pub differences-nearest : Cells f (L .cells) → (g : Field) → Nearest L tag f g
+  -- correction changes as many cells as the nearest lawful field differs in
+  pub differences-nearest : Received f (L .cells) → FewErasures L f → (g : Field) → Nearest L tag f g
       → differences f (corrected L tag f) (L .cells) ≡ differences f g (L .cells)
-  differences-nearest p g h =
-      differences-same f f (corrected L tag f) g (L .cells) (λ i l. refl) (nearest-corrected tells f p g h)
+  differences-nearest p few g h =
+      differences-same f f (corrected L tag f) g (L .cells) (λ i l. refl) (nearest-corrected tells f p few g h)

@@ -60,3 +60,6 @@ not-received f n p = some-fails (λ i. isReceived (f i)) n p
 
 pub cells-same : (f g : Field) (n : ℕ) → Same f g n → Cells f n → Cells g n
 cells-same f g n s p i l = rw (← s i l) (p i l)
+
+pub received-same : (f g : Field) (n : ℕ) → Same f g n → Received f n → Received g n
+received-same f g n s p i l = rw (← s i l) (p i l)

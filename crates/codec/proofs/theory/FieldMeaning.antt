@@ -1,5 +1,5 @@
--- What the tests of a field of cells mean: the number 0, 6 or 7 by the lawful fields in reach, the corrected field, its payload
--- and its count.
+-- What the tests of a field of cells and few erasures mean: the number 0, 6 or 7 by the lawful fields in reach, the corrected
+-- field, its payload and its count.
 use Prim.Native.Nat.{ℕ}
 use mathlib.Core.Bool.{Bool, true, false, true≢false}
 use mathlib.Core.Logic.{_↔_}
@@ -10,15 +10,15 @@ use Rattle.lattice.specs.Refusal.{unless}
 use Rattle.lattice.specs.Shape.{Accepted, cellsOf}
 use Rattle.lattice.specs.Class.{classesOf, layoutOf}
 use Rattle.codec.specs.Field.{Field, Cells, Received, Same, differences}
+use Rattle.codec.specs.Erasure.{FewErasures}
 use Rattle.codec.specs.Payload.{Carries, PaddingRight, paddingOk, heldPayload}
 use Rattle.codec.specs.Code.{tagsAt, NearestTo, fieldInReach}
 use Rattle.codec.specs.Decode.{correctedField, fieldNumber, correctedCount}
 use Rattle.codec.specs.Reach.{RightInReach, WrongInReach}
 use Rattle.codec.proofs.theory.Accepted.{class-at-below}
-use Rattle.codec.proofs.theory.CellValues.{received-cells}
 use Rattle.codec.proofs.theory.FieldLists.{received-ok}
-use Rattle.codec.proofs.theory.Correction.{nearest-corrected, corrected-cells}
-use Rattle.codec.proofs.theory.Reach.{reach-nearest, nearest-all}
+use Rattle.codec.proofs.theory.NearestField.{nearest-corrected, corrected-cells}
+use Rattle.codec.proofs.theory.Reach.{few-all, reach-nearest, nearest-all}
 use Rattle.codec.proofs.theory.Differences.{differences-nearest}
 use Rattle.codec.proofs.theory.PaddingCells.{padding-ok, ok-padding, not-padding, padding-right-same}
 use Rattle.codec.proofs.theory.HeldPayload.{held-carries, carries-same}
@@ -34,14 +34,12 @@ pub record FieldMeans (s : Shape) (f : Field) : Type 0 where
       → Carries (layoutOf s) g (heldPayload (layoutOf s) (correctedField s f))
   pub count : (g : Field) → NearestTo s f g → correctedCount s f ≡ differences f g (cellsOf s)
 
--- the two tests that are left where every cell is 0 or 1
+-- the two tests that are left where every cell is 0, 1 or erased and no class has three erasures
 number-of : Bool → Bool → ℕ
 number-of reach padding = unless reach 6 (unless padding 7 0)
 
-module _ (s : Shape) (accepted : Accepted s) (f : Field) (received : Received f (cellsOf s)) where
-  cells : Cells f (cellsOf s)
-  cells = received-cells f (cellsOf s) received
-
+module _ (s : Shape) (accepted : Accepted s) (f : Field) (received : Received f (cellsOf s))
+    (few : FewErasures (layoutOf s) f) where
   reach : Bool
   reach = fieldInReach s f
 
@@ -50,21 +48,24 @@ module _ (s : Shape) (accepted : Accepted s) (f : Field) (received : Received f 
 
   field-number : fieldNumber s f ≡ number-of reach right
   unfolding fieldNumber number-of reach right
-  field-number = rw (received-ok f (cellsOf s) received)
+  field-number =
+      rw
+      (received-ok f (cellsOf s) received, few-all (layoutOf s) (tagsAt s) (classesOf s) (class-at-below s accepted) f few)
 
   -- the corrected field is the nearest one where a codeword is in reach of each class
   here-nearest : reach ≡ true → NearestTo s f (correctedField s f)
   unfolding reach
   here-nearest =
-      reach-nearest (layoutOf s) (tagsAt s) (classesOf s) (class-at-below s accepted) f (tags-tell (layoutOf s)) cells
+      reach-nearest (layoutOf s) (tagsAt s) (classesOf s) (class-at-below s accepted) f (tags-tell (layoutOf s)) received
 
   nearest-reach : (g : Field) → NearestTo s f g → reach ≡ true
   unfolding reach
-  nearest-reach = nearest-all (layoutOf s) (tagsAt s) (classesOf s) (class-at-below s accepted) f (tags-tell (layoutOf s)) cells
+  nearest-reach =
+      nearest-all (layoutOf s) (tagsAt s) (classesOf s) (class-at-below s accepted) f (tags-tell (layoutOf s)) received few
 
   -- and any nearest field is the corrected one
   nearest-here : (g : Field) → NearestTo s f g → Same (correctedField s f) g (cellsOf s)
-  nearest-here = nearest-corrected (tags-tell (layoutOf s)) f cells
+  nearest-here = nearest-corrected (tags-tell (layoutOf s)) f received few
 
   corrected-right : right ≡ true → PaddingRight (layoutOf s) (correctedField s f)
   unfolding right
@@ -86,7 +87,7 @@ module _ (s : Shape) (accepted : Accepted s) (f : Field) (received : Received f 
 
   -- the corrected field is a field of cells, and the payload that it holds is carried by the nearest one
   cells-corrected : Cells (correctedField s f) (cellsOf s)
-  cells-corrected = corrected-cells (layoutOf s) (tagsAt s) f cells
+  cells-corrected = corrected-cells (layoutOf s) (tagsAt s) f received
 
   nearest-carries : (g : Field) → NearestTo s f g → PaddingRight (layoutOf s) g
       → Carries (layoutOf s) g (heldPayload (layoutOf s) (correctedField s f))
@@ -139,7 +140,7 @@ module _ (s : Shape) (accepted : Accepted s) (f : Field) (received : Received f 
   -- the count is the number of cells where the nearest field differs
   count-nearest : (g : Field) → NearestTo s f g → correctedCount s f ≡ differences f g (cellsOf s)
   unfolding correctedCount
-  count-nearest = differences-nearest (tags-tell (layoutOf s)) f cells
+  count-nearest = differences-nearest (tags-tell (layoutOf s)) f received few
 
   pub field-means : FieldMeans s f
   field-means =

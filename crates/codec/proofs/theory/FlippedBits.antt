@@ -21,7 +21,7 @@ use Rattle.codec.specs.Payload.{Bytes, payloadBytes, rank, payloadBit, h
 use Rattle.codec.specs.Packing.{BitFlipped, HoldsBits, flippedAt}
 use Rattle.codec.proofs.theory.BinaryDigits.{xor-bit, xor-bit-left, power-bit, power-bit-other}
 use Rattle.codec.proofs.theorems.Payload.{bitsTell}
-use Rattle.codec.proofs.theory.DamagedCells.{flipped-own, flipped-other}
+use Rattle.codec.proofs.theory.NamedCells.{flipped-own, flipped-other}
 use Rattle.codec.proofs.theory.Gathered.{rank-checks}
 use Rattle.codec.proofs.theory.HeldPayload.{held-length, held-bytes, held-bit}
 use Rattle.codec.proofs.theory.Ranks.{bytes-most, rank-rises, rank-some}

@@ -21,9 +21,11 @@ use Rattle.codec.specs.Encode.{encodeNumber}
 use Rattle.codec.specs.Decode.{fieldNumber, decodeNumber}
 use Rattle.codec.specs.Correct.{correctNumber}
 use Rattle.lattice.specs.Sizes.{HoldsSizes}
-use Rattle.codec.specs.Working.{lengthNumber, Correctable}
+use Rattle.codec.specs.Working.{lengthNumber}
+use Rattle.codec.specs.Reach.{Readable}
 use Rattle.codec.proofs.theory.Accepted.{plan-bytes, plan-cells}
-use Rattle.codec.proofs.theory.FieldNumber.{zero-cells, zero-reach}
+use Rattle.codec.proofs.theory.FieldNumber.{zero-cells, zero-few}
+use Rattle.codec.proofs.theory.FieldTests.{tested-few}
 
 -- the payload's length that the sizes of the classes give is the plan's
 pub bytes-given : (s : Shape) (sizes : List ℕ) (k m : ℕ) → Accepted s → HoldsSizes (layoutOf s) sizes (cellsOf s)
@@ -77,17 +79,18 @@ module _ (s : Shape) (payload field : List ℕ) where
 
 -- what a field that is not refused tells
 taken : (s : Shape) (field : List ℕ) → Accepted s
-    → unless (eqb (length field) (planCells s)) 4 (fieldNumber s (fieldOf field)) ≡ 0 → Correctable s field
+    → unless (eqb (length field) (planCells s)) 4 (fieldNumber s (fieldOf field)) ≡ 0 → Readable s field
 taken s field a e =
     let f = unless-zero (eqb (length field) (planCells s)) 3 _ e in
     record {
-      fits = record { accepted = a; long = eqb-true (length field) (planCells s) (f .0) ∙ plan-cells s a };
+      accepted = a;
+      long = eqb-true (length field) (planCells s) (f .0) ∙ plan-cells s a;
       cells = zero-cells s (fieldOf field) (f .1);
-      reach = zero-reach s (fieldOf field) (f .1);
+      few = tested-few s a (fieldOf field) (zero-few s (fieldOf field) (f .1));
     }
 
 pub decode-taken : (s : Shape) (payload field : List ℕ) → decodeNumber s payload field ≡ 0
-    → Correctable s field × (length payload ≡ payloadBytes (layoutOf s))
+    → Readable s field × (length payload ≡ payloadBytes (layoutOf s))
 unfolding decodeNumber
 decode-taken s payload field e =
     let a = or-else-zero (shapeNumber s) _ e in
@@ -104,6 +107,6 @@ module _ (s : Shape) (field : List ℕ) where
   unfolding correctNumber
   correct-length a d = rw (a, ne-eqb (length field) (planCells s) d)
 
-  pub correct-taken : correctNumber s field ≡ 0 → Correctable s field
+  pub correct-taken : correctNumber s field ≡ 0 → Readable s field
   unfolding correctNumber
   correct-taken e = let a = or-else-zero (shapeNumber s) _ e in taken s field (a .0) (a .1)

@@ -1,14 +1,14 @@
--- Demand 2, reading: decoding and correcting find the one lawful field that differs in at most one cell of each class.
+-- Demand 2, reading: decoding and correcting find the one lawful field for which every class may stand.
 use Prim.Native.Nat.{ℕ}
 use mathlib.Core.List.{List}
 use mathlib.Core.Logic.{_↔_}
 use mathlib.Core.Path.{_≡_, sym, _∙_}
 use lib.ListN.{length}
 use Rattle.lattice.specs.declared.shape.Shape.{Shape}
-use Rattle.lattice.specs.Shape.{cellsOf}
+use Rattle.lattice.specs.Shape.{Accepted, cellsOf}
 use Rattle.lattice.specs.Class.{layoutOf}
 use Rattle.lattice.proofs.theory.Answers.{beside-zero}
-use Rattle.codec.specs.Field.{Field, fieldOf, listOf}
+use Rattle.codec.specs.Field.{Field, fieldOf, listOf, Cells}
 use Rattle.codec.specs.Payload.{PaddingRight, heldPayload}
 use Rattle.codec.specs.Code.{NearestTo}
 use Rattle.codec.specs.Plan.{planBytes}
@@ -16,11 +16,24 @@ use Rattle.codec.specs.Decode.{correctedField, fieldNumber, correctedCou
 use Rattle.codec.specs.Correct.{correctNumber, correctCount, correctLeaves}
 use Rattle.codec.specs.Reach.{Readable}
 use Rattle.codec.proofs.theory.Accepted.{decode-number, correct-number}
+use Rattle.codec.proofs.theory.CellValues.{cells-received}
 use Rattle.codec.proofs.theory.FieldMeaning.{FieldMeans, field-means}
+use Rattle.codec.proofs.theory.NearestField.{cells-few}
+
+-- a buffer of the plan's length with nothing but cells is readable
+pub cells-readable : (s : Shape) (field : List ℕ) → Accepted s → length field ≡ cellsOf s → Cells (fieldOf field) (cellsOf s)
+    → Readable s field
+cells-readable s field accepted long cells =
+    record {
+      accepted = accepted;
+      long = long;
+      cells = cells-received (fieldOf field) (cellsOf s) cells;
+      few = cells-few (layoutOf s) (fieldOf field) cells;
+    }
 
 -- what the tests of a buffer's field mean
 pub means : {s : Shape} {field : List ℕ} → Readable s field → FieldMeans s (fieldOf field)
-means {s} {field} readable = field-means s (readable .accepted) (fieldOf field) (readable .cells)
+means {s} {field} readable = field-means s (readable .accepted) (fieldOf field) (readable .cells) (readable .few)
 
 -- an equation of numbers carries what the one means to the other
 pub carry : {P : Type 0} (a b k : ℕ) → a ≡ b → (b ≡ k) ↔ P → (a ≡ k) ↔ P

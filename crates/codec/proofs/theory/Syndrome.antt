@@ -12,8 +12,8 @@ use lib.Dec.{eqb}
 use lib.Pow.{pow-pos}
 use borrow.Author.Tests.{eq-eqb, ne-eqb}
 use Rattle.lattice.specs.Position.{Layout}
-use Rattle.codec.specs.Field.{Field, Cells}
-use Rattle.codec.specs.Hamming.{Tags, term, syndromeTo, syndrome, Near}
+use Rattle.codec.specs.Field.{Field, Cells, having}
+use Rattle.codec.specs.Hamming.{Tags, term, syndromeTo, syndrome, OneDiffers}
 use Rattle.codec.proofs.theory.CellValues.{cell-most}
 use Rattle.codec.proofs.theory.Xor.{xor-cancel-left, xor-exchange}
 
@@ -43,6 +43,10 @@ sum-one (suc (suc x)) y k l d = absurd (omega arith)
 
 one-sum : (x y : ℕ) → bitXor x y ≡ 1 → x ≢ y
 one-sum x y e d = omega (arith, ap (λ (z : ℕ). bitXor z y) d, xor-self y)
+
+one-bit : (b : Bool) → eqb (cond b 1 0) 1 ≡ b
+one-bit true = refl
+one-bit false = refl
 
 module _ (L : Layout) (tag : Tags) where
   -- a cell adds its tag where it is a 1 cell of the class, and else nothing
@@ -92,7 +96,7 @@ module _ (L : Layout) (tag : Tags) where
       ap₂ bitXor (syndrome-empty f a n (λ i l. p i (omega arith))) (term-other f a n (p n (le-refl _)))
 
   -- a class with one 1 cell has that cell's tag
-  syndrome-one : (f : Field) (a i n : ℕ) → i < n → L .class i ≡ a → f i ≡ 1
+  pub syndrome-one : (f : Field) (a i n : ℕ) → i < n → L .class i ≡ a → f i ≡ 1
       → ((j : ℕ) → j < n → L .class j ≡ a → f j ≡ 1 → j ≡ i) → syndromeTo L tag f a n ≡ tag i
   syndrome-one f a i zero l p q only = absurd (not-suc-le-zero l)
   syndrome-one f a i (suc n) l p q only =
@@ -154,8 +158,18 @@ module _ (L : Layout) (tag : Tags) where
           (sum-one (f i) (g i) (cell-most _ (p i l)) (cell-most _ (q i l)) d)
           (λ j m e o. only j m e (one-sum (f j) (g j) o))
 
-  pub near-flipped : (f g : Field) (a i : ℕ) → Cells f (L .cells) → Cells g (L .cells) → Near L f g a
+  pub one-flips : (f g : Field) (a i : ℕ) → Cells f (L .cells) → Cells g (L .cells) → OneDiffers L f g a
       → i < L .cells → L .class i ≡ a → f i ≢ g i → syndrome L tag g a ≡ bitXor (syndrome L tag f a) (tag i)
-  unfolding Near
-  near-flipped f g a i p q near l c d =
+  unfolding OneDiffers
+  one-flips f g a i p q near l c d =
       syndrome-flipped f g a i (L .cells) p q l c d (λ j m e o. near j i m l e c o d)
+
+  -- only the 1 cells matter
+  pub having-syndrome : (f : Field) (a n : ℕ) → syndromeTo L tag (having 1 f) a n ≡ syndromeTo L tag f a n
+  unfolding having
+  having-syndrome f a zero = refl
+  having-syndrome f a (suc n) =
+      ap₂
+      bitXor
+      (having-syndrome f a n)
+      (ap (λ (b : Bool). cond (eqb (L .class n) a && b) (tag n) 0) (one-bit (eqb (f n) 1)))

@@ -1,5 +1,6 @@
--- Demand 2, reading: decoding and correcting find the one lawful field that differs in at most one cell of each class.
-use Prim.Native.Nat.{ℕ, _<_}
+-- Demand 2, reading: decoding and correcting find the one lawful field for which every class may stand. A class with no erasure
+-- differs from it in at most one cell; in a class with one or two erasures every cell that was read agrees with it.
+use Prim.Native.Nat.{ℕ, _<_, _≤_}
 use mathlib.Core.List.{List}
 use mathlib.Core.Logic.{_↔_}
 use mathlib.Core.Path.{_≡_}
@@ -8,8 +9,9 @@ use Rattle.lattice.specs.declared.shape.Shape.{Shape}
 use Rattle.lattice.specs.Shape.{cellsOf}
 use Rattle.lattice.specs.Class.{layoutOf}
 use Rattle.lattice.specs.Position.{Layout, size}
-use Rattle.codec.specs.Field.{Field, fieldOf, Cells, Same, differences}
-use Rattle.codec.specs.Hamming.{Tags, Tells, tagsOf, syndrome, Codeword, Near}
+use Rattle.codec.specs.Field.{Field, fieldOf, Cells, Received, Same, differences}
+use Rattle.codec.specs.Hamming.{Tags, Tells, tagsOf, syndrome, Codeword}
+use Rattle.codec.specs.Erasure.{erasures, Near}
 use Rattle.codec.specs.Payload.{Bytes, Carries, PaddingRight}
 use Rattle.codec.specs.Code.{NearestTo}
 use Rattle.codec.specs.Plan.{planBytes}
@@ -17,18 +19,19 @@ use Rattle.codec.specs.Decode.{decodeNumber, decodeCount, decodeLeaves}
 use Rattle.codec.specs.Correct.{correctNumber, correctCount, correctLeaves}
 use Rattle.codec.specs.Reach.{Readable, RightInReach, WrongInReach}
 
--- Theorem. Of one class, for any layout and any tags that tell its cells: at most one codeword differs in at most one cell.
--- Positions are such tags, and with them none does where the syndrome is above the class's size.
+-- Theorem. Of one class with at most two erasures, for any layout and any tags that tell its cells: it may stand for at most one
+-- codeword. Positions are such tags, and with them a class with no erasure may stand for none where the syndrome is above the
+-- class's size.
 pub record OneCodeword : Type 0 where
   pub one : (L : Layout) (tag : Tags) → Tells L tag
-      → (f g h : Field) (a : ℕ) → Cells f (L .cells) → Cells g (L .cells) → Cells h (L .cells)
+      → (f g h : Field) (a : ℕ) → Received f (L .cells) → erasures L f a ≤ 2 → Cells g (L .cells) → Cells h (L .cells)
       → Near L f g a → Codeword L tag g a → Near L f h a → Codeword L tag h a
       → (i : ℕ) → i < L .cells → L .class i ≡ a → g i ≡ h i
   pub tells : (L : Layout) → Tells L (tagsOf L)
-  pub none : (L : Layout) (f g : Field) (a : ℕ) → Cells f (L .cells) → Cells g (L .cells) → size L a < syndrome L (tagsOf L) f a
-      → Near L f g a → ¬ Codeword L (tagsOf L) g a
+  pub none : (L : Layout) (f g : Field) (a : ℕ) → Received f (L .cells) → erasures L f a ≡ 0 → Cells g (L .cells)
+      → size L a < syndrome L (tagsOf L) f a → Near L f g a → ¬ Codeword L (tagsOf L) g a
 
--- Theorem (demand 2). There is at most one lawful field that differs in at most one cell of each class.
+-- Theorem (demand 2). There is at most one lawful field for which every class may stand.
 abbrev pub OneNearest : Type 0
 OneNearest =
     (s : Shape) (field : List ℕ) → Readable s field

@@ -21,12 +21,12 @@ abbrev pub EncodeRefused : Type 0
 EncodeRefused =
     (s : Shape) (payload field : List ℕ) → Settled (encodeRefusals s payload field) (encodeNumber s payload field)
 
--- Theorem (demand 1). Decoding's number is: 1, 2, 3, 4, 5, 6, 7.
+-- Theorem (demand 1). Decoding's number is: 1, 2, 3, 4, 5, 10, 6, 7.
 abbrev pub DecodeRefused : Type 0
 DecodeRefused =
     (s : Shape) (payload field : List ℕ) → Settled (decodeRefusals s payload field) (decodeNumber s payload field)
 
--- Theorem (demand 1). Correcting's number is: 1, 2, 4, 5, 6, 7.
+-- Theorem (demand 1). Correcting's number is: 1, 2, 4, 5, 10, 6, 7.
 abbrev pub CorrectRefused : Type 0
 CorrectRefused = (s : Shape) (field : List ℕ) → Settled (correctRefusals s field) (correctNumber s field)
 

@@ -62,9 +62,9 @@ pub record CodingExamples : Type 0 where
       × (decodeNumber (strip 2) [] (2 ∷ 1 ∷ 1 ∷ []) ≡ 4)
       × (correctNumber (strip 2) (2 ∷ []) ≡ 4)
       × (correctNumber (strip 2) (2 ∷ 1 ∷ 1 ∷ []) ≡ 4)
-  pub then-five : (decodeNumber (strip 3) [] (0 ∷ 0 ∷ 2 ∷ []) ≡ 5)
-      × (decodeNumber (strip 5) [] (2 ∷ 0 ∷ 1 ∷ 0 ∷ 1 ∷ []) ≡ 5)
-      × (correctNumber (strip 3) (0 ∷ 0 ∷ 2 ∷ []) ≡ 5)
-      × (correctNumber (strip 5) (2 ∷ 0 ∷ 1 ∷ 0 ∷ 1 ∷ []) ≡ 5)
+  pub then-five : (decodeNumber (strip 3) [] (0 ∷ 0 ∷ 3 ∷ []) ≡ 5)
+      × (decodeNumber (strip 5) [] (3 ∷ 0 ∷ 1 ∷ 0 ∷ 1 ∷ []) ≡ 5)
+      × (correctNumber (strip 3) (0 ∷ 0 ∷ 3 ∷ []) ≡ 5)
+      × (correctNumber (strip 5) (3 ∷ 0 ∷ 1 ∷ 0 ∷ 1 ∷ []) ≡ 5)
   -- a cell lost and a cell gained are two that differ
   pub differ : differences (fieldOf (0 ∷ 1 ∷ 1 ∷ [])) (fieldOf (1 ∷ 0 ∷ 1 ∷ [])) 3 ≡ 2

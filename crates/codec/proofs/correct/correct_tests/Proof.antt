@@ -1,14 +1,16 @@
 -- `correct_tests` meets its contract: the shape's tests, then the field's length, then its own.
-use mathlib.Core.Path.{sym, _∙_}
+use Prim.Native.Nat.{ℕ}
+use mathlib.Core.Path.{_≡_, sym, ap, _∙_}
 use native.Mathlib.Omega.{arith}
 use borrow.Author.Needs.{needs}
 use Rattle.lattice.specs.declared.refusal.Refusal.the-variants as why
+use Rattle.lattice.specs.Refusal.{refusalNumber}
 use Rattle.lattice.specs.Shape.{Accepted}
-use Rattle.lattice.proofs.theory.Answers.{told, told-none, some-number, other-reason, length-outside}
+use Rattle.lattice.proofs.theory.Answers.{told, told-none, some-number}
 use Rattle.lattice.proofs.theory.Limits.{number-other}
 use Rattle.codec.specs.Working.{FieldFits}
 use Rattle.codec.proofs.theory.Accepted.{plan-cells, correct-number}
-use Rattle.codec.proofs.theory.FieldNumber.{field-other}
+use Rattle.codec.proofs.theory.Examinations.{exam-field}
 use Rattle.codec.proofs.theory.OperationNumbers.{cells-given, correct-refused, correct-length}
 use Rattle.codec.proofs.correct.correct_tests.Statement.{statement}
 use Rattle.codec.proofs.correct.correct_tests.Tie as tie
@@ -33,8 +35,13 @@ enum-known-tested c = search needs
 returns : tie.Need-returns
 returns c =
     let r = c .before .tested .given in
-    let e = told (c .before .before .before .tests .ensures) (r .1) in
-    (correct-refused _ _ (r .0 .0) e, (other-reason e why.OutsideShape (number-other _), λ z. absurd (some-number (r .0 .0) z)))
+    let e = told (c .before .before .before .tests .ensures) (r .1) in (
+      correct-refused _ _ (r .0 .0) e,
+      (
+        (λ z. let same : r .0 .0 ≡ why.OutsideShape = cc in number-other _ (sym e ∙ ap refusalNumber same)),
+        λ z. absurd (some-number (r .0 .0) z),
+      ),
+    )
 
 enum-told : tie.Need-enum-told
 enum-told c = search needs
@@ -46,7 +53,7 @@ returns-2 : tie.Need-returns-2
 returns-2 c = (
   sym (correct-length _ _ (accepted (c .before .before))
       (λ e. c .if1 .taken (e ∙ sym (cells-given _ _ (c .before .cells .ensures))))),
-  (length-outside, λ z. absurd (omega arith)),
+  ((λ e. let z : _≡_ {A = ℕ} 0 1 = cc in omega arith), λ z. absurd (omega arith)),
 )
 
 class-sizes-requires : tie.Need-class-sizes-requires
@@ -54,20 +61,15 @@ class-sizes-requires c κs = search needs
 
 examine-requires : tie.Need-examine-requires
 examine-requires c κs =
-    let k = c .before .before in
-    let e = c .before .before .before .before in (
-      fits e,
-      (
-        k .class-sizes .ensures .0 (fits e .accepted),
-        e .before .before .before .before .before .before .pre,
-      ),
-    )
+    let sized = c .before .before .before .before in
+    let e = sized .before .before in
+    (fits e, (sized .class-sizes .ensures .0 (fits e .accepted), e .before .before .before .before .before .before .pre))
 
 returns-3 : tie.Need-returns-3
 returns-3 c =
-    let f = fits (c .before .before .before .before .before) in (
+    let f = fits (c .before .before .before .before .before .before .before) in (
       c .examine .ensures .0 ∙ sym (correct-number _ (f .accepted) _ (f .long)),
-      (other-reason (c .examine .ensures .0) why.OutsideShape (field-other _ _), λ z. c .examine .ensures .1 z .held),
+      (exam-field _ _ (c .examine .ensures .0), c .examine .ensures .1),
     )
 
 pub correct-tests-spec : {M : Type 1} → statement M

@@ -1,4 +1,4 @@
--- `flip_cells` meets its contract. The loop's invariant: the classes below a are corrected.
+-- `flip_cells` meets its contract. The loop's invariant: the named cells of the classes below a are flipped.
 use Prim.Native.Nat.{ℕ, _-_, _≤_, zero-le}
 use mathlib.Core.Path.{_≡_, refl, ap, _∙_}
 use native.Mathlib.Nat.{le-antisymm}
@@ -7,22 +7,22 @@ use lib.ListN.{length}
 use borrow.Author.Needs.{needs}
 use Rattle.lattice.specs.Position.{Layout}
 use Rattle.codec.specs.Field.{fieldOf, Same}
-use Rattle.codec.specs.Packing.{flippedAt, correctedTo, Damaged}
-use Rattle.codec.proofs.theory.DamagedCells.{flipped-same, corrected-to-none, corrected-to-more}
+use Rattle.codec.specs.Packing.{flippedAt, flippedTo, Names}
+use Rattle.codec.proofs.theory.NamedCells.{flipped-same, flipped-to-none, flipped-to-more}
 use Rattle.codec.proofs.damage.flip_cells.Statement.{statement}
 use Rattle.codec.proofs.damage.flip_cells.Tie as tie
 
 abbrev Inv-loop : tie.InvT-loop
-Inv-loop m damaged field₀ a₀ field a =
+Inv-loop m named field₀ a₀ field a =
     (a ≤ m) × (length field ≡ length field₀)
-    × ((L : Layout) → L .cells ≡ length field₀ → Damaged L m (fieldOf field₀) damaged
-    → Same (fieldOf field) (correctedTo L (fieldOf field₀) a) (length field₀))
+    × ((L : Layout) → L .cells ≡ length field₀ → Names L m named
+    → Same (fieldOf field) (flippedTo L named (fieldOf field₀) a) (length field₀))
 
 abbrev μ-loop : tie.MeasureT-loop
-μ-loop m damaged field₀ a₀ field a = m - a
+μ-loop m named field₀ a₀ field a = m - a
 
 loop-holds : tie.Need-loop-holds Inv-loop μ-loop
-loop-holds c = (zero-le, refl, λ L same damaged. corrected-to-none L _ _)
+loop-holds c = (zero-le, refl, λ L same own. flipped-to-none L _ _ _)
 
 mul-wide-32 : tie.Need-mul-wide-32 Inv-loop μ-loop
 mul-wide-32 c = search needs
@@ -48,10 +48,10 @@ loop-again c =
     let one = c .before .before .flip-cell in (
       omega arith,
       one .kept .0 ∙ turn .inv .1,
-      λ L same damaged i l. one .ensures i (omega (arith, turn .inv .1))
+      λ L same own i l. one .ensures i (omega (arith, turn .inv .1))
           ∙ ap (λ (x : ℕ). flippedAt (fieldOf (turn .field)) x i) (c .before .before .before .wide-32 .ensures)
-          ∙ flipped-same _ _ _ _ (turn .inv .2 L same damaged) i l
-          ∙ corrected-to-more L _ _ _ damaged (turn .a)
+          ∙ flipped-same _ _ _ _ (turn .inv .2 L same own) i l
+          ∙ flipped-to-more L _ _ _ own (turn .a)
           (c .before .before .before .before .before .before .loop-test .taken) i (omega arith),
     )
 
@@ -61,9 +61,11 @@ same-length c = c .before .loop .inv .1
 returns : tie.Need-returns Inv-loop μ-loop
 returns c =
     let turn = c .before .loop in
-    let f = fieldOf (c .before .before .before .args .field .now) in
-    λ L same damaged i l.
-    turn .inv .2 L same damaged i l ∙ ap (λ (a : ℕ). correctedTo L f a i) (le-antisymm (turn .inv .0) (c .loop-test .left))
+    let args = c .before .before .before .args in
+    λ L same own i l.
+    turn .inv .2 L same own i l
+    ∙ ap (λ (a : ℕ). flippedTo L (args .named .now) (fieldOf (args .field .now)) a i)
+    (le-antisymm (turn .inv .0) (c .loop-test .left))
 
 pub flip-cells-spec : {M : Type 1} → statement M
 flip-cells-spec =

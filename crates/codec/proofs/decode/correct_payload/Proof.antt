@@ -1,55 +1,66 @@
--- `correct_payload` meets its contract.
-use mathlib.Core.Path.{sym}
+-- `correct_payload` meets its contract: the bits of each list of cells, one list after another.
+use Prim.Native.Nat.{_≤_}
+use mathlib.Core.Path.{_≡_, sym}
 use borrow.Author.Needs.{needs}
+use Rattle.lattice.specs.Class.{classesOf}
+use Rattle.lattice.specs.Shape.{maxClasses}
 use Rattle.codec.proofs.theory.FlippedBits.{bits-same}
-use Rattle.codec.proofs.theory.CorrectedField.{classes-given, classes-few, all-damaged, all-corrected, damaged-counted}
+use Rattle.codec.proofs.theory.CorrectedField.{classes-given, classes-few, names-given, all-flipped}
 use Rattle.codec.proofs.decode.correct_payload.Statement.{statement}
 use Rattle.codec.proofs.decode.correct_payload.Tie as tie
 
-classes-requires : tie.Need-classes-requires
-classes-requires c κs = tt
+-- the function's entry, and the number of classes
+abbrev entry : tie.After-classes → tie.Start
+entry c = c .before .before
 
-cells-at-requires : tie.Need-cells-at-requires
-cells-at-requires c κs = tt
+own : (c : tie.After-classes) → c .classes .result ≡ classesOf (entry c .args .shape)
+own c = classes-given _ (entry c .pre .0 .0) _ (c .classes .ensures)
+
+few : (c : tie.After-classes) → c .classes .result ≤ maxClasses
+few c = classes-few _ (entry c .pre .0 .0) _ (c .classes .ensures)
+
+classes-requires : tie.Need-classes-requires
+classes-requires c κs = search needs
 
 flip-bits-requires : tie.Need-flip-bits-requires
-flip-bits-requires c κs =
-    let e = c .before .before .before .before .before .before .before in (
-      e .pre .1 .1 .1 .0 .0,
-      classes-few _ (e .pre .1 .0 .fits .accepted) _ (c .before .before .before .before .classes .ensures),
-    )
+flip-bits-requires c κs = let k = c .before in (entry k .pre .1 .1 .0, few k)
 
-count-damaged-requires : tie.Need-count-damaged-requires
-count-damaged-requires c κs =
-    classes-few _
-    (c .before .before .before .before .before .before .before .before .before .before .pre .1 .0 .fits .accepted)
-    _ (c .before .before .before .before .before .before .before .classes .ensures)
+flip-bits-requires-2 : tie.Need-flip-bits-requires-2
+flip-bits-requires-2 c κs = let k = c .before .before .before .before .before in (entry k .pre .1 .1 .0, few k)
+
+flip-bits-requires-3 : tie.Need-flip-bits-requires-3
+flip-bits-requires-3 c κs =
+    let k = c .before .before .before .before .before .before .before .before .before in (entry k .pre .1 .1 .0, few k)
 
 same-length : tie.Need-same-length
 same-length c = search needs
 
 returns : tie.Need-returns
 returns c =
-    let e = c .before .before .before .before .before .before .before .before .before .before .before in
-    let ok = e .pre .1 .0 .fits .accepted in
-    let own =
-    classes-given _ ok _ (c .before .before .before .before .before .before .before .before .classes .ensures) in
-    let damaged =
-    all-damaged _ (e .args .field .now) _ (e .pre .1 .0) (e .pre .1 .1 .0) _ own _
-    (c .before .before .before .before .before .before .cells-at .ensures .0 ok) in (
-      bits-same _ _ _ _ (all-corrected _ (e .args .field .now) _ (e .pre .1 .0) (e .pre .1 .1 .0) _ own)
-          (c .before .before .before .flip-bits .ensures _ (sym (e .pre .0)) (e .pre .1 .1 .1 .0 .1) _ damaged
-          (e .pre .1 .1 .1 .1)),
-      damaged-counted _ (e .args .field .now) _ (e .pre .1 .0) (e .pre .1 .1 .0) _ own _ (c .count-damaged .ensures),
-    )
+    let third = c .before .before in
+    let second = third .before .before .before .before in
+    let first = second .before .before .before .before in
+    let k = first .before .before in
+    let e = entry k in
+    let ok = e .pre .0 .0 in
+    let cells = sym (e .pre .0 .1) in
+    let lists = e .pre .1 .1 .1 in
+    let named = e .pre .1 .0 in
+    λ f holds.
+    bits-same _ _ _ _ (all-flipped _ ok _ (own k) _ _)
+    (third .flip-bits3 .ensures _ cells lists _ (names-given _ _ _ _ (own k) (named .2))
+    (bits-same _ _ _ _ (all-flipped _ ok _ (own k) _ _)
+    (second .flip-bits2 .ensures _ cells lists _ (names-given _ _ _ _ (own k) (named .1))
+    (bits-same _ _ _ _ (all-flipped _ ok _ (own k) _ _)
+    (first .flip-bits .ensures _ cells lists f (names-given _ _ _ _ (own k) (named .0)) holds)))))
 
 pub correct-payload-spec : {M : Type 1} → statement M
 correct-payload-spec =
     tie.close
     (tie.spec
     classes-requires
-    cells-at-requires
     flip-bits-requires
-    count-damaged-requires
+    flip-bits-requires-2
+    flip-bits-requires-3
     same-length
     returns)

@@ -1,11 +1,11 @@
 -- `decode_tests` meets its contract: the tests of the lengths, then the field's own.
 use mathlib.Core.Path.{_≡_, sym, ap, _∙_}
 use borrow.Author.Needs.{needs}
-use Rattle.lattice.proofs.theory.Answers.{told, told-none, some-number, other-reason, kept-reason, earlier-told, none-earlier}
+use Rattle.lattice.proofs.theory.Answers.{told, told-none, some-number, kept-reason, earlier-told, none-earlier}
 use Rattle.lattice.specs.declared.refusal.Refusal.the-variants as why
 use Rattle.lattice.specs.Refusal.{testedNumber}
 use Rattle.codec.specs.Working.{lengthNumber}
-use Rattle.codec.proofs.theory.FieldNumber.{field-other}
+use Rattle.codec.proofs.theory.Examinations.{exam-field}
 use Rattle.codec.proofs.theory.OperationNumbers.{decode-tests}
 use Rattle.codec.proofs.decode.decode_tests.Statement.{statement}
 use Rattle.codec.proofs.decode.decode_tests.Tie as tie
@@ -39,15 +39,17 @@ enum-told c = search needs
 
 examine-requires : tie.Need-examine-requires
 examine-requires c κs =
-    let e = c .before .before in
+    let e = c .before .before .before .before in
     let fits = e .before .before .length-tests .ensures .1 .1 (ap testedNumber (e .enum-told .given .1)) in
-    (fits .of-field, (fits .of-payload .sized, c .before .before .before .before .before .before .before .before .pre))
+    (fits .of-field, (fits .of-payload .sized, e .before .before .before .before .before .before .pre))
 
 returns-2 : tie.Need-returns-2
-returns-2 c = (
-  c .examine .ensures .0 ∙ sym (none-earlier _ _ (none (c .before .before .before))) ∙ decode-tests _ _ _,
-  (other-reason (c .examine .ensures .0) why.OutsideShape (field-other _ _), c .examine .ensures .1),
-)
+returns-2 c =
+    let e = c .before .before .before .before .before in
+    let fits = e .before .before .length-tests .ensures .1 .1 (ap testedNumber (e .enum-told .given .1)) in (
+      c .examine .ensures .0 ∙ sym (none-earlier _ _ (none e)) ∙ decode-tests _ _ _,
+      (exam-field _ _ (c .examine .ensures .0), λ z. (fits .of-payload .sized, c .examine .ensures .1 z)),
+    )
 
 pub decode-tests-spec : {M : Type 1} → statement M
 decode-tests-spec =

@@ -1,9 +1,13 @@
 -- `data_syndromes` meets its contract.
 use mathlib.Core.Path.{_≡_, sym, _∙_}
 use native.Mathlib.Nat.{le-refl}
+use Rattle.lattice.specs.Class.{layoutOf}
 use Rattle.lattice.specs.Lines.{passOf}
 use Rattle.lattice.proofs.theory.NextLine.{pass-accepted}
 use Rattle.lattice.proofs.theory.SizesByLines.{cells-are}
+use Rattle.codec.specs.Field.{fieldOf}
+use Rattle.codec.specs.Hamming.{tagsOf}
+use Rattle.codec.proofs.theory.Syndrome.{having-syndrome}
 use Rattle.codec.proofs.encode.data_syndromes.Statement.{statement}
 use Rattle.codec.proofs.encode.data_syndromes.Tie as tie
 
@@ -23,13 +27,15 @@ field-syndromes-requires c κs =
         fits .long ∙ sym (cells-are _ (fits .accepted) _ (own (c .before))),
         rw (c .field-syndromes-arg .given .0 .1) (le-refl _),
       ),
-      (e .pre .1 .0, e .pre .1 .1),
+      e .pre .1,
     )
 
 returns : tie.Need-returns
 returns c =
     let e = c .before .before .before .before in
-    c .field-syndromes .ensures (e .args .shape) (e .pre .0 .accepted) (own (c .before .before))
+    let held = c .field-syndromes .ensures (e .args .shape) (e .pre .0 .accepted) (own (c .before .before)) in
+    let L = layoutOf (e .args .shape) in
+    record { at = λ a l. held .at a l ∙ having-syndrome L (tagsOf L) (fieldOf (e .args .field .now)) a (L .cells) }
 
 pub data-syndromes-spec : {M : Type 1} → statement M
 data-syndromes-spec = tie.close (tie.spec pass-requires field-syndromes-requires returns)

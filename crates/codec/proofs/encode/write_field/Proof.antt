@@ -1,7 +1,6 @@
 -- `write_field` meets its contract.
 use borrow.Author.Needs.{needs}
-use Rattle.codec.proofs.encode.FieldWritten.{checks-listed, place-below, filled-fits, filled-same, filled-are-cells}
-use Rattle.codec.proofs.encode.FieldWritten.{listed-below}
+use Rattle.codec.proofs.encode.FieldWritten.{checks-listed, place-below, filled-fits, filled-same, listed-below}
 use Rattle.codec.proofs.encode.FieldWritten.{to-check, written}
 use Rattle.codec.proofs.theory.WorkArrays.{zeros}
 use Rattle.codec.proofs.encode.write_field.Statement.{statement}
@@ -20,10 +19,8 @@ data-syndromes-requires c κs =
     let fill = c .before .before .before .before in
     let list = fill .before .before .before in
     let e = list .before .before .before .before .before in
-    let given = list .check-cells .ensures in (
-      filled-fits _ _ _ _ _ _ (e .pre .0) given _ (fill .fill-planes .ensures),
-      (filled-are-cells _ _ _ _ _ _ (e .pre .0) given _ (fill .fill-planes .ensures), zeros),
-    )
+    let given = list .check-cells .ensures in
+    (filled-fits _ _ _ _ _ _ (e .pre .0) given _ (fill .fill-planes .ensures), zeros)
 
 set-checks-requires : tie.Need-set-checks-requires
 set-checks-requires c κs =

@@ -1,131 +1,89 @@
--- `examine` meets its contract.
-use mathlib.Core.Bool.{true}
+-- `examine` meets its contract: the values of the cells, then the tests of a field of cells and erasures.
 use mathlib.Core.Path.{_≡_, sym, ap, _∙_}
-use native.Mathlib.Nat.{le-refl, le-of-eq}
+use native.Mathlib.Nat.{le-refl}
 use native.Mathlib.Omega.{arith}
+use borrow.Author.Needs.{needs}
+use Rattle.lattice.specs.Counting.{count}
+use Rattle.lattice.specs.Refusal.{testedNumber}
 use Rattle.lattice.specs.Shape.{cellsOf}
-use Rattle.lattice.specs.Lines.{passOf}
+use Rattle.lattice.proofs.theory.Answers.{told, told-none, some-number}
 use Rattle.lattice.proofs.theory.Bools.{failed, passed}
-use Rattle.lattice.proofs.theory.NextLine.{pass-accepted}
-use Rattle.lattice.proofs.theory.SizesByLines.{classes-are, cells-are, most}
+use Rattle.lattice.proofs.theory.Limits.{legal}
+use Rattle.codec.specs.Erasure.{isErased}
 use Rattle.codec.specs.Field.{fieldOf, cellsOk}
-use Rattle.codec.specs.Working.{Examined}
-use Rattle.codec.specs.Code.{fieldInReach}
-use Rattle.codec.proofs.theory.FieldNumber.{cells-tested, number-cell, number-reach, number-padding, number-none}
-use Rattle.codec.proofs.examine.Reach.{all-reach}
+use Rattle.codec.proofs.theory.FieldNumber.{number-cell}
 use Rattle.codec.proofs.examine.examine.Statement.{statement}
 use Rattle.codec.proofs.examine.examine.Tie as tie
 
--- the function's entry, from each test
-abbrev entry : tie.After-pass → tie.Start
-entry c = c .before .before
+-- the test of the cells
+cells : (c : tie.After-is-received)
+    → let e = c .before .before .before in
+    c .is-received .result ≡ cellsOk (fieldOf (e .args .field .now)) (cellsOf (e .args .shape))
+cells c =
+    let e = c .before .before .before in
+    c .is-received .ensures
+    ∙ c .before .greatest .ensures .0
+    ∙ ap (cellsOk (fieldOf (e .args .field .now))) (e .pre .0 .long)
 
--- the pass is the shape's own, and has the field's cells
-own : (c : tie.After-pass) → c .pass .result ≡ passOf (entry c .args .shape)
-own c = c .pass .ensures ∙ pass-accepted _ (entry c .pre .0 .accepted)
+greatest-requires : tie.Need-greatest-requires
+greatest-requires c κs = le-refl _
 
-all : (c : tie.After-pass) → c .pass .result .cells ≡ cellsOf (entry c .args .shape)
-all c = cells-are _ (entry c .pre .0 .accepted) _ (own c)
-
-examined : (c : tie.After-field-syndromes)
-    → let e = entry (c .before .before .before .before) in
-    Examined (e .args .shape) (e .args .field .now) (e .args .sizes .now) (c .field-syndromes .last .1 .1 .0)
-examined c =
-    let here = c .before .before .before .before in
-    let e = entry here in
-    record {
-      sized = e .pre .1 .0;
-      held = c .field-syndromes .ensures (e .args .shape) (e .pre .0 .accepted) (own here);
-    }
-
-cells : (c : tie.After-cells-ok)
-    → let e = entry (c .before) in c .cells-ok .result ≡ cellsOk (fieldOf (e .args .field .now)) (cellsOf (e .args .shape))
-cells c = let e = entry (c .before) in c .cells-ok .ensures ∙ ap (cellsOk (fieldOf (e .args .field .now))) (all (c .before))
-
-reach : (c : tie.After-all-in-reach)
-    → let e =
-    entry (c .before .before .before .before .before .before) in c .all-in-reach .result
-    ≡ fieldInReach (e .args .shape) (fieldOf (e .args .field .now))
-reach c =
-    let here = c .before .before .before .before .before .before in
-    let e = entry here in
-    all-reach _ (e .args .field .now) _ _ _ _ (e .pre .0 .accepted) (examined (c .before .before))
-    (classes-are _ (e .pre .0 .accepted) _ (own here)) (c .all-in-reach .ensures)
-
-cells-hold : (c : tie.Else1)
-    → let e = entry (c .before .before) in cellsOk (fieldOf (e .args .field .now)) (cellsOf (e .args .shape)) ≡ true
-cells-hold c = passed _ _ (c .if1 .left) (cells (c .before))
-
-reach-holds : (c : tie.Else2)
-    → let e =
-    entry (c .before .before .before .before .before .before .before) in fieldInReach (e .args .shape)
-    (fieldOf (e .args .field .now))
-    ≡ true
-reach-holds c = passed _ _ (c .if2 .left) (reach (c .before))
-
-pass-requires : tie.Need-pass-requires
-pass-requires c κs = tt
-
-cells-ok-requires : tie.Need-cells-ok-requires
-cells-ok-requires c κs = le-of-eq (all c ∙ sym (entry c .pre .0 .long))
+is-received-requires : tie.Need-is-received-requires
+is-received-requires c κs = search needs
 
 returns : tie.Need-returns
 returns c = (number-cell _ _ (failed _ _ (c .if1 .taken) (cells (c .before))), λ z. absurd (omega arith))
 
-field-syndromes-requires : tie.Need-field-syndromes-requires
-field-syndromes-requires c κs =
-    let here = c .before .before .before in
-    let e = entry here in
-    let fits = e .pre .0 in (
-      (
-        record { shape = _; accepted = fits .accepted; same = own here },
-        fits .long ∙ sym (all here),
-        rw (c .field-syndromes-arg .given .0 .1) (le-refl _),
-      ),
-      (cells-tested _ _ fits (cells-hold (c .before)), e .pre .1 .1),
+examine-received-requires : tie.Need-examine-received-requires
+examine-received-requires c κs =
+    let ok = c .before .before .before in
+    let most = ok .before .before in
+    let e = most .before .before in (
+      (e .pre .0, passed _ _ (ok .if1 .left) (cells (ok .before))),
+      ((λ i l. most .greatest .ensures .1 i (rw (e .pre .0 .long) l)), (e .pre .1 .0, e .pre .1 .1)),
     )
 
-all-in-reach-requires : tie.Need-all-in-reach-requires
-all-in-reach-requires c κs =
-    let here = c .before .before .before .before .before in
-    most _ (entry here .pre .0 .accepted) _ (own here)
+enum-known-tested : tie.Need-enum-known-tested
+enum-known-tested c = search needs
 
 returns-2 : tie.Need-returns-2
-returns-2 c = (
-  number-reach _ _ (cells-hold (c .before .before .before .before .before)) (failed _ _ (c .if2 .taken) (reach (c .before))),
-  λ z. absurd (omega arith),
-)
+returns-2 c =
+    let r = c .before .tested .given in
+    let t = c .before .before .before .examine-received .ensures in
+    (told (t .0) (r .1), λ z. absurd (some-number (r .0 .0) z))
 
-padding-ok-requires : tie.Need-padding-ok-requires
-padding-ok-requires c κs = (
-  entry (c .before .before .before .before .before .before .before .before) .pre .0,
-  examined (c .before .before .before .before),
-)
+enum-told : tie.Need-enum-told
+enum-told c = search needs
+
+count-erased-requires : tie.Need-count-erased-requires
+count-erased-requires c κs =
+    let most = c .before .before .before .before .before .before .before .before in
+    let e = most .before .before in
+    (omega (arith, e .pre .0 .long, legal (e .args .shape) (e .pre .0 .accepted) .product), most .greatest .ensures .1)
 
 returns-3 : tie.Need-returns-3
-returns-3 c = (
-  number-padding _ _ (cells-hold (c .before .before .before .before .before .before .before .before))
-      (reach-holds (c .before .before .before)) (failed _ _ (c .if3 .taken) (c .before .padding-ok .ensures)),
-  λ z. absurd (omega arith),
-)
-
-returns-4 : tie.Need-returns-4
-returns-4 c = (
-  number-none _ _ (cells-hold (c .before .before .before .before .before .before .before .before))
-      (reach-holds (c .before .before .before)) (passed _ _ (c .if3 .left) (c .before .padding-ok .ensures)),
-  λ z. examined (c .before .before .before .before .before .before),
-)
+returns-3 c =
+    let told = c .before in
+    let t = told .before .before .examine-received .ensures in
+    let e = told .before .before .before .before .before .before .before .before .before .before in (
+      sym (told-none (t .0) (told .enum-told .given .1)),
+      λ z. record {
+        located = t .1 (ap testedNumber (told .enum-told .given .1));
+        erased-cells =
+            c .count-erased .ensures ∙ ap (count (isErased (fieldOf (e .args .field .now)))) (e .pre .0 .long);
+      },
+    )
 
 pub examine-spec : {M : Type 1} → statement M
 examine-spec =
     tie.close
     (tie.spec
-    pass-requires
-    cells-ok-requires
+    greatest-requires
+    is-received-requires
     returns
-    field-syndromes-requires
-    all-in-reach-requires
+    examine-received-requires
+    enum-known-tested
     returns-2
-    padding-ok-requires
-    returns-3
-    returns-4)
+    enum-told
+    count-erased-requires
+    returns-3)

@@ -21,11 +21,11 @@ use Rattle.codec.proofs.examine.padding_ok.Statement.{statement}
 use Rattle.codec.proofs.examine.padding_ok.Tie as tie
 
 abbrev Inv-loop : tie.InvT-loop
-Inv-loop shape field sizes syndromes placement behind₀ unseen₀ i₀ behind unseen i =
+Inv-loop shape field sizes damaged first second placement behind₀ unseen₀ i₀ behind unseen i =
     HoldsRest (layoutOf shape) behind i × PassedFrom (layoutOf shape) (correctedField shape (fieldOf field)) unseen i
 
 abbrev μ-loop : tie.MeasureT-loop
-μ-loop shape field sizes syndromes placement behind₀ unseen₀ i₀ behind unseen i = i
+μ-loop shape field sizes damaged first second placement behind₀ unseen₀ i₀ behind unseen i = i
 
 -- where the placement is known, and the function's entry, from a turn of the loop
 abbrev placed : tie.At-loop Inv-loop μ-loop → tie.After-placement Inv-loop μ-loop
@@ -50,7 +50,7 @@ cell c =
     _ _ _ _ _
     (start .pre .0 .accepted)
     (placed (c .before) .placement .ensures)
-    (start .pre .1 .sized)
+    (start .pre .1 .0)
     (turn .inv .0)
     (some c)
     (turn .inv .1 .within)
@@ -71,7 +71,7 @@ held : (c : tie.After-holds-data Inv-loop μ-loop)
     → let turn = c .before .before .before .before in
     c .holds-data .result ≡ holdsData (layoutOf (entry turn .args .shape)) (turn .loop .i - 1)
 held c =
-    let sized = entry (c .before .before .before .before) .pre .1 .sized in
+    let sized = entry (c .before .before .before .before) .pre .1 .0 in
     data-at _ _ sized _ _ _ (place (c .before)) _ (c .holds-data .ensures)
 
 -- its value after correction
@@ -80,16 +80,10 @@ value : (c : tie.After-corrected-value Inv-loop μ-loop)
     c .corrected-value .result
     ≡ correctedField (entry turn .args .shape) (fieldOf (entry turn .args .field .now)) (turn .loop .i - 1)
 value c =
-    let start = entry (c .before .before .before .before .before .before) in
-    corrected-at
-    _
-    (start .args .field .now)
-    _
-    (start .pre .1 .held)
-    _ _ _
-    (place (c .before .before .before))
-    _
-    (rw (c .before .cell-value .ensures) at (c .corrected-value .ensures))
+    let placed = c .before .before .before in
+    let start = entry (placed .before .before .before) in
+    corrected-at _ (start .args .field .now) _ _ _ (start .pre .1 .1) _ _ _ (place placed) (cell (placed .before .before) .below)
+    _ _ (c .before .one-at .ensures) (c .corrected-value .ensures)
 
 placement-requires : tie.Need-placement-requires Inv-loop μ-loop
 placement-requires c κs = tt
@@ -107,7 +101,7 @@ loop-holds : tie.Need-loop-holds Inv-loop μ-loop
 loop-holds c =
     let start = c .before .before .before .before .before in
     let accepted = start .pre .0 .accepted in
-    let sized = start .pre .1 .sized in
+    let sized = start .pre .1 .0 in
     let own = c .before .before .classes .ensures in
     let all = at-cells _ accepted _ (c .cells .ensures) in
     let amount = c .before .data-in .ensures (rw own (classes-given _)) in
@@ -127,13 +121,18 @@ place-back-requires c κs = tt
 holds-data-requires : tie.Need-holds-data-requires Inv-loop μ-loop
 holds-data-requires c κs = place c .below
 
-cell-value-requires : tie.Need-cell-value-requires Inv-loop μ-loop
-cell-value-requires c κs =
+cast-corrected-value : tie.Need-cast-corrected-value Inv-loop μ-loop
+cast-corrected-value c =
+    let at = cell (c .before .before .before) in
+    fits-lt (cell-limit _ _ refl _ (at .below) (at .accepted)) (fits-lit tt)
+
+one-at-requires : tie.Need-one-at-requires Inv-loop μ-loop
+one-at-requires c κs =
     let turn = c .before .before .before in
     rw (entry (turn .before) .pre .0 .long) (cell turn .below)
 
 corrected-value-requires : tie.Need-corrected-value-requires Inv-loop μ-loop
-corrected-value-requires c κs = tt
+corrected-value-requires c κs = place (c .before .before) .below
 
 sub-is-right : tie.Need-sub-is-right Inv-loop μ-loop
 sub-is-right c = c .before .before .before .before .before .loop-test .taken
@@ -195,7 +194,8 @@ padding-ok-spec =
     cast-place-back
     place-back-requires
     holds-data-requires
-    cell-value-requires
+    cast-corrected-value
+    one-at-requires
     corrected-value-requires
     sub-is-right
     is-right-requires

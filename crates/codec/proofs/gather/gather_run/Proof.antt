@@ -1,5 +1,5 @@
 -- `gather_run` meets its contract. The loop's invariant: the cells before i are gathered.
-use Prim.Native.Nat.{ℕ, _-_, _≤_}
+use Prim.Native.Nat.{_-_, _≤_}
 use mathlib.Core.Path.{_≡_, refl, subst, _∙_}
 use native.Mathlib.Nat.{le-antisymm, le-refl}
 use native.Mathlib.Omega.{arith}
@@ -7,7 +7,7 @@ use lib.ListN.{length}
 use Rattle.lattice.specs.Listing.{Run}
 use Rattle.lattice.specs.Position.{Layout}
 use Rattle.lattice.proofs.theory.Runs.{run-part}
-use Rattle.codec.specs.Field.{fieldOf}
+use Rattle.codec.specs.Field.{fieldOf, having}
 use Rattle.codec.specs.Packing.{HoldsBytes}
 use Rattle.codec.proofs.gather.gather_run.Statement.{statement}
 use Rattle.codec.proofs.gather.gather_run.Tie as tie
@@ -15,7 +15,8 @@ use Rattle.codec.proofs.gather.gather_run.Tie as tie
 abbrev Inv-loop : tie.InvT-loop
 Inv-loop field payload₀ k begin end i₀ payload i =
     (begin ≤ i) × (i ≤ end) × (length payload ≡ length payload₀)
-    × ((L : Layout) → Run L k begin end → HoldsBytes L (fieldOf field) payload₀ begin → HoldsBytes L (fieldOf field) payload i)
+    × ((L : Layout) → Run L k begin end → HoldsBytes L (having 1 (fieldOf field)) payload₀ begin
+    → HoldsBytes L (having 1 (fieldOf field)) payload i)
 
 abbrev μ-loop : tie.MeasureT-loop
 μ-loop field payload₀ k begin end i₀ payload i = end - i
@@ -47,7 +48,7 @@ returns : tie.Need-returns Inv-loop μ-loop
 returns c =
     let turn = c .before .loop in
     λ L run holds. subst
-    (λ (i : ℕ). HoldsBytes L (fieldOf (c .before .before .before .before .args .field .now)) (turn .payload) i)
+    (HoldsBytes L (having 1 (fieldOf (c .before .before .before .before .args .field .now))) (turn .payload))
     (le-antisymm (turn .inv .1) (c .loop-test .left)) (turn .inv .3 L run holds)
 
 pub gather-run-spec : {M : Type 1} → statement M

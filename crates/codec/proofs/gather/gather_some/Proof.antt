@@ -1,6 +1,7 @@
 -- `gather_some` meets its contract.
 use native.Mathlib.Omega.{arith}
 use borrow.Author.Needs.{needs}
+use Rattle.codec.proofs.theory.CellValues.{having-cells}
 use Rattle.codec.proofs.theory.Gathered.{gathered-byte, gathered-cell}
 use Rattle.codec.proofs.gather.gather_some.Statement.{statement}
 use Rattle.codec.proofs.gather.gather_some.Tie as tie
@@ -33,11 +34,11 @@ returns c =
     let e = c .before .before .before .before .before in
     let begins = c .before .before .begins-byte .ensures (c .before .if1 .taken) in (
       (omega arith, omega (arith, begins .enough)),
-      λ L run holds. rw (c .eight .ensures) (gathered-byte L _ _ _ holds _ _ run _ (e .pre .1) (e .pre .0 .2) begins),
+      λ L run holds. rw (c .eight .ensures) (gathered-byte L _ _ _ holds _ _ run _ (having-cells 1 _ _) (e .pre .0 .2) begins),
     )
 
-cell-value-requires : tie.Need-cell-value-requires
-cell-value-requires c κs = search needs
+one-at-requires : tie.Need-one-at-requires
+one-at-requires c κs = search needs
 
 store-bit-requires : tie.Need-store-bit-requires
 store-bit-requires c κs = search needs
@@ -54,7 +55,7 @@ returns-2 c =
     let e = c .before .before .before .before .before .before .before .before .before in (
       (omega arith, omega arith),
       λ L run holds. gathered-cell L _ _ _ holds _ _ run _ (e .pre .0 .1) (store-bit .kept .0)
-          (rw (c .before .before .before .cell-value .ensures) at (store-bit .ensures)),
+          (rw (c .before .before .before .one-at .ensures) at (store-bit .ensures)),
     )
 
 pub gather-some-spec : {M : Type 1} → statement M
@@ -69,7 +70,7 @@ gather-some-spec =
     add-result
     same-length
     returns
-    cell-value-requires
+    one-at-requires
     store-bit-requires
     add-result-2
     same-length-2

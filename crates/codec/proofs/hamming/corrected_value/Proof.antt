@@ -1,22 +1,29 @@
--- `corrected_value` meets its contract: by the test, the cell is flipped or kept.
-use mathlib.Core.Path.{sym, refl, _∙_}
+-- `corrected_value` meets its contract: the value after each of the three arrays.
+use mathlib.Core.Path.{sym, _∙_}
 use borrow.Author.Needs.{needs}
-use borrow.Author.Tests.{eq-eqb, ne-eqb}
+use Rattle.codec.proofs.theory.NamedCells.{named-value}
 use Rattle.codec.proofs.hamming.corrected_value.Statement.{statement}
 use Rattle.codec.proofs.hamming.corrected_value.Tie as tie
 
-syndrome-of-requires : tie.Need-syndrome-of-requires
-syndrome-of-requires c κs = search needs
+flipped-by-requires : tie.Need-flipped-by-requires
+flipped-by-requires c κs = search needs
 
-flip-requires : tie.Need-flip-requires
-flip-requires c κs = search needs
+flipped-by-requires-2 : tie.Need-flipped-by-requires-2
+flipped-by-requires-2 c κs = search needs
+
+flipped-by-requires-3 : tie.Need-flipped-by-requires-3
+flipped-by-requires-3 c κs = search needs
 
 returns : tie.Need-returns
 returns c =
-    rw (eq-eqb _ _ (sym (c .before .before .before .syndrome-of .ensures) ∙ c .before .if1 .taken)) (c .flip .ensures)
-
-returns-2 : tie.Need-returns-2
-returns-2 c = rw (ne-eqb _ _ (λ e. c .if1 .left (c .before .before .syndrome-of .ensures ∙ e))) refl
+    let twice = c .before in
+    let once = twice .before in
+    λ L f own value.
+    c .flipped-by3 .ensures
+    ∙ named-value L _ _ _ own
+    (twice .flipped-by2 .ensures
+    ∙ named-value L _ _ _ own (once .flipped-by .ensures ∙ named-value L _ f _ own (sym value)))
 
 pub corrected-value-spec : {M : Type 1} → statement M
-corrected-value-spec = tie.close (tie.spec syndrome-of-requires flip-requires returns returns-2)
+corrected-value-spec =
+    tie.close (tie.spec flipped-by-requires flipped-by-requires-2 flipped-by-requires-3 returns)

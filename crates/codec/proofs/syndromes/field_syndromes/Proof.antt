@@ -4,7 +4,7 @@ use native.Mathlib.Omega.{arith}
 use borrow.Author.Needs.{needs}
 use Rattle.lattice.specs.Class.{layoutOf}
 use Rattle.lattice.proofs.theory.SizesByLines.{cells-are, some}
-use Rattle.codec.specs.Field.{fieldOf}
+use Rattle.codec.specs.Field.{fieldOf, having}
 use Rattle.codec.specs.Working.{HoldsSyndromes}
 use Rattle.codec.proofs.syndromes.LinesTaken.{pass-cells, pass-alone}
 use Rattle.codec.proofs.syndromes.field_syndromes.Statement.{statement}
@@ -15,7 +15,7 @@ one-syndrome-requires c κs =
     let e = c .before .before .before .before .before in
     let p = e .pre .0 .0 in (
       (omega (arith, e .pre .0 .1), pass-cells (p .shape) (p .accepted) _ (p .same), omega arith),
-      (rw (e .pre .0 .1) at (e .pre .1 .0), e .pre .1 .1),
+      e .pre .1,
     )
 
 line-syndromes-requires : tie.Need-line-syndromes-requires
@@ -24,7 +24,7 @@ line-syndromes-requires c κs =
     let p = e .pre .0 .0 in
     let low = some (p .shape) (p .accepted) _ (p .same) in (
       (p, omega (arith, low, c .before .if1 .left), e .pre .0 .1, omega arith),
-      (e .pre .1 .0, e .pre .1 .1),
+      e .pre .1,
     )
 
 same-length : tie.Need-same-length
@@ -34,8 +34,9 @@ returns : tie.Need-returns
 returns c =
     let e = c .before .before .before .before .before .before .before .before in
     let one = c .before .before .one-syndrome in
+    let f = having (e .args .value) (fieldOf (e .args .field .now)) in
     λ s ok same.
-    subst (HoldsSyndromes (layoutOf s) (fieldOf (e .args .field .now)) (one .last .1 .1 .0)) (cells-are s ok _ same)
+    subst (HoldsSyndromes (layoutOf s) f (one .last .1 .1 .1 .0)) (cells-are s ok _ same)
     (one .ensures (layoutOf s) (pass-alone s ok _ same (c .before .before .before .before .if1 .taken)))
 
 same-length-2 : tie.Need-same-length-2

@@ -58,17 +58,14 @@ listed-syndromes-requires c κs =
     let long = pass-long (p .shape) (p .accepted) _ (p .same) in (
       e .pre .0,
       (
-        e .pre .1 .0,
+        e .pre .1,
         (
-          e .pre .1 .1,
           (
-            (
-              pass-space (p .shape) (p .accepted) _ (p .same) _ _ _ (sym (front-length _ 768 narrow))
-                  (sym (front-length _ 1280 long)) (sym (front-length _ 1280 long)),
-              refl,
-            ),
-            front-zeros (e .args .pass .classes + e .args .pass .columns) 768,
+            pass-space (p .shape) (p .accepted) _ (p .same) _ _ _ (sym (front-length _ 768 narrow))
+                (sym (front-length _ 1280 long)) (sym (front-length _ 1280 long)),
+            refl,
           ),
+          front-zeros (e .args .pass .classes + e .args .pass .columns) 768,
         ),
       ),
     )

@@ -15,16 +15,13 @@ take-lines-requires c κs =
     let listed = c .before .before .before .before .before .before .before .before .before .before in
     let e = listed .before .before .before .before .before .before .before .before .before .before in
     let p = e .pre .0 .0 in
-    let room = e .pre .1 .1 .1 .0 in
+    let room = e .pre .1 .1 .0 in
     let first = listed .first-line in
     let long = first .kept .1 .0 in (
       (p, e .pre .0 .1, e .pre .0 .2, room .1 ∙ sym long),
       (
-        e .pre .1 .0,
-        (
-          rw long (first .ensures (p .shape) (p .accepted) (p .same) (room .0) .1),
-          ((λ s ok same. first .ensures s ok same (room .0) .0), e .pre .1 .1 .1 .1),
-        ),
+        rw long (first .ensures (p .shape) (p .accepted) (p .same) (room .0) .1),
+        ((λ s ok same. first .ensures s ok same (room .0) .0), e .pre .1 .1 .1),
       ),
     )
 
@@ -36,7 +33,7 @@ fold-requires c κs =
     let p = e .pre .0 .0 in
     let high = most (p .shape) (p .accepted) _ (p .same) in (
       (some (p .shape) (p .accepted) _ (p .same), high, omega (arith, high)),
-      (λ a l. e .pre .1 .1 .0 .at a (omega (arith, high))),
+      (λ a l. e .pre .1 .0 .at a (omega (arith, high))),
     )
 
 same-length : tie.Need-same-length
@@ -61,8 +58,8 @@ returns c =
     let e = listed .before .before .before .before .before .before .before .before .before .before in
     let taken = lines .take-lines in
     let fold = c .before .before .fold in
-    λ s ok same. pass-folded s ok _ same _ (taken .last .1 .1 .1 .1 .1 .1 .0) (e .args .syndromes .now)
-    (fold .last .1 .1 .0) (taken .ensures s ok same) (e .pre .1 .1 .0) (fold .ensures .0) (fold .ensures .1)
+    λ s ok same. pass-folded s ok _ same _ (taken .last .1 .1 .1 .1 .1 .1 .1 .0) (e .args .syndromes .now)
+    (fold .last .1 .1 .0) (taken .ensures s ok same) (e .pre .1 .0) (fold .ensures .0) (fold .ensures .1)
 
 pub listed-syndromes-spec : {M : Type 1} → statement M
 listed-syndromes-spec =

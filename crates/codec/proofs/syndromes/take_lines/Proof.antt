@@ -8,21 +8,22 @@ use Rattle.lattice.specs.declared.shape.Shape.{Shape}
 use Rattle.lattice.specs.Shape.{Accepted}
 use Rattle.lattice.specs.Class.{classesOf, layoutOf}
 use Rattle.lattice.specs.Lines.{passOf, AtLine, Ready}
-use Rattle.codec.specs.Field.{fieldOf, Cells}
+use Rattle.codec.specs.Field.{fieldOf, having}
 use Rattle.codec.specs.Lines.{Taken}
+use Rattle.codec.proofs.theory.CellValues.{having-cells}
 use Rattle.codec.proofs.syndromes.LineTaken.{taken-none}
 use Rattle.codec.proofs.syndromes.LinesTaken.{pass-cells, pass-room, pass-wide, pass-taken, pass-all}
 use Rattle.codec.proofs.syndromes.take_lines.Statement.{statement}
 use Rattle.codec.proofs.syndromes.take_lines.Tie as tie
 
 abbrev Inv-loop : tie.InvT-loop
-Inv-loop pass field e₀ p q t₀ line₀ n₀ l₀ e t line n l =
+Inv-loop pass field value e₀ p q t₀ line₀ n₀ l₀ e t line n l =
     (l ≤ pass .lines) × (n ≡ l * pass .columns) × (length e ≡ length e₀) × (length t ≡ length t₀)
     × ((s : Shape) → Accepted s → pass ≡ passOf s
-    → AtLine s l line e × Taken (layoutOf s) (classesOf s) (fieldOf field) t n)
+    → AtLine s l line e × Taken (layoutOf s) (classesOf s) (having value (fieldOf field)) t n)
 
 abbrev μ-loop : tie.MeasureT-loop
-μ-loop pass field e₀ p q t₀ line₀ n₀ l₀ e t line n l = pass .lines - l
+μ-loop pass field value e₀ p q t₀ line₀ n₀ l₀ e t line n l = pass .lines - l
 
 loop-holds : tie.Need-loop-holds Inv-loop μ-loop
 loop-holds c =
@@ -31,7 +32,7 @@ loop-holds c =
       omega arith,
       refl,
       refl,
-      λ s ok same. (e .pre .1 .1 .1 .0 s ok same, taken-none _ _ _ (e .args .t .now) (e .pre .1 .1 .1 .1)),
+      λ s ok same. (e .pre .1 .1 .0 s ok same, taken-none _ _ _ (e .args .t .now) (e .pre .1 .1 .1)),
     )
 
 take-line-requires : tie.Need-take-line-requires Inv-loop μ-loop
@@ -43,10 +44,8 @@ take-line-requires c κs =
     let inside = c .before .before .if1 .taken in
     let wide = pass-wide (p .shape) (p .accepted) _ (p .same) (turn .l) (turn .n) (turn .inv .1) inside (turn .line) (turn .e)
     (taken .0) in
-    let room = pass-room (p .shape) (p .accepted) _ (p .same) (turn .l) (turn .n) (turn .inv .1) inside in (
-      (omega (arith, wide), omega (arith, wide), omega (arith, room)),
-      e .pre .1 .0,
-    )
+    let room = pass-room (p .shape) (p .accepted) _ (p .same) (turn .l) (turn .n) (turn .inv .1) inside in
+    (omega (arith, wide), omega (arith, wide), omega (arith, room))
 
 next-positions-requires : tie.Need-next-positions-requires Inv-loop μ-loop
 next-positions-requires c κs = search needs
@@ -85,12 +84,11 @@ loop-again c =
       λ s ok same.
           let held = turn .inv .4 s ok same in
           let ready : Ready (e .args .pass) (length (turn .e)) (e .args .p .now) (e .args .q .now) = rw (turn .inv .2)
-          (e .pre .1 .1 .0) in
-          let cells : Cells (fieldOf (e .args .field .now)) (e .args .pass .cells) = rw (e .pre .0 .2) at (e .pre .1 .0) in (
+          (e .pre .1 .0) in (
             step .ensures s ok same (e .pre .0 .1) ready (turn .l) inside (held .0),
-            pass-taken s ok _ same (turn .l) (turn .n) (turn .inv .1) inside (turn .line) (turn .e) (held .0) (fieldOf
-                (e .args .field .now)) (turn .t)
-                (line .last .0) cells (line .ensures) (omega arith) (line .kept .0) (held .1),
+            pass-taken s ok _ same (turn .l) (turn .n) (turn .inv .1) inside (turn .line) (turn .e) (held .0)
+                (having (e .args .value) (fieldOf (e .args .field .now))) (turn .t) (line .last .0) (having-cells _ _ _)
+                (line .ensures) (omega arith) (line .kept .0) (held .1),
           ),
     )
 
@@ -106,7 +104,7 @@ returns c =
     let turn = c .before .before .loop in
     λ s ok same.
     let all = pass-all s ok _ same (turn .l) (turn .n) (turn .inv .1) (omega arith) (turn .inv .0) in
-    subst (λ (k : ℕ). Taken (layoutOf s) (classesOf s) (fieldOf (e .args .field .now)) (turn .t) k) all
+    subst (λ (k : ℕ). Taken (layoutOf s) (classesOf s) (having (e .args .value) (fieldOf (e .args .field .now))) (turn .t) k) all
     (turn .inv .4 s ok same .1)
 
 pub take-lines-spec : {M : Type 1} → statement M

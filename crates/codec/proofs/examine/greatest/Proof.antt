@@ -1,10 +1,11 @@
--- `cells_ok` meets its contract. The loop's invariant: `most` tells whether the bytes before i are cells.
+-- `greatest` meets its contract. The loop's invariant: `most` is the greatest of the bytes before i.
 use Prim.Native.Nat.{_-_, _≤_, zero-le}
 use native.Mathlib.Omega.{arith}
+use borrow.Author.Needs.{needs}
 use Rattle.codec.specs.Field.{fieldOf}
 use Rattle.codec.proofs.examine.Cells.{Tells, tells-none, tells-more, tells-all}
-use Rattle.codec.proofs.examine.cells_ok.Statement.{statement}
-use Rattle.codec.proofs.examine.cells_ok.Tie as tie
+use Rattle.codec.proofs.examine.greatest.Statement.{statement}
+use Rattle.codec.proofs.examine.greatest.Tie as tie
 
 abbrev Inv-loop : tie.InvT-loop
 Inv-loop field n most₀ i₀ most i = (i ≤ n) × Tells (fieldOf field) most i
@@ -19,7 +20,7 @@ cell-value-requires : tie.Need-cell-value-requires Inv-loop μ-loop
 cell-value-requires c κs = omega arith
 
 greater-requires : tie.Need-greater-requires Inv-loop μ-loop
-greater-requires c κs = tt
+greater-requires c κs = search needs
 
 add-i : tie.Need-add-i Inv-loop μ-loop
 add-i c = omega arith
@@ -32,16 +33,12 @@ loop-again c =
     let turn = c .before .before .before .loop in
     (omega arith, tells-more _ _ _ _ _ (turn .inv .1) (c .before .cell-value .ensures) (c .greater .ensures))
 
-is-received-requires : tie.Need-is-received-requires Inv-loop μ-loop
-is-received-requires c κs = tt
-
 returns : tie.Need-returns Inv-loop μ-loop
 returns c =
-    let end = c .before .before .loop in
-    tells-all _ _ _ _ _ (end .inv .1) (end .inv .0) (c .before .loop-test .left) (c .is-received .ensures)
+    let end = c .before .loop in tells-all _ _ _ _ (end .inv .1) (end .inv .0) (c .loop-test .left)
 
-pub cells-ok-spec : {M : Type 1} → statement M
-cells-ok-spec =
+pub greatest-spec : {M : Type 1} → statement M
+greatest-spec =
     tie.close
     (tie.spec
     Inv-loop
@@ -52,5 +49,4 @@ cells-ok-spec =
     add-i
     loop-less
     loop-again
-    is-received-requires
     returns)

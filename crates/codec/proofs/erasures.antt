@@ -1,0 +1,2 @@
+-- What locating the erased and damaged cells uses alone.
+mod Listed

@@ -1,0 +1,120 @@
+-- What was written comes back after cells are erased, and examples: the terms of the theorems.
+use Prim.Native.Nat.{ℕ, _<_}
+use mathlib.Core.Bool.{Bool, cond}
+use mathlib.Core.List.{List}
+use mathlib.Core.Logic.{_⊎_, inl, inr}
+use mathlib.Core.Path.{_≡_, refl, sym, _∙_, ap}
+use Rattle.lattice.specs.Range.{inRange}
+use Rattle.lattice.specs.Shape.{maxStrength, sizeOk, strengthOk, shapeNumber, cellsOf}
+use Rattle.lattice.specs.Settings.{oddSettings, evenSettings, flatSettings, settingsFor}
+use Rattle.lattice.specs.Cell.{cellAt}
+use Rattle.lattice.specs.Class.{minusMod, classWith, classesOf, classOf, layoutOf}
+use Rattle.lattice.specs.Position.{sizeTo, position}
+use Rattle.lattice.specs.Check.{isPower, isCheck, holdsData, capacity}
+use Rattle.codec.specs.Field.{Field, fieldOf, isCell, Cells, isReceived, cellsOk, Same, erased, having, differences}
+use Rattle.codec.specs.Hamming.{tagsOf, flipped}
+use Rattle.codec.specs.Erasure.{erasuresTo, erasedSum, filled, corrected, fewErasures, inReach, allInReach}
+use Rattle.codec.specs.Payload.{payloadBytes, rank, payloadBit, padding, dataValue, dataField, encoded, paddingOk}
+use Rattle.codec.specs.Payload.{heldPayload}
+use Rattle.codec.specs.Plan.{planCapacity, planBytes, planCells}
+use Rattle.codec.specs.Encode.{encodedField}
+use Rattle.codec.specs.Decode.{fieldNumber, correctedCount, decodeNumber, decodeCount, decodeLeaves}
+use Rattle.codec.specs.Correct.{correctNumber, correctCount, correctLeaves}
+use Rattle.codec.specs.Damage.{erasedAt, erasedField, TwoInEachClass}
+use Rattle.codec.specs.Code.{tagsAt}
+use Rattle.codec.specs.theorems.Erasures.{RefillByClass, Refill, ErasureExamples}
+use Rattle.codec.proofs.theory.ClusterCells.{one-of-cluster}
+use Rattle.codec.proofs.theory.Differences.{differences-same}
+use Rattle.codec.proofs.theory.EncodedField.{encoded-cells, encoded-lawful}
+use Rattle.codec.proofs.theory.ErasedSelection.{erased-received, erased-few, erased-nearest, erased-count}
+use Rattle.codec.proofs.theory.FieldLists.{length-listOf, getD-listOf, received-same}
+use Rattle.codec.proofs.theory.NearestField.{nearest-same, few-same}
+use Rattle.codec.proofs.theory.RecoveredField.{recovered}
+use Rattle.codec.proofs.theory.WrittenCells.{written-cells}
+
+-- Theorem. What was written comes back where at most two cells of each class are erased: it is the nearest to what is left.
+pub refillByClass : RefillByClass
+unfolding erasedAt
+refillByClass s accepted p long bytes selected two buffer fits = (
+  recovered s accepted p long bytes G
+      record {
+        accepted = accepted;
+        long = length-listOf (erasedAt (fieldOf (encodedField s p)) chosen) (cellsOf s);
+        cells = received-same (erasedAt F chosen) (fieldOf G) (cellsOf s) same (erased-received F chosen (cellsOf s) cells);
+        few = few-same (layoutOf s) (erasedAt F chosen) (fieldOf G) same (erased-few (layoutOf s) F chosen cells two);
+      }
+      (nearest-same (layoutOf s) (tagsAt s) (erasedAt F chosen) (fieldOf G) F F same (λ i h. refl)
+      (erased-nearest (layoutOf s) F chosen cells (tagsAt s) (encoded-lawful (layoutOf s) p)))
+      buffer fits,
+  differences-same (fieldOf (encodedField s p)) F (fieldOf G) (erasedAt F chosen) (cellsOf s)
+      (λ i h. sym (written-cells s p i h)) (λ i h. sym (same i h))
+      ∙ erased-count F chosen (cellsOf s) cells,
+)
+  where
+    F : Field
+    F = encoded (layoutOf s) p
+
+    G : List ℕ
+    G = erasedField s p selected
+
+    chosen : ℕ → Bool
+    chosen i = selected (cellAt s i)
+
+    cells : Cells F (cellsOf s)
+    cells = encoded-cells (layoutOf s) p (cellsOf s)
+
+    -- G holds F with the selected cells erased
+    same : Same (erasedAt F chosen) (fieldOf G) (cellsOf s)
+    same i h =
+        ap (λ (v : ℕ). cond (selected (cellAt s i)) erased v) (written-cells s p i h)
+        ∙ sym (getD-listOf (erasedAt (fieldOf (encodedField s p)) chosen) (cellsOf s) i h)
+
+-- Theorem. Of three selected cells of two clusters of at most t cells two lie in one cluster, and so in different classes.
+pub refill : Refill
+refill s accepted p long bytes S T s-cluster s-small t-cluster t-small selected inside buffer fits =
+    refillByClass s accepted p long bytes selected two buffer fits
+  where
+    -- two cells of one class in one cluster are one
+    in-s : (i j : ℕ) → i < cellsOf s → j < cellsOf s → S (cellAt s i) → S (cellAt s j)
+        → layoutOf s .class i ≡ layoutOf s .class j → i ≡ j
+    in-s = one-of-cluster s accepted S s-cluster s-small
+
+    in-t : (i j : ℕ) → i < cellsOf s → j < cellsOf s → T (cellAt s i) → T (cellAt s j)
+        → layoutOf s .class i ≡ layoutOf s .class j → i ≡ j
+    in-t = one-of-cluster s accepted T t-cluster t-small
+
+    two : TwoInEachClass (layoutOf s) (λ i. selected (cellAt s i))
+    two i j k hi hj hk si sj sk c d =
+        go (inside (cellAt s i) si) (inside (cellAt s j) sj) (inside (cellAt s k) sk)
+      where
+        go : S (cellAt s i) ⊎ T (cellAt s i) → S (cellAt s j) ⊎ T (cellAt s j) → S (cellAt s k) ⊎ T (cellAt s k)
+            → (i ≡ j) ⊎ (j ≡ k) ⊎ (i ≡ k)
+        go (inl x) (inl y) z = inl (in-s i j hi hj x y c)
+        go (inr x) (inr y) z = inl (in-t i j hi hj x y c)
+        go (inl x) (inr y) (inl z) = inr (inr (in-s i k hi hk x z (c ∙ d)))
+        go (inl x) (inr y) (inr z) = inr (inl (in-t j k hj hk y z d))
+        go (inr x) (inl y) (inl z) = inr (inl (in-s j k hj hk y z d))
+        go (inr x) (inl y) (inr z) = inr (inr (in-t i k hi hk x z (c ∙ d)))
+
+-- Theorem. The examples hold, by computation of the definitions.
+pub erasureExamples : ErasureExamples
+unfolding
+    inRange maxStrength sizeOk strengthOk shapeNumber oddSettings evenSettings flatSettings settingsFor
+    cellAt minusMod classWith classesOf classOf sizeTo position isPower isCheck holdsData capacity
+    isCell isReceived cellsOk having differences tagsOf flipped erasuresTo erasedSum filled corrected
+    fewErasures inReach allInReach payloadBytes rank payloadBit padding dataValue dataField encoded paddingOk heldPayload
+    planCapacity planBytes planCells encodedField fieldNumber correctedCount
+    decodeNumber decodeCount decodeLeaves correctNumber correctCount correctLeaves
+erasureExamples =
+    record {
+      pairs = (refl, refl, refl, refl, refl, refl, refl, refl, refl, refl);
+      many = (refl, refl, refl, refl, refl, refl);
+      ten-before-six = (refl, refl, refl);
+      seven = (refl, refl, refl);
+      twelve = refl;
+      both = (refl, refl, refl, refl, refl, refl);
+      first = (refl, refl, refl, refl, refl, refl);
+      second = (refl, refl, refl, refl, refl, refl);
+      alone = (refl, refl, refl, refl, refl, refl);
+      beside = (refl, refl);
+    }
