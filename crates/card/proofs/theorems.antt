@@ -3,6 +3,6 @@ mod Refused
 pub mod Parsing
 mod Cut
 pub mod Outputs
-mod RoundTrip
+pub mod RoundTrip
 mod Examples
 mod Worked

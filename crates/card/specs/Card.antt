@@ -42,7 +42,7 @@ pub record CardHeader (h : Header) : Type 0 where
   pub accepted : Accepted (shapeOf h)
   pub cells : cellsOf (shapeOf h) ≤ maxCardCells
 
--- the cells of a field of the header's shape: as many as it has, and nothing but cells
+-- the cells of a field of the header's shape: as many as it has, and nothing but cells and erasures
 pub record FieldCells (h : Header) (cells : List ℕ) : Type 0 where
   pub long : length cells ≡ cellsOf (shapeOf h)
   pub each : Received (fieldOf cells) (cellsOf (shapeOf h))

@@ -10,7 +10,7 @@ use Rattle.lattice.specs.Shape.{shapeConditions, cellsOf}
 use Rattle.codec.specs.Field.{Field, fieldOf}
 use Rattle.codec.specs.Payload.{Bytes}
 use Rattle.codec.specs.Plan.{planBytes}
-use Rattle.codec.specs.Conditions.{WrongPayloadLength, NoneInReach}
+use Rattle.codec.specs.Conditions.{WrongPayloadLength, ManyErasures, NoneInReach}
 use Rattle.codec.specs.Reach.{WrongInReach}
 use Rattle.card.specs.declared.header.Header.{Header}
 use Rattle.card.specs.Text.{headerText, payloadText, fieldText, refusalText}
@@ -60,11 +60,14 @@ abbrev pub PayloadRefused : List ℕ → Type 0
 PayloadRefused s =
     (x : HeaderFirst s) × (p : List ℕ) × Bytes p × (x .rest ≡ payloadText p) × WrongPayloadLength (shapeOf (x .header)) p
 
--- 6, 7: of the field that the rows give
+-- 10, 6, 7: of the field that the rows give
 abbrev pub FieldRefused : (Shape → Field → Type 0) → List ℕ → Type 0
 FieldRefused C s =
     (x : HeaderFirst s) × (cells : List ℕ) × FieldCells (x .header) cells × (x .rest ≡ fieldText (x .header) cells)
     × C (shapeOf (x .header)) (fieldOf cells)
+
+abbrev pub ErasuresRefused : List ℕ → Type 0
+ErasuresRefused s = FieldRefused ManyErasures s
 
 abbrev pub ReachRefused : List ℕ → Type 0
 ReachRefused s = FieldRefused NoneInReach s
@@ -74,7 +77,12 @@ PaddingRefused s = FieldRefused WrongInReach s
 
 -- the operation's own refusals
 abbrev pub operationRefusals : List ℕ → List Listed
-operationRefusals s = listed 3 (PayloadRefused s) ∷ listed 6 (ReachRefused s) ∷ listed 7 (PaddingRefused s) ∷ []
+operationRefusals s =
+    listed 3 (PayloadRefused s)
+    ∷ listed 10 (ErasuresRefused s)
+    ∷ listed 6 (ReachRefused s)
+    ∷ listed 7 (PaddingRefused s)
+    ∷ []
 
 -- the refusals after the header: those of its shape, then the card's and the operation's
 abbrev pub laterRefusals : List ℕ → List Listed

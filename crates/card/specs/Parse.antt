@@ -107,7 +107,7 @@ rowStart at w r = at + r * (length rowKey + w + 1)
 abbrev pub cellPlace : ℕ → ℕ → ℕ → ℕ
 cellPlace at w i = rowStart at w (i / w) + length rowKey + i % w
 
--- the digit of a cell, as a row has it: 0 for white and 1 for black
+-- the digit of a cell, as a row that is read has it: 0 for white, 1 for black and 2 for erased
 unfoldable pub isCellDigit : ℕ → Bool
 isCellDigit b = leb 48 b && isReceived (b - 48)
 

@@ -104,7 +104,7 @@ pub(crate) fn fill_payload(text: &[u8], at: usize, payload: &mut [u8])
     }
 }
 
-// Is the byte the digit of a cell?
+// Is the byte the digit of a cell: 0, 1, or 2 for an erased one?
 fn is_cell_digit(byte: u8) -> bool
     ensures { λ r. ⌜ r ≡ isCellDigit byte ⌝ }
 {

@@ -1,23 +1,28 @@
 -- Examples that meet the hypotheses of the theorems on card texts: the worked card, 5 by 5 of strength 3 with the payload byte
--- 165.
+-- 165, and cells of two clusters of it erased.
 use Prim.Native.Nat.{ℕ}
 use mathlib.Core.Bool.{true}
-use mathlib.Core.List.{List}
+use mathlib.Core.List.{List, _++_}
 use mathlib.Core.Path.{_≡_, refl}
 use lib.Dec.{lit≤}
 use lib.ListN.{length}
+use Rattle.lattice.specs.Cell.{cellAt}
+use Rattle.lattice.proofs.examples.Placing.{OfThree, three-cluster, three-few, OfMate, mate-cluster, mate-few}
 use Rattle.codec.specs.Encode.{encodedField}
+use Rattle.codec.specs.Damage.{erasedField}
 use Rattle.codec.proofs.examples.Coding.{accepted, payload, payload-long, payload-bytes}
+use Rattle.codec.proofs.examples.Erased.{isMate, mates-selected}
 use Rattle.card.specs.declared.header.Header.{Header}
 use Rattle.card.specs.declared.header.HeaderAnswer.the-variants as head
-use Rattle.card.specs.Text.{headerText, payloadText}
+use Rattle.card.specs.Text.{headerText, numberLine, payloadText, mendedKey}
 use Rattle.card.specs.Card.{shapeOf, FieldCells, CardHeader, payloadCard, fieldCard}
 use Rattle.card.specs.Parse.{headerOf, payloadOk}
-use Rattle.card.specs.Program.{rowsFit}
+use Rattle.card.specs.Program.{rowsFit, answer}
 use Rattle.card.specs.Form.{HeaderFirst, Body, CardText}
 use Rattle.card.proofs.theory.CardLimits.{card-small}
 use Rattle.card.proofs.theory.PrintedRows.{written-cells}
 use Rattle.card.proofs.theorems.Parsing.{textParses}
+use Rattle.card.proofs.theorems.RoundTrip.{erasedIsRead}
 
 -- its header is one of a card
 abbrev pub header : Header
@@ -53,3 +58,11 @@ rows-right = textParses .field-back header cells field-cells .0
 pub card-text : CardText (payloadCard header payload)
 unfolding header-first
 card-text = record { first = header-first; card = card; body = Body.payload payload payload-bytes refl }
+
+-- with a cell of each of two clusters erased the card is read
+pub mates-read : answer (fieldCard header (erasedField (shapeOf header) payload isMate))
+    ≡ headerText header ++ (numberLine mendedKey 2 ++ payloadText payload)
+unfolding cellAt
+mates-read =
+    erasedIsRead header card payload payload-long payload-bytes OfThree OfMate three-cluster three-few mate-cluster mate-few
+    isMate mates-selected

@@ -11,6 +11,7 @@ use lib.ListN.{length, getD}
 use borrow.Author.Count.{below-none, below-more}
 use borrow.Author.Tests.{eq-eqb, ne-eqb}
 use Rattle.lattice.specs.Range.{inRange}
+use Rattle.lattice.proofs.theory.Bools.{and-false-right}
 use Rattle.lattice.proofs.theory.Limits.{range-low, range-high}
 use Rattle.card.specs.declared.line.Line.{Line}
 use Rattle.card.specs.declared.line.Line.the-variants as line
@@ -18,10 +19,6 @@ use Rattle.card.specs.Parse.{isDigit, digitRun, digitsValue, numberEnds,
 use Rattle.card.proofs.theory.StandsAt.{byte-inside}
 use Rattle.card.proofs.theory.NumberText.{test-ends}
 use Rattle.card.proofs.theory.Digits.{DigitsAt, digits-run, run-digits, value-below}
-
-and-false-right : (a b : Bool) → b ≡ false → (a && b) ≡ false
-and-false-right true b p = p
-and-false-right false b p = refl
 
 module _ (s : List ℕ) (at : ℕ) where
   abbrev isDigitAt : ℕ → Type 0

@@ -7,8 +7,9 @@ use Rattle.lattice.specs.Cell.{cellAt}
 use Rattle.lattice.specs.Class.{minusMod, classWith, classesOf, classOf}
 use Rattle.lattice.specs.Position.{sizeTo, position}
 use Rattle.lattice.specs.Check.{isPower, isCheck, checks, holdsData, capacity}
-use Rattle.codec.specs.Field.{isCell, isReceived, cellsOk, differences}
-use Rattle.codec.specs.Hamming.{tagsOf, isTag, inReach, allInReach, corrected}
+use Rattle.codec.specs.Field.{isCell, isReceived, cellsOk, having, differences}
+use Rattle.codec.specs.Hamming.{tagsOf, flipped}
+use Rattle.codec.specs.Erasure.{erasuresTo, fewErasures, erasedSum, filled, corrected, inReach, allInReach}
 use Rattle.codec.specs.Payload.{payloadBytes, rank, payloadBit, padding, dataValue, dataField, encoded, paddingOk, heldPayload}
 use Rattle.codec.specs.Plan.{planClasses, planCapacity, planBytes, planCells}
 use Rattle.codec.specs.Encode.{encodeNumber, encodedField}
@@ -27,7 +28,8 @@ unfolding
     inRange maxStrength sizeOk strengthOk shapeNumber
     oddSettings evenSettings flatSettings settingsFor cellAt minusMod classWith classesOf classOf
     sizeTo position isPower isCheck checks holdsData capacity
-    isCell isReceived cellsOk differences tagsOf isTag inReach allInReach corrected
+    isCell isReceived cellsOk having differences tagsOf flipped
+    erasuresTo fewErasures erasedSum filled corrected inReach allInReach
     payloadBytes rank payloadBit padding dataValue dataField encoded paddingOk heldPayload
     planClasses planCapacity planBytes planCells
     encodeNumber encodedField
@@ -40,6 +42,8 @@ cardExamples =
       written = refl;
       read = refl;
       damaged = refl;
+      erased = refl;
+      erased-row = refl;
       key-order = refl;
       leading-zero = refl;
       six-digits = refl;
@@ -54,6 +58,9 @@ cardExamples =
       few-rows = refl;
       no-cell = refl;
       long-payload = refl;
+      many-erasures = refl;
       out-of-reach = refl;
       wrong-padding = refl;
+      erasures-first = refl;
+      erased-out-of-reach = refl;
     }

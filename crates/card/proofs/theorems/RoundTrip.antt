@@ -1,12 +1,12 @@
--- Card texts there and back: the term of the theorem.
-use mathlib.Core.Path.{_∙_}
-use Rattle.codec.specs.Damage.{damagedField}
+-- Card texts there and back: the terms of the theorems.
+use mathlib.Core.Path.{refl}
 use Rattle.codec.proofs.theorems.Recovery.{recovery}
+use Rattle.codec.proofs.theorems.Erasures.{refill}
 use Rattle.card.specs.Card.{shapeOf}
 use Rattle.card.specs.Program.{blankPayload}
-use Rattle.card.specs.theorems.RoundTrip.{PrintedIsRead}
+use Rattle.card.specs.theorems.RoundTrip.{PrintedIsRead, ErasedIsRead}
 use Rattle.card.proofs.theory.ProgramParts.{blank-payload}
-use Rattle.card.proofs.theory.PrintedRows.{read-text, damaged-field, read, read-back}
+use Rattle.card.proofs.theory.PrintedRows.{read-recovered, read-back}
 
 -- Theorem. What the program prints for a payload is read back, whole and with demand 3's damage.
 pub printedIsRead : PrintedIsRead
@@ -14,10 +14,15 @@ printedIsRead =
     record {
       whole = read-back;
       damaged = λ h card p long bytes S cluster small selected inside.
-          let back =
-          recovery (shapeOf h) (card .accepted) p long bytes S cluster small selected inside (blankPayload h)
-          (blank-payload h) in
-          read h card (damagedField (shapeOf h) p selected) (damaged-field h card p long bytes selected)
-          (back .decoded-number)
-          ∙ read-text h (damagedField (shapeOf h) p selected) p _ (back .decoded-count) (back .decoded-payload);
+          read-recovered h card p _ _ _
+          (recovery (shapeOf h) (card .accepted) p long bytes S cluster small selected inside (blankPayload h) (blank-payload h))
+          refl;
     }
+
+-- Theorem. With cells of two clusters of at most t cells each printed as 2 it is read back too.
+pub erasedIsRead : ErasedIsRead
+erasedIsRead h card p long bytes S T s-cluster s-small t-cluster t-small selected inside =
+    let back =
+    refill (shapeOf h) (card .accepted) p long bytes S T s-cluster s-small t-cluster t-small selected inside (blankPayload h)
+    (blank-payload h) in
+    read-recovered h card p _ _ _ (back .0) (back .1)

@@ -17,8 +17,9 @@ use Rattle.lattice.specs.Position.{sizeTo, position}
 use Rattle.lattice.specs.Check.{isPower, isCheck, checks, holdsData, capacity}
 use Rattle.lattice.specs.Counting.{count}
 use Rattle.lattice.proofs.theory.Counting.{count-mono}
-use Rattle.codec.specs.Field.{isCell, isReceived, cellsOk, differences}
-use Rattle.codec.specs.Hamming.{tagsOf, isTag, inReach, allInReach, corrected}
+use Rattle.codec.specs.Field.{isCell, isReceived, cellsOk, having, differences}
+use Rattle.codec.specs.Hamming.{tagsOf, flipped}
+use Rattle.codec.specs.Erasure.{erasuresTo, fewErasures, erasedSum, filled, corrected, inReach, allInReach}
 use Rattle.codec.specs.Payload.{payloadBytes, rank, payloadBit, padding, dataValue, dataField, encoded, paddingOk, heldPayload}
 use Rattle.codec.specs.Plan.{planClasses, planCapacity, planBytes, planCells}
 use Rattle.codec.specs.Encode.{encodeNumber, encodedField}
@@ -95,7 +96,8 @@ unfolding
     inRange maxStrength sizeOk strengthOk shapeNumber
     oddSettings evenSettings flatSettings stackTable stackSettings settingsFor cellAt minusMod classWith classesOf classOf
     sizeTo position isPower isCheck checks holdsData capacity
-    isCell isReceived cellsOk differences tagsOf isTag inReach allInReach corrected
+    isCell isReceived cellsOk having differences tagsOf flipped
+    erasuresTo fewErasures erasedSum filled corrected inReach allInReach
     payloadBytes rank payloadBit padding dataValue dataField encoded paddingOk heldPayload
     planClasses planCapacity planBytes planCells
     encodeNumber encodedField

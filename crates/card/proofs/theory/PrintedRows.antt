@@ -1,22 +1,19 @@
--- Card texts there and back: what is printed of a payload is read again, whole and damaged.
+-- Card texts there and back: what is printed of a payload is read again, and so are rows from which decoding gives it back.
 use Prim.Native.Nat.{ℕ}
-use mathlib.Core.Bool.{Bool}
 use mathlib.Core.List.{List, _++_}
-use mathlib.Core.Path.{_≡_, refl, sym, _∙_, ap}
+use mathlib.Core.Path.{_≡_, refl, _∙_, ap}
 use native.Mathlib.Nat.{le-of-lt}
 use lib.ListN.{length}
 use Rattle.lattice.specs.Shape.{cellsOf}
-use Rattle.lattice.specs.Cell.{Cell, cellAt}
-use Rattle.codec.specs.Field.{fieldOf}
+use Rattle.codec.specs.Field.{fieldOf, differences}
 use Rattle.codec.specs.Payload.{Bytes}
 use Rattle.codec.specs.Plan.{planBytes}
 use Rattle.codec.specs.Encode.{encodedField}
 use Rattle.codec.specs.Decode.{decodeNumber, decodeCount, decodeLeaves}
-use Rattle.codec.specs.Damage.{damaged, damagedField}
+use Rattle.codec.specs.Damage.{Recovered}
 use Rattle.codec.proofs.theory.Accepted.{encode-number}
-use Rattle.codec.proofs.theory.Damage.{damaged-cells}
-use Rattle.codec.proofs.theory.FieldLists.{length-listOf, getD-listOf, cells-same}
 use Rattle.codec.proofs.theory.CellValues.{cells-received}
+use Rattle.codec.proofs.theory.OperationNumbers.{decode-taken}
 use Rattle.codec.proofs.theorems.Undamaged.{nothingToCorrect}
 use Rattle.codec.proofs.theorems.Writing.{encodeMeaning}
 use Rattle.card.specs.declared.header.Header.{Header}
@@ -29,33 +26,24 @@ use Rattle.card.proofs.theory.ProgramParts.{body-rows, operation-rows, 
 use Rattle.card.proofs.theorems.Parsing.{textParses}
 
 -- a field's text is read to the count and the payload that decoding gives
-pub read-text : (h : Header) (cells p : List ℕ) (n : ℕ) → decodeCount (shapeOf h) (blankPayload h) cells ≡ n
+read-text : (h : Header) (cells p : List ℕ) (n : ℕ) → decodeCount (shapeOf h) (blankPayload h) cells ≡ n
     → decodeLeaves (shapeOf h) (blankPayload h) cells ≡ p
     → readText h cells ≡ headerText h ++ (numberLine mendedKey n ++ payloadText p)
 unfolding readText
 read-text h cells p n count leaves = rw (count, leaves)
 
--- the cells of the field written, and of that field damaged
-module _ (h : Header) (card : CardHeader h) (p : List ℕ) (long : length p ≡ planBytes (shapeOf h)) (bytes : Bytes p) where
-  pub written-cells : FieldCells h (encodedField (shapeOf h) p)
-  written-cells =
-      record {
-        long = encodeMeaning .long (shapeOf h) p;
-        each = cells-received _ _ (encodeMeaning .lawful (shapeOf h) (card .accepted) p long bytes .cells);
-      }
-
-  pub damaged-field : (selected : Cell → Bool) → FieldCells h (damagedField (shapeOf h) p selected)
-  damaged-field selected =
-      let f = damaged (fieldOf (encodedField (shapeOf h) p)) (λ i. selected (cellAt (shapeOf h) i)) in
-      let n = cellsOf (shapeOf h) in
-      record {
-        long = length-listOf f n;
-        each =
-            cells-received _ _
-            (cells-same f (fieldOf (damagedField (shapeOf h) p selected)) n (λ i l. sym (getD-listOf f n i l))
-            (damaged-cells (fieldOf (encodedField (shapeOf h) p)) (λ i. selected (cellAt (shapeOf h) i)) n
-            (encodeMeaning .lawful (shapeOf h) (card .accepted) p long bytes .cells)));
-      }
+-- the cells of the field written
+pub written-cells : (h : Header)
+    → CardHeader h
+    → (p : List ℕ)
+    → length p ≡ planBytes (shapeOf h)
+    → Bytes p
+    → FieldCells h (encodedField (shapeOf h) p)
+written-cells h card p long bytes =
+    record {
+      long = encodeMeaning .long (shapeOf h) p;
+      each = cells-received _ _ (encodeMeaning .lawful (shapeOf h) (card .accepted) p long bytes .cells);
+    }
 
 module _ (h : Header) (card : CardHeader h) where
   -- a payload's card is answered with the field written
@@ -72,9 +60,10 @@ module _ (h : Header) (card : CardHeader h) where
       ∙ ap (writtenText h) (back .1)
 
   -- a field's card that decoding accepts is answered with what it gives
-  pub read : (cells : List ℕ) → FieldCells h cells → decodeNumber (shapeOf h) (blankPayload h) cells ≡ 0
-      → answer (fieldCard h cells) ≡ readText h cells
-  read cells each success =
+  read : (cells : List ℕ) → decodeNumber (shapeOf h) (blankPayload h) cells ≡ 0 → answer (fieldCard h cells) ≡ readText h cells
+  read cells success =
+      let taken = decode-taken (shapeOf h) (blankPayload h) cells success .0 in
+      let each : FieldCells h cells = record { long = taken .long; each = taken .cells } in
       let s = fieldCard h cells in
       let next = length (headerText h) in
       let head = textParses .field-header h card cells in
@@ -84,18 +73,24 @@ module _ (h : Header) (card : CardHeader h) where
       ∙ success-rows s h next (head .1)
       ∙ ap (readText h) (back .1)
 
+  -- so the rows of a field from which a payload comes back are answered with it and the number of cells that differ
+  pub read-recovered : (p F G : List ℕ) (n : ℕ) → Recovered (shapeOf h) p F G (blankPayload h)
+      → differences (fieldOf F) (fieldOf G) (cellsOf (shapeOf h)) ≡ n
+      → answer (fieldCard h G) ≡ headerText h ++ (numberLine mendedKey n ++ payloadText p)
+  read-recovered p F G n back count =
+      read G (back .decoded-number) ∙ read-text h G p n (back .decoded-count ∙ count) (back .decoded-payload)
+
   -- with the line of the classes taken out, what is printed of a payload is the card of the field written, and is read back
   pub read-back : (p : List ℕ) → length p ≡ planBytes (shapeOf h) → Bytes p → ReadBack h p
   unfolding writtenText
   read-back p long bytes =
       let F = encodedField (shapeOf h) p in
-      let back =
-      nothingToCorrect .written (shapeOf h) (card .accepted) p long bytes (blankPayload h) (blank-payload h) in
       record {
         rest = fieldText h F;
         printed = printed p long bytes;
         rows = refl;
-        read = read F (written-cells h card p long bytes) (back .decoded-number)
-            ∙ read-text h F p 0 (back .decoded-count ∙ nothingToCorrect .count (fieldOf F) (cellsOf (shapeOf h)))
-            (back .decoded-payload);
+        read =
+            read-recovered p F F 0
+            (nothingToCorrect .written (shapeOf h) (card .accepted) p long bytes (blankPayload h) (blank-payload h))
+            (nothingToCorrect .count (fieldOf F) (cellsOf (shapeOf h)));
       }

@@ -14,12 +14,12 @@ use Rattle.lattice.proofs.theory.Answers.{unless-zero}
 use Rattle.lattice.proofs.theory.Due.{Due, first-due, due-none, due-test, due-skip, due-append}
 use Rattle.lattice.proofs.theory.RefusalTests.{shape-due}
 use Rattle.codec.specs.Field.{fieldOf}
-use Rattle.codec.specs.Code.{fieldInReach}
+use Rattle.codec.specs.Code.{fieldFewErasures, fieldInReach}
 use Rattle.codec.specs.Payload.{paddingOk}
 use Rattle.codec.specs.Plan.{planBytes, planCells}
 use Rattle.codec.specs.Encode.{encodeNumber}
 use Rattle.codec.specs.Decode.{correctedField, fieldNumber, decodeNumber}
-use Rattle.codec.specs.Conditions.{NoneInReach}
+use Rattle.codec.specs.Conditions.{ManyErasures, NoneInReach}
 use Rattle.codec.specs.Reach.{WrongInReach}
 use Rattle.codec.proofs.theory.Accepted.{plan-cells, decode-number}
 use Rattle.codec.proofs.theory.FieldLists.{received-ok}
@@ -35,7 +35,7 @@ use Rattle.card.proofs.theory.CardRead.{CardRead, of-payload, of-field,
 use Rattle.card.proofs.theory.HeaderRest.{first-found}
 use Rattle.card.proofs.theory.ParsedInput.{card-header, first}
 use Rattle.card.proofs.theory.RefusalConditions.{header-due, cells-condition, body-condition, payload-condition, no-field}
-use Rattle.card.proofs.theory.RefusalConditions.{no-payload, reach-condition, padding-condition}
+use Rattle.card.proofs.theory.RefusalConditions.{no-payload, erasures-condition, reach-condition, padding-condition}
 
 -- encoding into the lent field refuses a payload's length alone
 encode-length : (h : Header) → CardHeader h → (p : List ℕ)
@@ -57,11 +57,12 @@ encoded-long h card p e =
     eqb-true (length p) (planBytes (shapeOf h))
     (unless-zero (eqb (length p) (planBytes (shapeOf h))) 2 0 (sym (encode-length h card p) ∙ e) .0)
 
--- decoding a field of 0s and 1s refuses its classes and its padding alone
+-- decoding a field of cells and erasures refuses its classes and its padding alone
 decode-cells : (h : Header) → CardHeader h → (cells : List ℕ) → FieldCells h cells
     → decodeNumber (shapeOf h) (blankPayload h) cells
-    ≡ unless (fieldInReach (shapeOf h) (fieldOf cells)) 6
-    (unless (paddingOk (layoutOf (shapeOf h)) (correctedField (shapeOf h) (fieldOf cells))) 7 0)
+    ≡ unless (fieldFewErasures (shapeOf h) (fieldOf cells)) 10
+    (unless (fieldInReach (shapeOf h) (fieldOf cells)) 6
+    (unless (paddingOk (layoutOf (shapeOf h)) (correctedField (shapeOf h) (fieldOf cells))) 7 0))
 unfolding fieldNumber
 decode-cells h card cells each =
     decode-number (shapeOf h) (card .accepted) (blankPayload h) cells (blank-payload h) (each .long)
@@ -75,14 +76,17 @@ module _ (s : List ℕ) (h : Header) (next : ℕ) (found : headerOf s ≡ head.F
       subst (Due (operationRefusals s)) (sym (operation-payload s h next e ∙ encode-length h card p))
       (due-test 2 _ (payload-condition s h next found card p bytes text)
       (λ _.
-      due-skip (no-field s h next found card p bytes text NoneInReach)
-      (due-skip (no-field s h next found card p bytes text WrongInReach) due-none)))
+      due-skip (no-field s h next found card p bytes text ManyErasures)
+      (due-skip (no-field s h next found card p bytes text NoneInReach)
+      (due-skip (no-field s h next found card p bytes text WrongInReach) due-none))))
   operation-due card (of-field e each text) =
       let cells = cellsIn s h next in
       subst (Due (operationRefusals s)) (sym (operation-rows s h next e ∙ decode-cells h card cells each))
       (due-skip (no-payload s h next found card cells each text)
-      (due-test 5 _ (reach-condition s h next found card cells each text)
-      (λ reach. due-test 6 _ (padding-condition s h next found card cells each text reach) (λ _. due-none))))
+      (due-test 9 _ (erasures-condition s h next found card cells each text)
+      (λ few.
+      due-test 5 _ (reach-condition s h next found card cells each text few)
+      (λ reach. due-test 6 _ (padding-condition s h next found card cells each text few reach) (λ _. due-none)))))
 
   -- the number after the header
   later-due : Due (laterRefusals s) (numberAfter s (head.Found h next))

@@ -13,13 +13,14 @@ use Rattle.lattice.specs.Class.{layoutOf}
 use Rattle.lattice.proofs.theory.Due.{Decides, decides-same, Due, SameConditions, due-same}
 use Rattle.lattice.proofs.theory.RefusalTests.{at-most}
 use Rattle.codec.specs.Field.{Field, fieldOf}
-use Rattle.codec.specs.Code.{fieldInReach}
+use Rattle.codec.specs.Erasure.{FewErasures}
+use Rattle.codec.specs.Code.{fieldFewErasures, fieldInReach}
 use Rattle.codec.specs.Payload.{Bytes, paddingOk}
 use Rattle.codec.specs.Plan.{planBytes}
 use Rattle.codec.specs.Decode.{correctedField}
-use Rattle.codec.specs.Conditions.{WrongPayloadLength, NoneInReach}
+use Rattle.codec.specs.Conditions.{WrongPayloadLength, ManyErasures, NoneInReach}
 use Rattle.codec.specs.Reach.{WrongInReach}
-use Rattle.codec.proofs.theory.FieldTests.{equal-decides, reach-decides, padding-decides}
+use Rattle.codec.proofs.theory.FieldTests.{equal-decides, few-decides, reach-decides, padding-decides, tested-few}
 use Rattle.card.specs.declared.header.Header.{Header}
 use Rattle.card.specs.declared.header.HeaderAnswer.the-variants as head
 use Rattle.card.specs.Text.{headerText, payloadText, fieldText}
@@ -27,8 +28,7 @@ use Rattle.card.specs.Card.{maxCardCells, shapeOf, FieldCells, CardHeade
 use Rattle.card.specs.Parse.{headerOf}
 use Rattle.card.specs.Program.{bodyOk}
 use Rattle.card.specs.Form.{HeaderFirst, Body, headerRefusals, TooManyCells, NoBody, PayloadRefused, FieldRefused}
-use Rattle.card.specs.Form.{ReachRefused, PaddingRefused}
-use Rattle.codec.proofs.theory.CellValues.{received-cells}
+use Rattle.card.specs.Form.{ErasuresRefused, ReachRefused, PaddingRefused}
 use Rattle.card.proofs.theory.HeaderRest.{header-found}
 use Rattle.card.proofs.theory.BodyText.{body-ok, ok-body}
 use Rattle.card.proofs.theory.CardLimits.{rows-some}
@@ -127,13 +127,21 @@ module _ (s : List ℕ) (h : Header) (next : ℕ) (found : headerOf s ≡ head.F
               ∙ field-read s h next found card cells each text .1 in
               subst₂ (λ (g : Header) (c : List ℕ). C (shapeOf g) (fieldOf c)) (same-header s h next found (r .0)) same (r .4)
 
-      pub reach-condition : Decides (fieldInReach (shapeOf h) (fieldOf cells)) (ReachRefused s)
-      reach-condition =
-          decides-same (field-condition NoneInReach)
-          (reach-decides (shapeOf h) (card .accepted) (fieldOf cells) (received-cells _ _ (each .each)))
+      pub erasures-condition : Decides (fieldFewErasures (shapeOf h) (fieldOf cells)) (ErasuresRefused s)
+      erasures-condition =
+          decides-same (field-condition ManyErasures) (few-decides (shapeOf h) (card .accepted) (fieldOf cells))
 
-      pub padding-condition : fieldInReach (shapeOf h) (fieldOf cells) ≡ true
-          → Decides (paddingOk (layoutOf (shapeOf h)) (correctedField (shapeOf h) (fieldOf cells))) (PaddingRefused s)
-      padding-condition reach =
-          decides-same (field-condition WrongInReach)
-          (padding-decides (shapeOf h) (card .accepted) (fieldOf cells) (received-cells _ _ (each .each)) reach)
+      module _ (tested : fieldFewErasures (shapeOf h) (fieldOf cells) ≡ true) where
+        few : FewErasures (layoutOf (shapeOf h)) (fieldOf cells)
+        few = tested-few (shapeOf h) (card .accepted) (fieldOf cells) tested
+
+        pub reach-condition : Decides (fieldInReach (shapeOf h) (fieldOf cells)) (ReachRefused s)
+        reach-condition =
+            decides-same (field-condition NoneInReach)
+            (reach-decides (shapeOf h) (card .accepted) (fieldOf cells) (each .each) few)
+
+        pub padding-condition : fieldInReach (shapeOf h) (fieldOf cells) ≡ true
+            → Decides (paddingOk (layoutOf (shapeOf h)) (correctedField (shapeOf h) (fieldOf cells))) (PaddingRefused s)
+        padding-condition reach =
+            decides-same (field-condition WrongInReach)
+            (padding-decides (shapeOf h) (card .accepted) (fieldOf cells) (each .each) few reach)

@@ -1,5 +1,5 @@
--- Card texts and their answers, character by character: the worked card of document 01, whole and damaged, and a witness of each
--- refusal but that of too long an input.
+-- Card texts and their answers, character by character: the worked card of document 01, whole, damaged and with erased cells, and
+-- a witness of each refusal but that of too long an input.
 use Prim.Native.String.{String, _++_}
 use mathlib.Core.Path.{_≡_}
 use Rattle.card.specs.Text.{ascii}
@@ -18,6 +18,10 @@ pub record CardExamples : Type 0 where
   pub written : Answers (first ++ "payload=a5\n") (first ++ "classes=5\nrow=11011\nrow=00101\nrow=10100\nrow=00101\nrow=10100\n")
   pub read : Answers (first ++ "row=11011\nrow=00101\nrow=10100\nrow=00101\nrow=10100\n") (first ++ "mended=0\npayload=a5\n")
   pub damaged : Answers (first ++ "row=11011\nrow=00101\nrow=10010\nrow=00001\nrow=10100\n") (first ++ "mended=3\npayload=a5\n")
+  -- erased cells: two clusters of three cells, and the first row alone, which has a cell of each class
+  pub erased : Answers (first ++ "row=22011\nrow=20101\nrow=10100\nrow=00122\nrow=10102\n") (first ++ "mended=6\npayload=a5\n")
+  pub erased-row :
+      Answers (first ++ "row=22222\nrow=00101\nrow=10100\nrow=00101\nrow=10100\n") (first ++ "mended=5\npayload=a5\n")
   -- 8: the first four lines, all of them before any number is weighed
   pub key-order : Answers "rows=5\ncolumns=5\nplanes=1\nstrength=3\npayload=a5\n" "refusal=8\n"
   pub leading-zero : Answers "columns=0\nrows=5\nplanes=1\nstrength=03\npayload=a5\n" "refusal=8\n"
@@ -34,8 +38,12 @@ pub record CardExamples : Type 0 where
   pub no-feed : Answers (first ++ "payload=a5") "refusal=8\n"
   pub trailing : Answers (first ++ "payload=a5\n\n") "refusal=8\n"
   pub few-rows : Answers (first ++ "row=11011\nrow=00101\nrow=10100\nrow=00101\n") "refusal=8\n"
-  pub no-cell : Answers (first ++ "row=11011\nrow=00101\nrow=10100\nrow=00101\nrow=10102\n") "refusal=8\n"
-  -- 3, 6, 7: the operation's own
+  pub no-cell : Answers (first ++ "row=11011\nrow=00101\nrow=10100\nrow=00101\nrow=10103\n") "refusal=8\n"
+  -- 3, 10, 6, 7: the operation's own
   pub long-payload : Answers (first ++ "payload=a5a5\n") "refusal=3\n"
+  pub many-erasures : Answers (first ++ "row=22222\nrow=20101\nrow=10100\nrow=00122\nrow=10102\n") "refusal=10\n"
   pub out-of-reach : Answers "columns=2\nrows=1\nplanes=1\nstrength=1\nrow=11\n" "refusal=6\n"
   pub wrong-padding : Answers "columns=3\nrows=1\nplanes=1\nstrength=1\nrow=111\n" "refusal=7\n"
+  -- the first of two classes, 2 0 1, may stand for no codeword, and the second has three erasures: 10 comes before 6
+  pub erasures-first : Answers "columns=6\nrows=1\nplanes=1\nstrength=2\nrow=220212\n" "refusal=10\n"
+  pub erased-out-of-reach : Answers "columns=6\nrows=1\nplanes=1\nstrength=2\nrow=200010\n" "refusal=6\n"

@@ -15,8 +15,8 @@ use Rattle.card.specs.Parse.{headerOf, payloadOk, payloadOf}
 use Rattle.card.specs.Program.{isPayload, rowsFit, cellsIn}
 use Rattle.card.specs.Form.{HeaderFirst}
 
--- Theorem. For every card's header, every payload of the plan's length and every field of 0s and 1s: its text has fewer than
--- 65,536 bytes and parses back to it.
+-- Theorem. For every card's header, every payload of the plan's length and every field of cells and erasures: its text has fewer
+-- than 65,536 bytes and parses back to it.
 pub record TextParses : Type 0 where
   pub payload-short : (h : Header)
       → CardHeader h

@@ -1,7 +1,8 @@
--- Card texts there and back: what is printed is read again, whole and damaged.
+-- Card texts there and back: what is printed is read again, whole, damaged and with erased cells.
 use Prim.Native.Nat.{ℕ}
 use mathlib.Core.Bool.{Bool, true}
 use mathlib.Core.List.{List, _++_}
+use mathlib.Core.Logic.{_⊎_}
 use mathlib.Core.Path.{_≡_}
 use lib.ListN.{length}
 use Rattle.lattice.specs.Shape.{cellsOf}
@@ -11,7 +12,7 @@ use Rattle.codec.specs.Field.{fieldOf, differences}
 use Rattle.codec.specs.Payload.{Bytes}
 use Rattle.codec.specs.Plan.{planClasses, planBytes}
 use Rattle.codec.specs.Encode.{encodedField}
-use Rattle.codec.specs.Damage.{damagedField}
+use Rattle.codec.specs.Damage.{damagedField, erasedField, selectedCells}
 use Rattle.card.specs.declared.header.Header.{Header}
 use Rattle.card.specs.Text.{headerText, numberLine, payloadText, classesKey, mendedKey}
 use Rattle.card.specs.Card.{shapeOf, CardHeader, payloadCard, fieldCard}
@@ -37,3 +38,14 @@ pub record PrintedIsRead : Type 1 where
       ++ (numberLine mendedKey
       (differences (fieldOf (encodedField (shapeOf h) p)) (fieldOf (damagedField (shapeOf h) p selected)) (cellsOf (shapeOf h)))
       ++ payloadText p)
+
+-- Theorem. With any cells of any two clusters of at most t cells each printed as 2, and all others as they were written, `mended`
+-- is the number of those cells and the payload is the same.
+abbrev pub ErasedIsRead : Type 1
+ErasedIsRead =
+    (h : Header) → CardHeader h → (p : List ℕ) → length p ≡ planBytes (shapeOf h) → Bytes p
+    → (S T : Cell → Type 0) → Cluster (shapeOf h) S → AtMost (h .numbers .strength) S
+    → Cluster (shapeOf h) T → AtMost (h .numbers .strength) T
+    → (selected : Cell → Bool) → ((x : Cell) → selected x ≡ true → S x ⊎ T x)
+    → answer (fieldCard h (erasedField (shapeOf h) p selected))
+    ≡ headerText h ++ (numberLine mendedKey (selectedCells (shapeOf h) selected) ++ payloadText p)
