@@ -1,5 +1,6 @@
 // The cases on which the two implementations are compared: shapes, payloads and fields, by a fixed generator.
 pub(crate) mod damage;
+pub(crate) mod erasures;
 pub(crate) mod fields;
 pub(crate) mod numbers;
 pub(crate) mod random;

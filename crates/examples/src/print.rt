@@ -46,11 +46,17 @@ pub(crate) const WHOLE_CARD: usize = 25;
 
 pub(crate) const DAMAGED_CARD: usize = 26;
 
-pub(crate) const BEYOND_THE_CLASS: usize = 27;
+pub(crate) const TWO_CLUSTERS: usize = 27;
 
-pub(crate) const LAST_CLASS: usize = 28;
+pub(crate) const AND_FIRST_ROW: usize = 28;
 
-pub(crate) const BYTE_ORDER: usize = 29;
+pub(crate) const FIRST_ROW: usize = 29;
+
+pub(crate) const BEYOND_THE_CLASS: usize = 30;
+
+pub(crate) const LAST_CLASS: usize = 31;
+
+pub(crate) const BYTE_ORDER: usize = 32;
 
 // A letter of a form, or number k. Gives which number is next.
 fn letter(letter: u8, numbers: Figures, k: usize) -> usize
@@ -92,6 +98,9 @@ pub(crate) fn say(form: usize, numbers: Figures) {
         , row #, plane #, column #: |class #|count #|payload a5 on a card: written| |#|\
         , payload %; mended |, rows|that card: read |\
         that card with third row 10010 and fourth 00001: read |\
+        that card with two clusters of three cells unread: read |\
+        that card with its first row unread too: read |\
+        that card with its first row unread alone: read |\
         that card with cells 2 and 4 of class 0 turned over: read |\
         that card with cells 2 and 4 of class 4 turned over: read |\
         a card with cells 1, 2 and 3 of class 0 alone: read ",

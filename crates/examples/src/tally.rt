@@ -23,12 +23,12 @@ pub(crate) const MEND: usize = 5;
 
 pub(crate) const GAUGE: usize = 6;
 
-// Of each operation: how often it was compared, how often it gave each number from 0 to 9, and how often it differed.
-const ROW: usize = 12;
+// Of each operation: how often it was compared, how often it gave each number from 0 to 10, and how often it differed.
+const ROW: usize = 13;
 
-const NUMBERS: usize = 10;
+const NUMBERS: usize = 11;
 
-const DIFFERENCES: usize = 11;
+const DIFFERENCES: usize = 12;
 
 pub(crate) const ENTRIES: usize = 7 * ROW;
 
@@ -36,7 +36,7 @@ pub(crate) type Tally = [usize; ENTRIES];
 
 // Where a number is counted: one that no operation may give is a difference.
 fn of_number(number: usize) -> usize
-    ensures { λ r. ⌜ r < 12 ⌝ }
+    ensures { λ r. ⌜ r < 13 ⌝ }
 {
     if number < NUMBERS {
         1 + number
@@ -46,7 +46,7 @@ fn of_number(number: usize) -> usize
 }
 
 fn add(tally: Tally, operation: usize, entry: usize) -> Tally
-    requires { ⌜ (operation < 7) × (entry < 12) ⌝ }
+    requires { ⌜ (operation < 7) × (entry < 13) ⌝ }
 {
     let mut counts = tally;
     let at = operation * ROW + entry;

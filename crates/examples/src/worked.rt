@@ -1,4 +1,6 @@
-// The worked examples of document 01 that are not proved, and a case for each error that it lists. A line each.
+// The worked examples of document 01 that are not proved, a case for each error that it lists, and the cards of document 02 that
+// have unread cells. A line each.
+use crate::cases::damage::erased;
 use crate::cases::damage::turned;
 use crate::cases::shapes::shape_of;
 use crate::given;
@@ -105,7 +107,22 @@ pub(crate) fn run() {
         print::DAMAGED_CARD,
         turned(turned(turned(card, 12), 13), 17),
     );
+    erasures(card);
     errors(card);
+}
+
+// The first row of a card erased.
+fn without_first_row(card: Buffer) -> Buffer {
+    erased(erased(erased(erased(erased(card, 0), 1), 2), 3), 4)
+}
+
+// Two clusters of three cells erased, the first row erased as well, and the first row alone.
+fn erasures(card: Buffer) {
+    let one = erased(erased(erased(card, 0), 1), 5);
+    let two = erased(erased(erased(one, 18), 19), 24);
+    read_and_mend(print::TWO_CLUSTERS, two);
+    read_and_mend(print::AND_FIRST_ROW, without_first_row(two));
+    read_and_mend(print::FIRST_ROW, without_first_row(card));
 }
 
 // A case for each error.

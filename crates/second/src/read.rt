@@ -1,4 +1,5 @@
-// Reading and mending: class by class, the lawful class that differs in at most one cell, by search.
+// Reading and mending, by search: class by class, the lawful class that agrees with every cell that was read, where some cells
+// are unread, and else the lawful class that differs in at most one cell.
 ghost use Prim.Native.Nat.{_≤_};
 ghost use lib.ListN.{getD};
 use crate::answer;
@@ -14,12 +15,18 @@ use crate::settings;
 use crate::write;
 use lattice::shape::Shape;
 
-// Whether one of the first `cells` bytes of a field is not 0 or 1.
+// The value of an unread cell.
+const UNREAD: u8 = 2;
+
+// The most unread cells of a class that is read.
+const MOST_UNREAD: usize = 2;
+
+// Whether one of the first `cells` bytes of a field is not 0, 1 or 2.
 fn is_soiled(cells: usize, field: Buffer) -> bool {
     let mut i = 0;
     while i < CELLS {
         if i < cells {
-            if 1 < field[i] {
+            if UNREAD < field[i] {
                 return true;
             }
         }
@@ -47,29 +54,125 @@ fn culprit(layout: Layout, a: u16, field: Buffer) -> usize {
     OUT_OF_REACH
 }
 
-// Turns over, class by class, the cell that makes the class lawful, where the class is not. The figure: how many there are. The
-// number is 6 where a class is out of reach.
+// How many cells of class a are unread.
+fn unread(layout: Layout, a: u16, field: Buffer) -> usize {
+    let mut n = 0;
+    let mut i = 0;
+    while i < CELLS {
+        if layout[i] % CHECK == a {
+            if field[i] == UNREAD {
+                n += 1;
+            }
+        }
+        i += 1;
+    }
+    n
+}
+
+// Whether one of m classes has too many unread cells.
+fn too_many_unread(layout: Layout, m: u16, field: Buffer) -> bool
+    requires { ⌜ m ≤ 512 ⌝ }
+{
+    let mut a = 0;
+    while a < m {
+        if MOST_UNREAD < unread(layout, a, field) {
+            return true;
+        }
+        a += 1;
+    }
+    false
+}
+
+// A field whose unread cells of class a hold the binary digits of a number, the lowest first.
+fn filled(layout: Layout, a: u16, digits: u8, before: Buffer) -> Buffer {
+    let mut field = before;
+    let mut left = digits;
+    let mut i = 0;
+    while i < CELLS {
+        if layout[i] % CHECK == a {
+            if field[i] == UNREAD {
+                field[i] = left % 2;
+                left = left / 2;
+            }
+        }
+        i += 1;
+    }
+    field
+}
+
+// The fillings of two unread cells. Those of one are among them.
+const FILLINGS: u8 = 4;
+
+// Tries every filling of the unread cells of class a until the class is lawful. The number is 6 where no filling makes it so.
+fn fill(layout: Layout, a: u16, before: Buffer) -> Answer
+    ensures { λ r. ⌜ r .number ≤ 6 ⌝ }
+{
+    let mut digits = 0;
+    while digits < FILLINGS {
+        let field = filled(layout, a, digits, before);
+        if lawful(layout, a, field) {
+            return answer::leaving(0, field);
+        }
+        digits += 1;
+    }
+    answer::leaving(6, before)
+}
+
+// Fills the unread cells of class a, or, where it has none and is not lawful, turns over the cell that makes it so. The number is
+// 6 where the class is out of reach.
+fn mend_class(layout: Layout, a: u16, before: Buffer) -> Answer
+    ensures { λ r. ⌜ r .number ≤ 6 ⌝ }
+{
+    if unread(layout, a, before) != 0 {
+        return fill(layout, a, before);
+    }
+    if lawful(layout, a, before) {
+        return answer::leaving(0, before);
+    }
+    let j = culprit(layout, a, before);
+    if CELLS <= j {
+        return answer::leaving(6, before);
+    }
+    let mut field = before;
+    field[j] = field[j] ^ 1;
+    answer::leaving(0, field)
+}
+
+// In how many cells two fields differ.
+fn differences(one: Buffer, other: Buffer) -> usize
+    ensures { λ r. ⌜ r ≤ 512 ⌝ }
+{
+    let mut n = 0;
+    let mut i = 0;
+    while i < CELLS {
+        if one[i] != other[i] {
+            n += 1;
+        }
+        i += 1;
+    }
+    n
+}
+
+// Mends m classes, one after the other. The figure: in how many cells the field then differs. The number is 6 where a class is
+// out of reach.
 fn mend_classes(layout: Layout, m: u16, before: Buffer) -> Answer
     requires { ⌜ m ≤ 512 ⌝ }
     ensures { λ r. ⌜ (r .number ≤ 6) × (getD (r .figures) 0 0 ≤ 512) ⌝ }
 {
     let mut field = before;
-    let mut count = 0;
     let mut a = 0;
     while a < m {
-        if !lawful(layout, a, field) {
-            let j = culprit(layout, a, field);
-            if CELLS <= j {
-                return answer::leaving(6, before);
-            }
-            field[j] = field[j] ^ 1;
-            count += 1;
+        let mended = mend_class(layout, a, field);
+        if mended.number != 0 {
+            return answer::leaving(mended.number, before);
         }
+        let other = mended.buffer;
+        field = other;
         a += 1;
     }
     Answer {
         number: 0,
-        figures: [count, 0, 0, 0, 0],
+        figures: [differences(before, field), 0, 0, 0, 0],
         buffer: field,
     }
 }
@@ -93,7 +196,7 @@ fn spelt(layout: Layout, field: Buffer) -> Buffer {
 
 // Mends the first `cells` of a field; there is no payload, and none is asked for. The figure: the count.
 pub fn mend(shape: Shape, field: Buffer, cells: usize) -> Answer
-    ensures { λ r. ⌜ (r .number ≤ 7) × (getD (r .figures) 0 0 ≤ 512) ⌝ }
+    ensures { λ r. ⌜ (r .number ≤ 10) × (getD (r .figures) 0 0 ≤ 512) ⌝ }
 {
     let number = write::refusal(shape, 0, 0, cells);
     if number != 0 {
@@ -103,7 +206,11 @@ pub fn mend(shape: Shape, field: Buffer, cells: usize) -> Answer
         return answer::leaving(5, field);
     }
     let layout = lay_out(shape).layout;
-    let found = mend_classes(layout, settings::settings_of(shape).m, field);
+    let m = settings::settings_of(shape).m;
+    if too_many_unread(layout, m, field) {
+        return answer::leaving(10, field);
+    }
+    let found = mend_classes(layout, m, field);
     let mended = found.buffer;
     if spelt(layout, mended)[CELLS - 1] != 0 {
         if found.number == 0 {
@@ -128,7 +235,7 @@ fn joined(start: Buffer, length: usize, rest: Buffer) -> Buffer {
 
 // Reads the first `cells` of a field into the first `bytes` of a payload. The figure: the count.
 pub fn read(shape: Shape, payload: Buffer, bytes: usize, field: Buffer, cells: usize) -> Answer
-    ensures { λ r. ⌜ r .number ≤ 7 ⌝ }
+    ensures { λ r. ⌜ r .number ≤ 10 ⌝ }
 {
     let laid = lay_out(shape);
     let number = write::refusal(shape, laid.capacity / 8, bytes, cells);

@@ -14,6 +14,25 @@ pub(crate) fn turned(before: Buffer, i: usize) -> Buffer
     field
 }
 
+// A field with cell i erased: not read.
+pub(crate) fn erased(before: Buffer, i: usize) -> Buffer
+    requires { ⌜ i < 512 ⌝ }
+{
+    let mut field = before;
+    field[i] = 2;
+    field
+}
+
+// A field with cell i erased or turned over.
+fn struck(before: Buffer, i: usize, erase: bool) -> Buffer
+    requires { ⌜ i < 512 ⌝ }
+{
+    if erase {
+        return erased(before, i);
+    }
+    turned(before, i)
+}
+
 // The cell that is `by` bytes after cell i, where there is one and `open` says that it is joined to i; else i.
 fn ahead(i: usize, by: usize, open: bool, cells: usize) -> usize
     requires { ⌜ (i < cells) × (cells ≤ 512) ⌝ }
@@ -40,7 +59,7 @@ fn back(i: usize, by: usize, open: bool) -> usize
 }
 
 // A cell that is joined to cell i: one of at most six, by `way`; i itself where the field ends that way.
-fn joined(shape: Shape, cells: usize, i: usize, way: usize) -> usize
+pub(crate) fn joined(shape: Shape, cells: usize, i: usize, way: usize) -> usize
     requires { ⌜ (i < cells) × (cells ≤ 512) ⌝ }
     ensures { λ r. ⌜ r < cells ⌝ }
 {
@@ -66,19 +85,27 @@ fn joined(shape: Shape, cells: usize, i: usize, way: usize) -> usize
     }
 }
 
-// Turns over a cluster of at most `size` cells: those of a walk from joined cell to joined cell.
-fn cluster(shape: Shape, cells: usize, size: u16, x: u64, before: Buffer) -> Buffer
-    requires { ⌜ (0 < cells) × (cells ≤ 512) ⌝ }
+// Erases or turns over a cluster of at most `size` cells: those of a walk from joined cell to joined cell that starts at `start`.
+pub(crate) fn cluster_at(
+    shape: Shape,
+    cells: usize,
+    start: usize,
+    size: u16,
+    erase: bool,
+    x: u64,
+    before: Buffer,
+) -> Buffer
+    requires { ⌜ (start < cells) × (cells ≤ 512) ⌝ }
 {
     let mut field = before;
     let mut walked = [false; CELLS];
     let mut state = x;
-    let mut i = random::below(x, cells);
+    let mut i = start;
     let mut step = 0;
     while step < size {
         if !walked[i] {
             walked[i] = true;
-            let other = turned(field, i);
+            let other = struck(field, i, erase);
             field = other;
         }
         state = random::next(state);
@@ -88,8 +115,23 @@ fn cluster(shape: Shape, cells: usize, size: u16, x: u64, before: Buffer) -> Buf
     field
 }
 
+// Turns over a cluster of at most `size` cells, wherever it lies.
+pub(crate) fn cluster(shape: Shape, cells: usize, size: u16, x: u64, before: Buffer) -> Buffer
+    requires { ⌜ (0 < cells) × (cells ≤ 512) ⌝ }
+{
+    cluster_at(
+        shape,
+        cells,
+        random::below(x, cells),
+        size,
+        false,
+        x,
+        before,
+    )
+}
+
 // Turns over `count` cells, wherever they lie.
-fn scatter(cells: usize, count: usize, x: u64, before: Buffer) -> Buffer
+pub(crate) fn scatter(cells: usize, count: usize, x: u64, before: Buffer) -> Buffer
     requires { ⌜ (0 < cells) × (cells ≤ 512) ⌝ }
 {
     let mut field = before;
@@ -104,16 +146,16 @@ fn scatter(cells: usize, count: usize, x: u64, before: Buffer) -> Buffer
     field
 }
 
-// Puts a byte above 1 into some cell.
-fn soil(cells: usize, x: u64, before: Buffer) -> Buffer
+// Puts a byte above 2 into some cell.
+pub(crate) fn soil(cells: usize, x: u64, before: Buffer) -> Buffer
     requires { ⌜ (0 < cells) × (cells ≤ 512) ⌝ }
 {
     let mut field = before;
-    field[random::below(x, cells)] = 2 + random::below(random::next(x), 254) as u8;
+    field[random::below(x, cells)] = 3 + random::below(random::next(x), 253) as u8;
     field
 }
 
-// The damage of a way: none, within the strength, beyond it, scattered, a cell above 1, or all cells by chance.
+// The damage of a way: none, within the strength, beyond it, scattered, a cell above 2, or all cells by chance.
 pub(crate) fn damage(shape: Shape, cells: usize, way: usize, x: u64, before: Buffer) -> Buffer
     requires { ⌜ (0 < cells) × (cells ≤ 512) ⌝ }
 {

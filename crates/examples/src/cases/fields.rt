@@ -1,6 +1,7 @@
 // The cases of one shape: its plan, the classes of some cells, and fields that are written, damaged, read and mended.
 ghost use Prim.Native.Nat.{_<_, _≤_};
 use crate::cases::damage;
+use crate::cases::erasures;
 use crate::cases::random;
 use crate::cases::shapes;
 use crate::given;
@@ -8,6 +9,7 @@ use crate::tally;
 use crate::tally::Tally;
 use lattice::shape::Shape;
 use second::answer::Answer;
+use second::answer::Buffer;
 use second::answer::CELLS;
 
 // The length of the lent field in a case: the plan's, or another one.
@@ -29,12 +31,12 @@ fn payload_length(case: usize, bytes: usize) -> usize
 {
     match case {
         12 => (bytes + 1) % (CELLS + 1),
-        13 => if 0 < bytes { bytes - 1 } else { 3 },
+        13 | 28 => if 0 < bytes { bytes - 1 } else { 3 },
         _ => bytes,
     }
 }
 
-// How a case's field is damaged.
+// How a case's field is damaged, where no cell is erased.
 fn way(case: usize) -> usize {
     match case {
         8 => 0,
@@ -47,6 +49,27 @@ fn way(case: usize) -> usize {
     }
 }
 
+// What the cells past the payload hold in a case: 0, but for those with wrong filler.
+fn filler(case: usize) -> u8 {
+    match case {
+        8 | 9 | 21 => 1,
+        _ => 0,
+    }
+}
+
+// The first case with erased cells.
+const ERASURES: usize = 14;
+
+// The field of a case, damaged.
+fn damaged(shape: Shape, cells: usize, case: usize, x: u64, written: Buffer) -> Buffer
+    requires { ⌜ (0 < cells) × (cells ≤ 512) ⌝ }
+{
+    if case < ERASURES {
+        return damage::damage(shape, cells, way(case), x, written);
+    }
+    erasures::erase(shape, cells, case - ERASURES, x, written)
+}
+
 // Part v of the cases of shape k: a payload is written, and a field, written and damaged, is read and mended.
 fn case(tally: Tally, shape: Shape, cells: usize, bytes: usize, k: usize, v: usize) -> Tally
     requires { ⌜ (0 < cells) × (cells ≤ 512) × (bytes ≤ 512) ⌝ }
@@ -54,10 +77,8 @@ fn case(tally: Tally, shape: Shape, cells: usize, bytes: usize, k: usize, v: usi
     let x = random::seed(k, v);
     let payload = random::buffer(x, 256);
     let before = random::buffer(random::next(x), 256);
-    // The cells past the payload are 0, but for the two parts with wrong filler.
-    let filler = if v / 2 == 4 { 1 } else { 0 };
-    let written = second::write::write(shape, payload, bytes, filler, before, cells).buffer;
-    let field = damage::damage(shape, cells, way(v), x, written);
+    let written = second::write::write(shape, payload, bytes, filler(v), before, cells).buffer;
+    let field = damaged(shape, cells, v, x, written);
     let m = field_length(v, cells);
     let n = payload_length(v, bytes);
     let given = given::encode(shape, payload, n, before, m);
@@ -108,7 +129,7 @@ fn some_class(tally: Tally, shape: Shape, x: u64, k: usize) -> Tally {
 // How many cells of a shape have their classes compared, and how often a field of a shape is written, read and mended.
 const CLASSES: usize = 12;
 
-const CASES: usize = 14;
+const CASES: usize = ERASURES + 15;
 
 fn cases(before: Tally, shape: Shape, cells: usize, bytes: usize, k: usize) -> Tally
     requires { ⌜ (0 < cells) × (cells ≤ 512) × (bytes ≤ 512) ⌝ }
