@@ -4,8 +4,9 @@
  * at the repository's root; it needs the C library's memset and nothing else. Header and archive must be of one version.
  *
  * A shape is four numbers: columns W and rows H from 1 to 256, planes D from 1 to 16, W * H * D at most 65,536, and the strength t, 1 to
- * 32 where D is 1 and 1 to 8 where D is above. A field is W * H * D bytes, one for each cell, 0 for white and 1 for black; the cell
- * (row, plane, column) is byte (plane * H + row) * W + column. A payload has the number of bytes that varmintfoil_plan gives.
+ * 32 where D is 1 and 1 to 8 where D is above. A field is W * H * D bytes, one for each cell, 0 for white and 1 for black; a cell of a
+ * field that is decoded or corrected may be erased, 2, a cell that was not read. The cell (row, plane, column) is byte
+ * (plane * H + row) * W + column. A payload has the number of bytes that varmintfoil_plan gives.
  *
  * Every function takes any numbers at all. It answers the number VARMINTFOIL_OK for success, or the number of the first refusal that
  * applies, in the order in which they are listed with it. On a refusal every other figure of the answer is 0 and no byte of any lent
@@ -30,16 +31,20 @@
 #define VARMINTFOIL_VERSION "0.2.0"
 
 /* The numbers that the functions give. The card program gives 8 besides, for a fault of form. */
-#define VARMINTFOIL_OK 0             /* success */
-#define VARMINTFOIL_BAD_SIZE 1       /* W, H, D or their product outside the limits */
-#define VARMINTFOIL_BAD_STRENGTH 2   /* a strength outside the limits */
-#define VARMINTFOIL_PAYLOAD_LENGTH 3 /* a payload length that is not the plan's */
-#define VARMINTFOIL_FIELD_LENGTH 4   /* a field length that is not the plan's */
-#define VARMINTFOIL_OUTSIDE_SHAPE 4  /* a row, plane or column outside the shape, in varmintfoil_class */
-#define VARMINTFOIL_BAD_CELL 5       /* a cell above 1 */
-#define VARMINTFOIL_OUT_OF_REACH 6   /* some class that no change of at most one of its cells makes a codeword */
-#define VARMINTFOIL_BAD_PADDING 7    /* padding, the cells after the payload's last bit, that is not 0 after correction */
-#define VARMINTFOIL_BAD_SETTINGS 9   /* settings of the distance test outside its limits */
+#define VARMINTFOIL_OK 0                 /* success */
+#define VARMINTFOIL_BAD_SIZE 1           /* W, H, D or their product outside the limits */
+#define VARMINTFOIL_BAD_STRENGTH 2       /* a strength outside the limits */
+#define VARMINTFOIL_PAYLOAD_LENGTH 3     /* a payload length that is not the plan's */
+#define VARMINTFOIL_FIELD_LENGTH 4       /* a field length that is not the plan's */
+#define VARMINTFOIL_OUTSIDE_SHAPE 4      /* a row, plane or column outside the shape, in varmintfoil_class */
+#define VARMINTFOIL_BAD_CELL 5           /* a cell above 2 */
+#define VARMINTFOIL_OUT_OF_REACH 6       /* some class that stands for no codeword, in the words of varmintfoil_decode */
+#define VARMINTFOIL_BAD_PADDING 7        /* padding, the cells after the payload's last bit, that is not 0 after correction */
+#define VARMINTFOIL_BAD_SETTINGS 9       /* settings of the distance test outside its limits */
+#define VARMINTFOIL_TOO_MANY_ERASURES 10 /* some class with three erased cells or more */
+
+/* The value of an erased cell. */
+#define VARMINTFOIL_ERASED 2
 
 /* The most that any accepted shape has, for buffers of a fixed size. */
 #define VARMINTFOIL_MAX_CELLS 65536        /* cells, the bytes of a field */
@@ -99,7 +104,7 @@ typedef struct {
 
 typedef struct {
     size_t number; /* 0, or the refusal */
-    size_t count;  /* the number of cells that correction flips */
+    size_t count;  /* the number of cells that correction changes, erased ones among them */
 } varmintfoil_count_t;
 
 typedef struct {
@@ -122,14 +127,15 @@ VARMINTFOIL_NODISCARD varmintfoil_class_t varmintfoil_class(varmintfoil_shape_t 
 VARMINTFOIL_NODISCARD size_t varmintfoil_encode(varmintfoil_shape_t shape, const uint8_t *payload, size_t payload_len, uint8_t *field,
                                                 size_t field_len);
 
-/* Reads a field: fills the payload from the one field of codewords that differs in at most one cell of each class, and counts the cells
- * where it differs. Where the damage took two or more cells of one class, that field need not be the one that was written. What the
- * payload held before does not matter. Refusals: 1, 2, 3, 4, 5, 6, 7. */
+/* Reads a field: fills the payload from the field of codewords that it stands for, and counts the cells where it differs from that. A
+ * class with one or two cells erased stands for the one codeword that agrees with every cell that was read, and any other for the one
+ * that differs in at most one cell. Where the damage took two or more cells of one class, that codeword need not be the one that was
+ * written, save where all of them are erased. What the payload held before does not matter. Refusals: 1, 2, 3, 4, 5, 10, 6, 7. */
 VARMINTFOIL_NODISCARD varmintfoil_count_t varmintfoil_decode(varmintfoil_shape_t shape, uint8_t *payload, size_t payload_len,
                                                              const uint8_t *field, size_t field_len);
 
-/* Corrects a field where it lies: leaves the one field of codewords that differs in at most one cell of each class, and counts the cells
- * that it changed; of damage to two or more cells of one class the same holds. Refusals: 1, 2, 4, 5, 6, 7. */
+/* Corrects a field where it lies: leaves the field of codewords that it stands for, in which no cell is erased, and counts the cells
+ * that it changed; of damage to two or more cells of one class the same holds. Refusals: 1, 2, 4, 5, 10, 6, 7. */
 VARMINTFOIL_NODISCARD varmintfoil_count_t varmintfoil_correct(varmintfoil_shape_t shape, uint8_t *field, size_t field_len);
 
 /* Are all different cells of one class, (column - b * row - c * plane) mod m, at least t apart in an endless stack? Tries the difference

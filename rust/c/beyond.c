@@ -23,7 +23,10 @@ static size_t distance(varmintfoil_shape_t shape, size_t one, size_t other) {
  * read, `after` as varmintfoil_correct left it.
  *
  * Where it was, the cells that varmintfoil_correct flips are at most t, and any two of them are less than t apart. Where they are not,
- * the damage was beyond the promise, and the payload may be another one. */
+ * the damage was beyond the promise, and the payload may be another one.
+ *
+ * The test is for fields without erased cells. Each of these that is filled counts as flipped, so that two holes of them, which are
+ * within the promise, are told as beyond it. */
 static bool within_promise(varmintfoil_shape_t shape, const uint8_t *before, const uint8_t *after) {
     size_t flipped[MAX_STRENGTH], count = 0;
     for (size_t cell = 0; cell < shape.columns * shape.rows * shape.planes; cell++) {

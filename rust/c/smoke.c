@@ -80,10 +80,29 @@ static void the_card(void) {
     expect(count.number == VARMINTFOIL_OK && count.count == 3, "the damaged card is corrected in 3 cells");
     expect(memcmp(field, written, 25) == 0, "the corrected card is the written one");
 
-    field[7] = 2;
+    field[7] = 3;
     payload[0] = 0x3c;
     count = varmintfoil_decode(card, payload, 1, field, 25);
-    expect(count.number == VARMINTFOIL_BAD_CELL && count.count == 0 && payload[0] == 0x3c, "2 is no cell");
+    expect(count.number == VARMINTFOIL_BAD_CELL && count.count == 0 && payload[0] == 0x3c, "3 is no cell");
+}
+
+static void the_erased_cells(void) {
+    uint8_t payload[1] = {0x3c};
+    uint8_t field[25];
+    varmintfoil_count_t count;
+
+    memcpy(field, written, 25);
+    memset(field, VARMINTFOIL_ERASED, 5);
+    count = varmintfoil_decode(card, payload, 1, field, 25);
+    expect(count.number == VARMINTFOIL_OK && count.count == 5 && payload[0] == 0xa5, "the card without its first row reads a5");
+    count = varmintfoil_correct(card, field, 25);
+    expect(count.number == VARMINTFOIL_OK && count.count == 5, "its first row is filled");
+    expect(memcmp(field, written, 25) == 0, "the filled card is the written one");
+
+    memset(field, VARMINTFOIL_ERASED, 15);
+    payload[0] = 0x3c;
+    count = varmintfoil_decode(card, payload, 1, field, 25);
+    expect(count.number == VARMINTFOIL_TOO_MANY_ERASURES && count.count == 0 && payload[0] == 0x3c, "three rows are too many");
 }
 
 static void the_padding(void) {
@@ -120,6 +139,7 @@ int main(void) {
     the_limits();
     the_classes();
     the_card();
+    the_erased_cells();
     the_padding();
     no_bytes();
     the_distance_test();

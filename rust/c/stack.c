@@ -1,5 +1,6 @@
 /* How much stack each function takes: it is run on a stack painted with one byte, and the lowest byte that changed is looked for. All
- * bytes below the caller's own count, arguments in memory and the return address among them; printed is the most over some shapes. */
+ * bytes below the caller's own count, arguments in memory and the return address among them; printed is the most over some shapes,
+ * each with a cell flipped and with one erased. */
 #include "varmintfoil.h"
 
 #include <stdio.h>
@@ -89,12 +90,12 @@ static const varmintfoil_shape_t shapes[] = {
 int main(void) {
     for (size_t i = 0; i < sizeof calls / sizeof *calls; i++) {
         size_t most = 0;
-        for (size_t j = 0; j < sizeof shapes / sizeof *shapes; j++) {
+        for (size_t j = 0; j < 2 * (sizeof shapes / sizeof *shapes); j++) {
             size_t now;
-            shape = shapes[j];
+            shape = shapes[j / 2];
             plan();
             encode();
-            field[0] ^= 1;
+            field[0] = j % 2 == 0 ? field[0] ^ 1 : VARMINTFOIL_ERASED;
             now = taken(calls[i].call);
             if (now == 0) {
                 printf("varmintfoil_%s refused a shape with %zu\n", calls[i].name, number);

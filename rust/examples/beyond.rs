@@ -6,6 +6,9 @@ use varmintfoil::{correct, decode, encode, Refusal, Shape};
 ///
 /// Where it was, the cells that `correct` flips are at most t, and any two of them are less than t apart: the sum of the absolute
 /// differences of row, plane and column. Where they are not, the damage was beyond the promise, and the payload may be another one.
+///
+/// The test is for fields without erased cells. Each of these that is filled counts as flipped, so that two holes of them, which are
+/// within the promise, are told as beyond it.
 pub fn within_promise(shape: &Shape, before: &[u8], after: &[u8]) -> bool {
     let (columns, rows, strength) = (shape.columns(), shape.rows(), shape.strength());
     let flipped: Vec<usize> = (0..shape.cells()).filter(|&cell| before[cell] != after[cell]).collect();

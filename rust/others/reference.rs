@@ -1,7 +1,8 @@
-//! The reference implementation: document 01, sentence by sentence, in plain Rust.
+//! The reference implementation: document 01, sentence by sentence, and the erased (unread) cells of document 02, in plain Rust.
 //!
 //! It is written to be read and to be compared with, not to be fast. A class is corrected by search, not by its syndrome: the class
-//! as it is and with each one cell flipped is tried, and the codeword among them is taken. A refusal is the number that the document lists.
+//! as it is and with each one cell flipped is tried, and the codeword among them is taken. Where cells of a class are erased, both
+//! values of each are tried, and no other cell is flipped. A refusal is the number that the documents list.
 
 #![deny(unsafe_code)]
 // Who includes this file may call a part of it.
@@ -9,6 +10,9 @@
 
 /// The number of a refusal.
 pub type Number = usize;
+
+/// An erased cell: one that was not read.
+pub const ERASED: u8 = 2;
 
 /// What `plan` gives: m, K, payload bytes and cells.
 #[derive(Clone, Copy, Debug, PartialEq, Eq)]
@@ -160,6 +164,32 @@ pub fn codeword_in_reach(class: &[u8]) -> Option<Vec<u8>> {
     None
 }
 
+/// The number of erased cells of a class.
+pub fn erasures(class: &[u8]) -> usize {
+    class.iter().filter(|&&cell| cell == ERASED).count()
+}
+
+/// The codeword that agrees with every cell that was read, if there is one: both values of each erased cell are tried.
+pub fn codeword_filled(class: &[u8]) -> Option<Vec<u8>> {
+    let Some(place) = class.iter().position(|&cell| cell == ERASED) else {
+        return is_codeword(class).then(|| class.to_vec());
+    };
+    let mut tried = class.to_vec();
+    [0, 1].into_iter().find_map(|value| {
+        tried[place] = value;
+        codeword_filled(&tried)
+    })
+}
+
+/// The codeword that a class stands for, if there is one. Where cells are erased, nothing is corrected.
+pub fn codeword_of(class: &[u8]) -> Option<Vec<u8>> {
+    if erasures(class) > 0 {
+        codeword_filled(class)
+    } else {
+        codeword_in_reach(class)
+    }
+}
+
 /// Fills the check cells of a class. Of the checks only the one at position 2^i counts in bit i, so each evens out the 1 cells of the
 /// positions with that bit.
 pub fn fill_checks(class: &mut [u8]) {
@@ -221,12 +251,12 @@ fn bytes_of(bits: &[u8]) -> Vec<u8> {
     bits.chunks_exact(8).map(|eight| eight.iter().fold(0, |byte, &bit| byte * 2 + bit)).collect()
 }
 
-/// The field of codewords that differs in at most one cell of each class, if there is one.
-fn corrected_field(shape: &Shape, field: &[u8]) -> Option<Vec<u8>> {
+/// The field of the codewords that the classes stand for, if each stands for one.
+fn corrected_field(classes: &[Vec<usize>], field: &[u8]) -> Option<Vec<u8>> {
     let mut corrected = field.to_vec();
-    for class in classes(shape) {
-        let values = codeword_in_reach(&take_class(field, &class))?;
-        put_class(&mut corrected, &class, &values);
+    for class in classes {
+        let values = codeword_of(&take_class(field, class))?;
+        put_class(&mut corrected, class, &values);
     }
     Some(corrected)
 }
@@ -269,12 +299,16 @@ pub fn encode(w: usize, h: usize, d: usize, t: usize, payload: &[u8], field: &mu
     Ok(())
 }
 
-/// The field of codewords in reach, its padding (filler) tested, and its payload: 5, 6, 7.
+/// The field of codewords in reach, its padding (filler) tested, and its payload: 5, 10, 6, 7.
 fn restore(shape: &Shape, field: &[u8]) -> Result<(Vec<u8>, Vec<u8>), Number> {
-    if field.iter().any(|&cell| cell > 1) {
+    if field.iter().any(|&cell| cell > ERASED) {
         return Err(5);
     }
-    let corrected = corrected_field(shape, field).ok_or(6usize)?;
+    let classes = classes(shape);
+    if classes.iter().any(|class| erasures(&take_class(field, class)) >= 3) {
+        return Err(10);
+    }
+    let corrected = corrected_field(&classes, field).ok_or(6usize)?;
     let bits = take_class(&corrected, &data_cells(shape));
     let (payload, padding) = bits.split_at(bits.len() / 8 * 8);
     if padding.iter().any(|&cell| cell != 0) {
@@ -284,7 +318,7 @@ fn restore(shape: &Shape, field: &[u8]) -> Result<(Vec<u8>, Vec<u8>), Number> {
     Ok((corrected, payload))
 }
 
-/// Decode (read): fills the payload and gives the count of cells where the corrected field differs; 1, 2, 3, 4, 5, 6, 7.
+/// Decode (read): fills the payload and gives the count of cells where the corrected field differs; 1, 2, 3, 4, 5, 10, 6, 7.
 pub fn decode(w: usize, h: usize, d: usize, t: usize, payload: &mut [u8], field: &[u8]) -> Result<usize, Number> {
     let plan = plan(w, h, d, t)?;
     if payload.len() != plan.bytes {
@@ -298,7 +332,7 @@ pub fn decode(w: usize, h: usize, d: usize, t: usize, payload: &mut [u8], field:
     Ok(differences(&corrected, field))
 }
 
-/// Correct (mend): leaves the corrected field in the lent one and gives the count of cells changed; 1, 2, 4, 5, 6, 7.
+/// Correct (mend): leaves the corrected field in the lent one and gives the count of cells changed; 1, 2, 4, 5, 10, 6, 7.
 pub fn correct(w: usize, h: usize, d: usize, t: usize, field: &mut [u8]) -> Result<usize, Number> {
     let plan = plan(w, h, d, t)?;
     if field.len() != plan.cells {
@@ -375,9 +409,9 @@ fn payload_bytes(value: &[u8]) -> Option<Vec<u8>> {
     value.chunks(2).map(|pair| Some(hexadecimal(pair[0])? * 16 + hexadecimal(pair[1])?)).collect()
 }
 
-/// W digits 0 or 1.
+/// W digits 0, 1 or, for an erased cell, 2.
 fn row_cells(value: &[u8], w: usize) -> Option<Vec<u8>> {
-    let form = value.len() == w && value.iter().all(|&digit| digit == b'0' || digit == b'1');
+    let form = value.len() == w && value.iter().all(|digit| (b'0'..=b'2').contains(digit));
     form.then(|| value.iter().map(|&digit| digit - b'0').collect())
 }
 

@@ -36,7 +36,7 @@ pub fn encode(
     result(answer.number(), ())
 }
 
-/// Decode (read): 1, 2, 3, 4, 5, 6, 7. Gives the number of cells corrected on the way.
+/// Decode (read): 1, 2, 3, 4, 5, 10, 6, 7. Gives the number of cells changed on the way.
 pub fn decode(
     columns: usize,
     rows: usize,
@@ -49,7 +49,7 @@ pub fn decode(
     result(answer.number(), answer.count())
 }
 
-/// Correct (mend) a field where it lies: 1, 2, 4, 5, 6, 7. Gives the number of cells changed.
+/// Correct (mend) a field where it lies: 1, 2, 4, 5, 10, 6, 7. Gives the number of cells changed.
 pub fn correct(columns: usize, rows: usize, planes: usize, strength: usize, field: &mut [u8]) -> Result<usize, usize> {
     let answer = operations::correct_in(ShapeNumbers { columns, rows, planes, strength }, field);
     result(answer.number(), answer.count())

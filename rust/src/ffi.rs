@@ -95,7 +95,7 @@ pub fn encode(shape: ShapeNumbers, payload: &[u8], field: &mut [u8]) -> usize {
     unsafe { varmintfoil_encode(shape, payload.as_ptr(), bytes, field.as_mut_ptr(), cells) }
 }
 
-/// Reads a field into a payload: 1, 2, 3, 4, 5, 6, 7.
+/// Reads a field into a payload: 1, 2, 3, 4, 5, 10, 6, 7.
 #[must_use]
 pub fn decode(shape: ShapeNumbers, payload: &mut [u8], field: &[u8]) -> CountAnswer {
     let (bytes, cells) = (payload.len(), field.len());
@@ -103,7 +103,7 @@ pub fn decode(shape: ShapeNumbers, payload: &mut [u8], field: &[u8]) -> CountAns
     unsafe { varmintfoil_decode(shape, payload.as_mut_ptr(), bytes, field.as_ptr(), cells) }
 }
 
-/// Corrects a field where it lies: 1, 2, 4, 5, 6, 7.
+/// Corrects a field where it lies: 1, 2, 4, 5, 10, 6, 7.
 #[must_use]
 pub fn correct(shape: ShapeNumbers, field: &mut [u8]) -> CountAnswer {
     // SAFETY: the slice is valid for its length.

@@ -25,8 +25,10 @@
 //! # Ok::<(), Refusal>(())
 //! ```
 //!
-//! Two holes of t cells are mostly not refused but read as another payload. The function `within_promise` of the example `beyond`
-//! tells most of them, from the field before and after `correct`.
+//! A cell that was not read is handed in as [`ERASED`]. Two holes of erased cells, of at most t connected cells each, are filled.
+//!
+//! Two holes of t flipped cells are mostly not refused but read as another payload. Where no cell is erased, the function
+//! `within_promise` of the example `beyond` tells most of them, from the field before and after `correct`.
 
 #![deny(unsafe_code)]
 
@@ -36,6 +38,9 @@ pub mod ffi;
 mod refusal;
 #[cfg(feature = "archive")]
 mod wrapper;
+
+/// An erased cell, in a field that is decoded or corrected: a cell that was not read.
+pub const ERASED: u8 = 2;
 
 pub use refusal::Refusal;
 #[cfg(feature = "archive")]

@@ -16,7 +16,7 @@ pub enum Refusal {
     FieldLength,
     /// 4: a row, plane or column outside the shape.
     OutsideShape,
-    /// 5: a cell above 1.
+    /// 5: a cell above 2.
     BadCell,
     /// 6: some class with no codeword in reach.
     OutOfReach,
@@ -26,6 +26,8 @@ pub enum Refusal {
     BadForm,
     /// 9: settings of the distance test outside its limits.
     BadSettings,
+    /// 10: some class with three erasures or more.
+    TooManyErasures,
 }
 
 impl Refusal {
@@ -41,6 +43,7 @@ impl Refusal {
             Refusal::BadPadding => 7,
             Refusal::BadForm => 8,
             Refusal::BadSettings => 9,
+            Refusal::TooManyErasures => 10,
         }
     }
 
@@ -56,6 +59,7 @@ impl Refusal {
             7 => Refusal::BadPadding,
             8 => Refusal::BadForm,
             9 => Refusal::BadSettings,
+            10 => Refusal::TooManyErasures,
             _ => return None,
         })
     }
@@ -73,11 +77,12 @@ impl fmt::Display for Refusal {
             Refusal::PayloadLength => "the payload's length is not the one that the plan gives",
             Refusal::FieldLength => "the field's length is not the shape's number of cells",
             Refusal::OutsideShape => "the row, plane or column lies outside the shape",
-            Refusal::BadCell => "a cell is neither 0 nor 1",
+            Refusal::BadCell => "a cell is above 2",
             Refusal::OutOfReach => "the field is damaged beyond correction: some class has no codeword in reach",
             Refusal::BadPadding => "the cells after the payload are not 0 after correction",
             Refusal::BadForm => "the card text is malformed or too large",
             Refusal::BadSettings => "the settings are outside the limits: m from 1 to 4,096, b and c below m",
+            Refusal::TooManyErasures => "some class has three erasures or more",
         })
     }
 }

@@ -84,7 +84,7 @@ impl Shape {
     }
 }
 
-/// A payload read from a field, and the number of cells that were corrected on the way.
+/// A payload read from a field, and the number of cells that were corrected on the way, erased ones among them.
 #[non_exhaustive]
 #[derive(Clone, Debug, PartialEq, Eq, Hash)]
 pub struct Decoded {
@@ -133,7 +133,11 @@ pub fn encode_into(shape: &Shape, payload: &[u8], field: &mut [u8]) -> Result<()
     check(ffi::encode(shape.numbers, payload, field))
 }
 
-/// The payload of a field, or `FieldLength`, then `BadCell`, `OutOfReach`, `BadPadding`.
+/// The payload of a field whose cells are 0, 1, or 2 for an erased one, [`crate::ERASED`]; or `FieldLength`, then `BadCell`,
+/// `TooManyErasures`, `OutOfReach`, `BadPadding`.
+///
+/// A class with one or two erased cells is read as the codeword that agrees with every cell that was read, and any other as the
+/// codeword that differs in at most one cell.
 pub fn decode(shape: &Shape, field: &[u8]) -> Result<Decoded, Refusal> {
     let mut payload = vec![0; shape.payload_bytes()];
     let mended = decode_into(shape, field, &mut payload)?;
@@ -146,7 +150,8 @@ pub fn decode_into(shape: &Shape, field: &[u8], payload: &mut [u8]) -> Result<us
     check(answer.number).map(|()| answer.count)
 }
 
-/// Corrects a field where it lies and gives the number of cells changed, or refuses as `decode` does.
+/// Corrects a field where it lies and gives the number of cells changed, erased ones among them, or refuses as `decode` does. The
+/// corrected field holds no erased cell.
 pub fn correct(shape: &Shape, field: &mut [u8]) -> Result<usize, Refusal> {
     let answer = ffi::correct(shape.numbers, field);
     check(answer.number).map(|()| answer.count)

@@ -129,6 +129,41 @@ fn refused_payloads_and_fields() {
     assert_refusal("columns=3\nrows=1\nplanes=1\nstrength=1\nrow=101\n", 7, "padding that correction leaves at 1");
 }
 
+/// The worked card's first four lines with rows of its own.
+fn card_of(rows: [&str; 5]) -> String {
+    rows.iter().fold(HEAD.to_string(), |text, row| text + &format!("row={row}\n"))
+}
+
+fn assert_read(text: &str, mended: usize, payload: &str, what: &str) {
+    let head: String = text.split_inclusive('\n').take(4).collect();
+    assert_output(text.as_bytes(), &format!("{head}mended={mended}\npayload={payload}\n"), what);
+}
+
+#[test]
+fn erased_cells() {
+    assert_read(&card_of(["22011", "20101", "10100", "00122", "10102"]), 6, "a5", "two clusters apart");
+    assert_read(&card_of(["11011", "02201", "12200", "02101", "10100"]), 5, "a5", "two clusters that touch");
+    assert_read(&card_of(["11011", "02201", "10200", "00221", "10100"]), 5, "a5", "two clusters that overlap");
+    assert_read(&card_of(["22222", "00101", "10100", "00101", "10100"]), 5, "a5", "the first row");
+    assert_read(&card_of(["11011", "00101", "10100", "00101", "10102"]), 1, "a5", "the last cell");
+    assert_read(&card_of(["21011", "00100", "10100", "00101", "10100"]), 2, "a5", "a cell, and one flipped in another class");
+    assert_refusal(&card_of(["21011", "00111", "10100", "00101", "10100"]), 6, "a cell, and one flipped in its class");
+    assert_refusal(&card_of(["22222", "20101", "10100", "00122", "10102"]), 10, "three cells of a class");
+    assert_refusal(&card_of(["22222", "22222", "22222", "22222", "22222"]), 10, "every cell");
+    let small = |w: usize, row: &str| first_lines(&w.to_string(), "1", "1", "1") + &format!("row={row}\n");
+    assert_read(&small(2, "02"), 1, "", "cells 0 2");
+    assert_read(&small(2, "22"), 2, "", "cells 2 2");
+    assert_refusal(&small(2, "12"), 6, "cells 1 2");
+    assert_refusal(&small(3, "222"), 10, "cells 2 2 2");
+    assert_refusal(&small(3, "112"), 7, "padding that filling makes 1");
+    assert_refusal(&small(4, "3222"), 8, "cells 3 2 2 2");
+    assert_refusal(&(small(3, "222") + "x"), 8, "8 before 10");
+    // The first class of two is out of reach, and then the second has three erased cells.
+    let two = |row: &str| first_lines("8", "1", "1", "2") + &format!("row={row}\n");
+    assert_refusal(&two("10000010"), 6, "the first class out of reach");
+    assert_refusal(&two("12020210"), 10, "10 before 6, in a later class");
+}
+
 #[test]
 fn faults_in_the_first_four_lines() {
     let rest = "payload=a5\n";
@@ -211,7 +246,9 @@ fn faults_in_the_later_lines() {
         ("payload=a5\nrow=11011\n", "a row after the payload"),
         ("payload=\npayload=a5\n", "a second payload after one of the wrong length"),
         ("classes=5\nrow=11011\nrow=00101\nrow=10100\nrow=00101\nrow=10100\n", "what the program prints"),
-        ("row=11012\nrow=00101\nrow=10100\nrow=00101\nrow=10100\n", "a digit 2"),
+        ("row=11013\nrow=00101\nrow=10100\nrow=00101\nrow=10100\n", "a digit 3"),
+        ("row=11011\nrow=00101\nrow=10100\nrow=00101\nrow=10109\n", "a digit 9 in the last row"),
+        ("row=22222\nrow=22222\nrow=10100\nrow=00101\nrow=10103\n", "8 before 10"),
         ("row=11011\nrow=00101\nrow=10100\nrow=00101\nrow=1010/\n", "the byte before 0 in the last row"),
         ("row=11011\nrow=0010\nrow=10100\nrow=00101\nrow=10100\n", "a short row"),
         ("row=11011\nrow=001011\nrow=10100\nrow=00101\nrow=10100\n", "a long row"),
@@ -293,6 +330,8 @@ fn all_kinds() -> Vec<String> {
         format!("{HEAD}payload=\n"),
         first_lines("2", "1", "1", "1") + "row=11\n",
         first_lines("3", "1", "1", "1") + "row=111\n",
+        first_lines("2", "1", "1", "1") + "row=22\n",
+        first_lines("3", "1", "1", "1") + "row=222\n",
         format!("{HEAD}payload=A5\n"),
         String::new(),
         "\n".repeat(100_000),
@@ -330,8 +369,8 @@ fn whole_card(random: &mut Random, shape: &Numbers) -> Vec<u8> {
         let digits: String = random.bytes(n).iter().map(|byte| format!("{byte:02x}")).collect();
         return format!("{head}payload={digits}\n").into_bytes();
     }
-    // A bad cell becomes a digit above 1.
-    let field = any_field(random, shape);
+    // A bad cell becomes a digit, mostly one above 2.
+    let field = any_field(random, shape, true);
     let row = |cells: &[u8]| cells.iter().map(|&cell| char::from(b'0' + cell % 10)).collect::<String>();
     let rows: String = field.chunks(shape.w).map(|cells| format!("row={}\n", row(cells))).collect();
     (head + &rows).into_bytes()
@@ -340,7 +379,7 @@ fn whole_card(random: &mut Random, shape: &Numbers) -> Vec<u8> {
 /// Breaks a text, most often in its form.
 fn break_text(random: &mut Random, text: &mut Vec<u8>) {
     let place = random.below(text.len());
-    let stray = random.pick(b"\n\r\0 =0129afAFgrxz/:\x80\xff");
+    let stray = random.pick(b"\n\r\0 =01239afAFgrxz/:\x80\xff");
     let lines: Vec<Vec<u8>> = text.split_inclusive(|&byte| byte == b'\n').map(<[u8]>::to_vec).collect();
     let line = random.below(lines.len());
     match random.below(8) {
@@ -371,7 +410,7 @@ fn break_text(random: &mut Random, text: &mut Vec<u8>) {
 #[test]
 fn generated_cards() {
     let mut random = outside::random(10);
-    let (mut written, mut read, mut refused) = (0, 0, [0; 10]);
+    let (mut written, mut read, mut refused) = (0, 0, [0; 11]);
     for _ in 0..outside::rounds(1500) {
         let mut shape = lawful_shape(&mut random);
         if random.once_in(8) {
@@ -403,7 +442,7 @@ fn generated_cards() {
     }
     println!("written {written}, read {read}, refused {refused:?}");
     assert!(written >= 100 && read >= 100 || outside::fewer());
-    for number in [1, 2, 3, 6, 7, 8] {
+    for number in [1, 2, 3, 6, 7, 8, 10] {
         assert!(refused[number] >= 10 || outside::fewer(), "{number} came up {} times", refused[number]);
     }
     assert_eq!([refused[0], refused[4], refused[5], refused[9]], [0; 4]);

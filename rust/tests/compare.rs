@@ -170,6 +170,26 @@ fn clusters_are_undone() {
 }
 
 #[test]
+fn two_clusters_are_filled() {
+    erasures::fill_two_clusters::<Proved>(TIMES);
+}
+
+#[test]
+fn erased_cells_of_a_class() {
+    erasures::erase_classes::<Proved>(TIMES / 4);
+}
+
+#[test]
+fn erased_padding() {
+    erasures::erase_padding::<Proved>(TIMES / 4);
+}
+
+#[test]
+fn erased_cells_beside_a_flip() {
+    erasures::erase_beside_a_flip::<Proved>(TIMES / 4);
+}
+
+#[test]
 fn distance_tests() {
     let mut random = outside::random(9);
     let mut numbers = [0usize; 10];

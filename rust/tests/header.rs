@@ -1,4 +1,4 @@
-//! The numbers that the C header names are those of the library: its version, the refusals and the limits.
+//! The numbers that the C header names are those of the library: its version, the refusals, the erased cell and the limits.
 
 use std::path::Path;
 use varmintfoil::ffi::{self, ShapeNumbers};
@@ -50,8 +50,25 @@ fn the_refusals() {
         Refusal::OutOfReach,
         Refusal::BadPadding,
         Refusal::BadSettings,
+        Refusal::TooManyErasures,
     ] {
         assert_eq!(number(&in_header(refusal)), refusal.number(), "{refusal:?}");
+    }
+}
+
+/// The erased cell is the one value above 1 that the library does not refuse.
+#[test]
+fn the_erased_cell() {
+    assert_eq!(number("ERASED"), usize::from(varmintfoil::ERASED));
+    let shape = ShapeNumbers { columns: 2, rows: 1, planes: 1, strength: 1 };
+    for cell in 0..=255 {
+        let answer = ffi::decode(shape, &mut [], &[0, cell]);
+        let expected = match cell {
+            0 => (0, 0),
+            1 | varmintfoil::ERASED => (0, 1),
+            _ => (Refusal::BadCell.number(), 0),
+        };
+        assert_eq!((answer.number, answer.count), expected, "{cell}");
     }
 }
 

@@ -6,7 +6,8 @@ mod plain;
 
 use common::*;
 
-codec!(Plain, plain);
+// It reads no erased cells.
+codec!(Plain, plain, false);
 
 // The reference implementation itself, for the tests that compare with no other.
 codec!(Reference, reference);

@@ -1,9 +1,12 @@
-//! The reference implementation against the examples of document 01, and against itself where a class is small enough to try everything.
+//! The reference implementation against the examples of documents 01 and 02, against what is promised of erased cells, and against
+//! itself where a class is small enough to try everything.
 
-#[path = "../others/reference.rs"]
-mod reference;
+mod common;
 
-use reference::*;
+use common::reference::*;
+use common::{codec, erasures, reference, Codec, Numbers};
+
+codec!(Reference, reference);
 
 const CARD: &str = "columns=5\nrows=5\nplanes=1\nstrength=3\npayload=a5\n";
 const WRITTEN: &str =
@@ -35,6 +38,61 @@ fn the_examples() {
     assert_eq!(plan(256, 256, 1, 33), Err(2));
     assert!(plan(16, 16, 16, 8).is_ok());
     assert_eq!(plan(16, 16, 16, 9), Err(2));
+}
+
+/// Decode and correct give a number, or a count; correct leaves the cells given, and on a refusal those that it got.
+fn assert_read(w: usize, cells: &[u8], answer: Result<usize, Number>, left: &[u8]) {
+    let mut field = cells.to_vec();
+    assert_eq!(decode(w, 1, 1, 1, &mut [], cells), answer, "{cells:?}");
+    assert_eq!(correct(w, 1, 1, 1, &mut field), answer, "{cells:?}");
+    assert_eq!(field, left, "{cells:?}");
+}
+
+#[test]
+fn the_examples_with_erased_cells() {
+    assert_read(2, &[0, 2], Ok(1), &[0, 0]);
+    assert_read(2, &[1, 2], Err(6), &[1, 2]);
+    assert_read(2, &[2, 2], Ok(2), &[0, 0]);
+    assert_read(3, &[2, 2, 2], Err(10), &[2, 2, 2]);
+    assert_read(4, &[3, 2, 2, 2], Err(5), &[3, 2, 2, 2]);
+    assert_read(3, &[1, 1, 2], Err(7), &[1, 1, 2]);
+}
+
+/// The worked card with other rows.
+fn card_of_rows(rows: [&str; 5]) -> String {
+    let rows: String = rows.iter().map(|row| format!("row={row}\n")).collect();
+    let text = format!("columns=5\nrows=5\nplanes=1\nstrength=3\n{rows}");
+    String::from_utf8(card(text.as_bytes())).unwrap()
+}
+
+#[test]
+fn cards_with_erased_cells() {
+    let head = "columns=5\nrows=5\nplanes=1\nstrength=3\n";
+    let two_clusters = ["22011", "20101", "10100", "00122", "10102"];
+    assert_eq!(card_of_rows(two_clusters), format!("{head}mended=6\npayload=a5\n"));
+    assert_eq!(card_of_rows(["22222", "20101", "10100", "00122", "10102"]), "refusal=10\n");
+    assert_eq!(card_of_rows(["22222", "00101", "10100", "00101", "10100"]), format!("{head}mended=5\npayload=a5\n"));
+    assert_eq!(card_of_rows(["11011", "00101", "10100", "00101", "10103"]), "refusal=8\n");
+}
+
+#[test]
+fn two_clusters_are_filled() {
+    erasures::fill_two_clusters::<Reference>(30_000);
+}
+
+#[test]
+fn erased_cells_of_a_class() {
+    erasures::erase_classes::<Reference>(10_000);
+}
+
+#[test]
+fn erased_padding() {
+    erasures::erase_padding::<Reference>(10_000);
+}
+
+#[test]
+fn erased_cells_beside_a_flip() {
+    erasures::erase_beside_a_flip::<Reference>(10_000);
 }
 
 #[test]
@@ -82,6 +140,31 @@ fn never_more_than_one_codeword_in_reach() {
             }
             assert!(found <= 1);
             assert_eq!(found == 1, codeword_in_reach(&class).is_some());
+        }
+    }
+}
+
+/// With one or two cells of a class erased there is never more than one filling that makes a codeword.
+#[test]
+fn never_more_than_one_codeword_filled() {
+    for n in 1..=10usize {
+        for value in 0..1usize << n {
+            let class: Vec<u8> = (0..n).map(|i| (value >> i & 1) as u8).collect();
+            for (one, other) in (0..n).flat_map(|one| (one..n).map(move |other| (one, other))) {
+                let mut erased = class.clone();
+                (erased[one], erased[other]) = (ERASED, ERASED);
+                let mut found: Vec<Vec<u8>> = Vec::new();
+                for (a, b) in [(0, 0), (0, 1), (1, 0), (1, 1)] {
+                    let mut filled = class.clone();
+                    filled[one] = a;
+                    filled[other] = b;
+                    if is_codeword(&filled) && !found.contains(&filled) {
+                        found.push(filled);
+                    }
+                }
+                assert!(found.len() <= 1);
+                assert_eq!(codeword_of(&erased), found.pop());
+            }
         }
     }
 }

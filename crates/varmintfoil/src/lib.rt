@@ -96,7 +96,7 @@ pub extern "C" fn varmintfoil_encode(shape: ShapeNumbers, payload: &[u8], field:
     answer.number()
 }
 
-// Fills the payload and gives the number of cells turned over, or gives the refusal 1, 2, 3, 4, 5, 6 or 7.
+// Fills the payload and gives the number of cells changed, or gives the refusal 1, 2, 3, 4, 5, 10, 6 or 7.
 #[no_mangle]
 pub extern "C" fn varmintfoil_decode(
     shape: ShapeNumbers,
@@ -112,7 +112,7 @@ pub extern "C" fn varmintfoil_decode(
     }
 }
 
-// Leaves the mended field and gives the number of cells turned over, or gives the refusal 1, 2, 4, 5, 6 or 7.
+// Leaves the corrected field and gives the number of cells changed, or gives the refusal 1, 2, 4, 5, 10, 6 or 7.
 #[no_mangle]
 pub extern "C" fn varmintfoil_correct(shape: ShapeNumbers, field: &mut [u8]) -> CountResult
     ensures { λ r. ⌜ IsCorrectResult (shapeFrom shape) (now (field .entry)) (now (field .exit)) r ⌝ }

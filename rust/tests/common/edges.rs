@@ -49,8 +49,8 @@ fn field_with_hole(random: &mut Random, shape: &Numbers) -> Vec<u8> {
     field
 }
 
-/// Each such shape, a few times: written, read and corrected with a hole, with other damage, and with lengths that may be
-/// refused.
+/// Each such shape, a few times: written, read and corrected with a hole, with erased cells, with other damage, and with lengths
+/// that may be refused.
 pub fn compare_edges<C: Codec>(rounds: usize) {
     let mut random = outside::random(10);
     let [mut encoded, mut decoded, mut corrected] = [(); 3].map(|()| Tally::default());
@@ -62,13 +62,19 @@ pub fn compare_edges<C: Codec>(rounds: usize) {
             let field = field_with_hole(&mut random, &shape);
             compare_decode::<C>(&shape, &payload, &field, &mut decoded);
             compare_correct::<C>(&shape, &field, &mut corrected);
-            let (payload, field) = (lent_payload(&mut random, &shape), lent_field(&mut random, &shape));
+            if C::ERASURES {
+                let mut field = field;
+                erasures::erase_some(&mut random, &shape, &mut field);
+                compare_decode::<C>(&shape, &payload, &field, &mut decoded);
+                compare_correct::<C>(&shape, &field, &mut corrected);
+            }
+            let (payload, field) = (lent_payload(&mut random, &shape), lent_field::<C>(&mut random, &shape));
             compare_encode::<C>(&shape, &payload, &field, &mut encoded);
             compare_decode::<C>(&shape, &payload, &field, &mut decoded);
             compare_correct::<C>(&shape, &field, &mut corrected);
         }
     }
     encoded.assert_numbers("encode at the edges", &[3, 4]);
-    decoded.assert_numbers("decode at the edges", &[3, 4, 5, 6, 7]);
-    corrected.assert_numbers("correct at the edges", &[4, 5, 6, 7]);
+    decoded.assert_numbers("decode at the edges", &listed::<C>(&[3, 4, 5, 6, 7]));
+    corrected.assert_numbers("correct at the edges", &listed::<C>(&[4, 5, 6, 7]));
 }

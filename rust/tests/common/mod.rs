@@ -2,13 +2,16 @@
 
 #![allow(dead_code)]
 
+pub mod clusters;
 pub mod edges;
+pub mod erasures;
 pub mod guards;
 pub mod outside;
 pub mod random;
 #[path = "../../others/reference.rs"]
 pub mod reference;
 
+pub use clusters::{cluster, some_of};
 pub use random::Random;
 
 /// The four numbers of a shape, within the limits or not.
@@ -130,41 +133,9 @@ pub fn length(random: &mut Random, planned: usize) -> usize {
     random.pick(&other)
 }
 
-/// The cells of a random cluster of at most `size` cells, as bytes of the field.
-pub fn cluster(random: &mut Random, shape: &Numbers, size: usize) -> Vec<usize> {
-    let start = (random.below(shape.h), random.below(shape.d), random.below(shape.w));
-    let mut cells = vec![start];
-    for _ in 0..4 * size {
-        if cells.len() == size {
-            break;
-        }
-        let (row, plane, column) = random.pick(&cells);
-        let next = match random.below(6) {
-            0 => (row + 1, plane, column),
-            1 => (row.wrapping_sub(1), plane, column),
-            2 => (row, plane + 1, column),
-            3 => (row, plane.wrapping_sub(1), column),
-            4 => (row, plane, column + 1),
-            _ => (row, plane, column.wrapping_sub(1)),
-        };
-        if next.0 < shape.h && next.1 < shape.d && next.2 < shape.w && !cells.contains(&next) {
-            cells.push(next);
-        }
-    }
-    cells.iter().map(|&(row, plane, column)| reference::byte_of(&shape.shape(), row, plane, column)).collect()
-}
-
-/// Some of the cells of a list: none, all or a random choice.
-pub fn some_of(random: &mut Random, cells: &[usize]) -> Vec<usize> {
-    match random.below(4) {
-        0 => Vec::new(),
-        1 => cells.to_vec(),
-        _ => cells.iter().copied().filter(|_| random.once_in(2)).collect(),
-    }
-}
-
-/// A field that was encoded, perhaps with padding that is not 0, then damaged within or beyond the strength; or garbage.
-pub fn any_field(random: &mut Random, shape: &Numbers) -> Vec<u8> {
+/// A field that was encoded, perhaps with padding that is not 0, then damaged within or beyond the strength; or garbage. A byte of
+/// garbage, or of a bad cell, may be that of an erased one.
+fn damaged_field(random: &mut Random, shape: &Numbers) -> Vec<u8> {
     let plan = shape.plan().unwrap();
     let mut data = random.bits(plan.capacity);
     if !random.once_in(5) {
@@ -199,13 +170,26 @@ pub fn any_field(random: &mut Random, shape: &Numbers) -> Vec<u8> {
     field
 }
 
+/// A field, damaged in any way; with erased cells, half the time, or with none.
+pub fn any_field(random: &mut Random, shape: &Numbers, with_erasures: bool) -> Vec<u8> {
+    let mut field = damaged_field(random, shape);
+    if !with_erasures {
+        for cell in field.iter_mut().filter(|cell| **cell == reference::ERASED) {
+            *cell = 3;
+        }
+    } else if random.once_in(2) {
+        erasures::erase_some(random, shape, &mut field);
+    }
+    field
+}
+
 /// A field of some length for a shape, within the limits or not.
-pub fn lent_field(random: &mut Random, shape: &Numbers) -> Vec<u8> {
+pub fn lent_field<C: Codec>(random: &mut Random, shape: &Numbers) -> Vec<u8> {
     let Ok(plan) = shape.plan() else {
         let n = random.below(40);
         return random.bytes(n);
     };
-    let mut field = any_field(random, shape);
+    let mut field = any_field(random, shape, C::ERASURES);
     field.resize(length(random, plan.cells), 0);
     field
 }
@@ -220,7 +204,7 @@ pub fn lent_payload(random: &mut Random, shape: &Numbers) -> Vec<u8> {
 /// How often each number came up, and how often a stack of three different sides succeeded at each strength.
 #[derive(Default)]
 pub struct Tally {
-    pub numbers: [usize; 10],
+    pub numbers: [usize; 11],
     pub uneven_stacks: [usize; 9],
 }
 
@@ -259,18 +243,29 @@ pub fn number_of<T>(result: &Result<T, usize>) -> usize {
 
 /// The three operations on buffers of an implementation that is compared with the reference.
 pub trait Codec {
+    /// Does it read erased cells? Else it is lent none.
+    const ERASURES: bool = true;
+
     fn encode(shape: &Numbers, payload: &[u8], field: &mut [u8]) -> Result<(), usize>;
     fn decode(shape: &Numbers, payload: &mut [u8], field: &[u8]) -> Result<usize, usize>;
     fn correct(shape: &Numbers, field: &mut [u8]) -> Result<usize, usize>;
 }
 
-/// Names an implementation whose three operations are functions of a module, on the four numbers of the shape.
+/// The numbers of refusals that are listed with an operation of an implementation: 10 where it reads erased cells, and others.
+pub fn listed<C: Codec>(others: &[usize]) -> Vec<usize> {
+    others.iter().copied().chain(C::ERASURES.then_some(10)).collect()
+}
+
+/// Names an implementation whose three operations are functions of a module, on the four numbers of the shape; `false` follows where
+/// it does not read erased cells.
 #[allow(unused_macros)]
 macro_rules! codec {
-    ($name:ident, $module:ident) => {
+    ($name:ident, $module:ident $(, $erasures:literal)?) => {
         struct $name;
 
         impl Codec for $name {
+            $(const ERASURES: bool = $erasures;)?
+
             fn encode(s: &Numbers, payload: &[u8], field: &mut [u8]) -> Result<(), usize> {
                 $module::encode(s.w, s.h, s.d, s.t, payload, field)
             }
@@ -349,22 +344,22 @@ pub fn compare_encodings<C: Codec>(times: usize) {
 
 /// Random decodings.
 pub fn compare_decodings<C: Codec>(times: usize) {
-    compare_many(4, times, "decode", &[1, 2, 3, 4, 5, 6, 7], |random, shape, tally| {
+    compare_many(4, times, "decode", &listed::<C>(&[1, 2, 3, 4, 5, 6, 7]), |random, shape, tally| {
         let payload = lent_payload(random, shape);
-        let field = lent_field(random, shape);
+        let field = lent_field::<C>(random, shape);
         compare_decode::<C>(shape, &payload, &field, tally);
     });
 }
 
 /// Random corrections.
 pub fn compare_corrections<C: Codec>(times: usize) {
-    compare_many(5, times, "correct", &[1, 2, 4, 5, 6, 7], |random, shape, tally| {
-        let field = lent_field(random, shape);
+    compare_many(5, times, "correct", &listed::<C>(&[1, 2, 4, 5, 6, 7]), |random, shape, tally| {
+        let field = lent_field::<C>(random, shape);
         compare_correct::<C>(shape, &field, tally);
     });
 }
 
-/// The largest shapes: encoded, then decoded and corrected whole, damaged within the strength and beyond it.
+/// The largest shapes: encoded, then decoded and corrected whole, damaged within the strength and beyond it, and with erased cells.
 pub fn compare_large<C: Codec>() {
     let mut random = outside::random(6);
     let mut tally = Tally::default();
@@ -383,11 +378,14 @@ pub fn compare_large<C: Codec>() {
             compare_decode::<C>(&shape, &lent, &damaged, &mut tally);
             compare_correct::<C>(&shape, &damaged, &mut tally);
         }
+        if C::ERASURES {
+            erasures::compare_erased::<C>(&mut random, &shape, &field, &mut tally);
+        }
     }
 }
 
 /// The largest fields at low strengths, whose classes are long: one cell damaged, low in its class so that the reference's search ends
-/// soon.
+/// soon; and erased cells, of which the reference fills any two of a class soon.
 pub fn compare_long_classes<C: Codec>() {
     let mut random = outside::random(7);
     let mut tally = Tally::default();
@@ -401,6 +399,9 @@ pub fn compare_long_classes<C: Codec>() {
         compare_encode::<C>(&shape, &payload, &field, &mut tally);
         guards::encode::<C>(&shape, &payload, &mut field).unwrap();
         compare_decode::<C>(&shape, &payload, &field, &mut tally);
+        if C::ERASURES {
+            erasures::compare_erased::<C>(&mut random, &shape, &field, &mut tally);
+        }
         let cell = random.below(2000);
         field[cell] ^= 1;
         compare_decode::<C>(&shape, &random.bytes(plan.bytes), &field, &mut tally);

@@ -5,6 +5,7 @@ use mathlib.Core.Path.{_≡_}
 use lib.IntN.{pos, negsuc}
 use Rattle.lattice.specs.Cell.{cell}
 use Rattle.codec.specs.theorems.Examples.{five, pair}
+use Rattle.codec.specs.theorems.Worked.{strip}
 use Rattle.varmintfoil.specs.declared.PlanResult.{PlanResult}
 use Rattle.varmintfoil.specs.declared.ClassResult.{ClassResult}
 use Rattle.varmintfoil.specs.declared.CountResult.{CountResult}
@@ -31,6 +32,11 @@ pub record ResultExamples : Type 0 where
       → (r .number ≡ 0) × (r .count ≡ 1) × (last ≡ 0 ∷ 0 ∷ [])
   pub no-correct : (last : List ℕ) (r : CountResult) → IsCorrectResult pair (1 ∷ 1 ∷ []) last r
       → (r .number ≡ 6) × (r .count ≡ 0) × (last ≡ 1 ∷ 1 ∷ [])
+  -- of its cells 0 2 the erased one is filled with 0; 2 2 2 of 3 by 1 are too many erasures
+  pub filled : (last : List ℕ) (r : CountResult) → IsCorrectResult pair (0 ∷ 2 ∷ []) last r
+      → (r .number ≡ 0) × (r .count ≡ 1) × (last ≡ 0 ∷ 0 ∷ [])
+  pub many : (last : List ℕ) (r : CountResult) → IsDecodeResult (strip 3) [] (2 ∷ 2 ∷ 2 ∷ []) last r
+      → (r .number ≡ 10) × (r .count ≡ 0)
   -- 7, 2, 3 hold at t = 3 after 12 triples; at t = 4 they fail at row 0, plane 2 and column −1, the ninth
   pub holds : (r : DistanceResult) → IsDistanceResult 7 2 3 3 r → (r .number ≡ 0) × (r .holds ≡ 1) × (r .tried ≡ 12)
   pub fails : (r : DistanceResult) → IsDistanceResult 7 2 3 4 r

@@ -112,6 +112,33 @@ impl Card {
         standings
     }
 
+    /// Decoding and correcting a field with two holes of t erased cells, each beside the same with a hole of t flipped cells: by
+    /// the proved library alone.
+    pub fn erased(&self) -> [Standing; 2] {
+        let t = self.numbers.strength;
+        let erase = |cells: &mut [u8]| [0..t, self.hole.clone()].map(|hole| cells[hole].fill(varmintfoil::ERASED));
+        let mut lost = self.field.clone();
+        erase(&mut lost);
+        let [mut one, mut other] = [(); 2].map(|()| vec![0; self.payload.len()]);
+        let [_, decode] = contest([
+            some(|| assert_eq!(ffi::decode(black_box(self.numbers), &mut one, black_box(&lost)).count, 2 * t)),
+            some(|| assert_eq!(ffi::decode(black_box(self.numbers), &mut other, black_box(&self.damaged)).count, t)),
+        ]);
+        assert!(one == self.payload && other == self.payload);
+        let [mut one, mut other] = [lost.clone(), self.damaged.clone()];
+        let [_, correct] = contest([
+            some(|| {
+                assert_eq!(ffi::correct(black_box(self.numbers), black_box(&mut one)).count, 2 * t);
+                erase(&mut one);
+            }),
+            some(|| {
+                assert_eq!(ffi::correct(black_box(self.numbers), black_box(&mut other)).count, t);
+                turn_over(&mut other[self.hole.clone()]);
+            }),
+        ]);
+        [decode, correct].map(Option::unwrap)
+    }
+
     /// The three contests.
     pub fn operations(&self) -> [(&'static str, Each<Option<Standing>>); 3] {
         [("encode", self.encode()), ("decode", self.decode()), ("correct", self.correct())]

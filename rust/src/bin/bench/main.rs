@@ -93,6 +93,16 @@ fn print_growth() {
     println!("   (64 times the cells)");
 }
 
+fn print_erased() {
+    println!("Two holes of t erased cells, beside one of t flipped cells: the ratio of the times, proved.");
+    println!("{:<13} {:>2} {:>8} {:>8}", "field", "t", "decode", "correct");
+    for field in FIELDS {
+        let [w, h, d, t] = field;
+        let ratios = Card::new(w, h, d, t).erased().map(|standing| figure(Some(standing.ratio), 8, 2));
+        println!("{:<13} {t:>2} {}", name(field), ratios.join(" "));
+    }
+}
+
 fn main() {
     println!("Medians. proved: the proved library; same: its text as Rust; plain: the fastest plain Rust; liquid: liquid-dsp,");
     println!("SECDED(72,64) with interleaver; copy: a copy of the cells.");
@@ -105,6 +115,8 @@ fn main() {
     print_fields();
     println!();
     print_growth();
+    println!();
+    print_erased();
     println!();
     program::print();
 }
