@@ -2,4 +2,5 @@
 mod ThreeCells
 pub mod Placing
 pub mod Stack
+pub mod Windows
 mod Testing

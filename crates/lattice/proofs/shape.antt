@@ -1,2 +1,3 @@
 -- What the methods of `Shape` use alone.
 mod ClassNumber
+mod WindowTest

@@ -5,6 +5,7 @@ pub mod Refused
 mod Classes
 mod Distance
 pub mod Labels
+pub mod Windows
 pub mod Capacity
 mod Order
 mod Testing

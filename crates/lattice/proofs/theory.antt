@@ -23,11 +23,14 @@ pub mod NewShapes
 pub mod InField
 pub mod ByteNumbers
 pub mod Distances
+pub mod Paths
 pub mod ClusterPaths
 pub mod Sphere
 pub mod LabelsMany
+pub mod Tiles
 -- settings and classes
 pub mod SettingsLaws
+pub mod Placements
 pub mod ClassAt
 pub mod ClassBelow
 mod Residue
@@ -36,6 +39,7 @@ pub mod Points
 mod FlatLattice
 pub mod FlatPlane
 pub mod StackTable
+pub mod WindowCells
 -- positions, checks and the capacity
 pub mod Positions
 pub mod Sizes
@@ -62,6 +66,7 @@ pub mod Among
 pub mod Starts
 pub mod NextLine
 pub mod LineSizes
+pub mod Slices
 pub mod LineCounts
 mod Heads
 pub mod SizesByLines

@@ -14,7 +14,7 @@ use Rattle.lattice.specs.declared.distance.Triple.{Triple}
 use Rattle.lattice.specs.declared.distance.DistanceTest.{DistanceTest}
 use Rattle.lattice.specs.declared.distance.DistanceTest.the-variants as dst
 use Rattle.lattice.specs.Refusal.{refusalNumber, beside}
-use Rattle.lattice.specs.Shape.{shapeFrom, shapeNumber}
+use Rattle.lattice.specs.Shape.{noWindow, shapeFrom, shapeNumber}
 use Rattle.lattice.specs.Cell.{Cell}
 use Rattle.lattice.specs.Class.{classNumber, classGiven}
 use Rattle.lattice.specs.Order.{origin}
@@ -22,7 +22,7 @@ use Rattle.lattice.specs.DistanceTest.{testNumber, verdict, foundTriple,
 
 -- what stands for the shape beside a refusal: every number is 0
 abbrev pub noShape : Shape
-noShape = record { columns = 0; rows = 0; planes = 0; strength = 0 }
+noShape = record { columns = 0; rows = 0; planes = 0; strength = 0; window = noWindow }
 
 -- the constructor's answer
 abbrev pub newNumber : NewShape → ℕ

@@ -20,10 +20,14 @@ pub data Joined (x y : Cell) : Type 0 where
   by-plane : x .row ≡ y .row → apart (x .plane) (y .plane) ≡ 1 → x .column ≡ y .column → Joined x y
   by-column : x .row ≡ y .row → x .plane ≡ y .plane → apart (x .column) (y .column) ≡ 1 → Joined x y
 
--- a path of joined cells inside a set of cells
-pub data Linked (S : Cell → Type 0) : Cell → Cell → Type 0 where
-  stay : {x : Cell} → S x → Linked S x x
-  step : {x y z : Cell} → S x → Joined x y → Linked S y z → Linked S x z
+-- a path inside a set of cells, by steps of one kind
+pub data Path (R : Cell → Cell → Type 0) (S : Cell → Type 0) : Cell → Cell → Type 0 where
+  stay : {x : Cell} → S x → Path R S x x
+  step : {x y z : Cell} → S x → R x y → Path R S y z → Path R S x z
+
+-- a path of joined cells
+abbrev pub Linked : (Cell → Type 0) → Cell → Cell → Type 0
+Linked S = Path Joined S
 
 -- a cluster of the field: a set of its cells, any two linked by a path inside the set
 pub record Cluster (s : Shape) (S : Cell → Type 0) : Type 0 where

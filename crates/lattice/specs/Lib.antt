@@ -10,6 +10,7 @@ pub mod Settings
 pub mod Cell
 pub mod Cluster
 pub mod Labelling
+pub mod Window
 pub mod Position
 pub mod Class
 pub mod Check

@@ -1,19 +1,20 @@
 -- The lines of a field, for a pass that divides nothing. Line l is the cells l × W to l × W + W − 1, a row of a plane. Its
--- classes are a stretch of one table. Only contracts of functions that pass over the cells cite this file.
+-- classes are a stretch of one table, moved by an offset. The lines of one offset are a slice; no other line has their classes.
+-- Only contracts of functions that pass over the cells cite this file.
 use Prim.Native.Nat.{ℕ, _+_, _-_, _*_, _/_, _%_, _<_, _≤_}
 use mathlib.Core.Bool.{cond}
 use mathlib.Core.List.{List}
 use mathlib.Core.Path.{_≡_}
 use lib.Dec.{eqb, ltb}
 use lib.ListN.{length, getD}
+use Rattle.lattice.specs.declared.class.Placement.{Placement}
 use Rattle.lattice.specs.declared.line.Line.{Line}
 use Rattle.lattice.specs.declared.line.Pass.{Pass}
 use Rattle.lattice.specs.declared.settings.Settings.{Settings}
 use Rattle.lattice.specs.declared.shape.Shape.{Shape}
 use Rattle.lattice.specs.Refusal.{beside}
 use Rattle.lattice.specs.Shape.{maxCells, shapeNumber, Accepted, cellsOf}
-use Rattle.lattice.specs.Settings.{settingsOf}
-use Rattle.lattice.specs.Class.{minusMod, layoutOf}
+use Rattle.lattice.specs.Class.{minusMod, layoutOf, placementOf}
 use Rattle.lattice.specs.Position.{Layout, sizeTo}
 use Rattle.lattice.specs.Counting.{count, sumBelow}
 
@@ -27,36 +28,48 @@ pub record HasPeriod (m : ℕ) (table : ℕ → ℕ) : Type 0 where
   pub same : (y z : ℕ) → y % m ≡ z % m → table y ≡ table z
   pub only : (y z : ℕ) → table y ≡ table z → y % m ≡ z % m
 
--- the table of a field by strength: y mod m, and no offset
+-- the table of a field: y mod m
 abbrev pub remainderTable : ℕ → ℕ → ℕ
 remainderTable m y = y % m
 
-abbrev pub noOffset : ℕ → ℕ
-noOffset l = 0
+-- the settings by which the lines of a slice begin in the table, the number of slices, and the offset of line l: by strength the
+-- field's own, 1 and 0
+abbrev pub tableOf : Shape → Settings
+tableOf s = placementOf s .settings
+
+abbrev pub slicesOf : Shape → ℕ
+slicesOf s = placementOf s .slices
+
+abbrev pub offsetOf : Shape → ℕ → ℕ
+offsetOf s l = l % slicesOf s * tableOf s .m
 
 -- where line l of planes of h rows begins in the table: −b × row − c × plane, mod m
 unfoldable pub lineStart : Settings → ℕ → ℕ → ℕ
 lineStart k h l = minusMod 0 (k .b * (l % h) + k .c * (l / h)) (k .m)
 
--- what a pass over a field needs: its columns, lines, cells and classes; how far back in the table the next row begins, and the
--- next plane behind its last row; and the number of a plane's last row
-unfoldable pub passWith : Settings → Shape → Pass
-passWith k s =
+-- what a pass over a field needs: its columns, lines, cells and classes; the slices and the period of the table; how far back in
+-- the table the next row of a slice begins, and the next plane behind its last row; and the number of a plane's last row
+unfoldable pub passWith : Placement → Shape → Pass
+passWith p s =
+    let k = p .settings in
     record {
       columns = s .columns;
       lines = s .rows * s .planes;
       cells = cellsOf s;
-      classes = k .m;
+      classes = p .slices * k .m;
+      slices = p .slices;
+      period = k .m;
       row = k .b % k .m;
       plane = minusMod (k .c) (k .b * (s .rows - 1)) (k .m);
       last = s .rows - 1;
     }
 
 unfoldable pub noPass : Pass
-noPass = record { columns = 0; lines = 0; cells = 0; classes = 0; row = 0; plane = 0; last = 0 }
+noPass =
+    record { columns = 0; lines = 0; cells = 0; classes = 0; slices = 0; period = 0; row = 0; plane = 0; last = 0 }
 
 abbrev pub passOf : Shape → Pass
-passOf s = passWith (settingsOf s) s
+passOf s = passWith (placementOf s) s
 
 -- the pass that a shape gives: its own, or all 0 where the constructor refuses it
 unfoldable pub passGiven : Shape → Pass
@@ -105,30 +118,31 @@ pub record CanAdvance (m start step wide : ℕ) (e p : List ℕ) : Type 0 where
   pub low : (y : ℕ) → y < wide → round start step ≤ getD e y 0 + getD p (y + (m - minusMod start step m)) 0
   pub high : (y : ℕ) → y < wide → getD e y 0 + getD p (y + (m - minusMod start step m)) 0 < 65536
 
--- line l is next in a pass, and the list e holds its positions: the cell in column x has the class (start + x) mod m and the
--- position e[start + x]
+-- line l is next in a pass over a slice, whose lines before it are l / slices, and the list e holds its positions: the cell in
+-- column x has the class (start + x) mod m, moved by the offset, and the position e[start + x]
 pub record AtLine (s : Shape) (l : ℕ) (x : Line) (e : List ℕ) : Type 0 where
-  pub line : IsLine (settingsOf s) (s .rows) l x
-  pub wide : settingsOf s .m + s .columns ≤ length e
+  pub line : IsLine (tableOf s) (s .rows) (l / slicesOf s) x
+  pub wide : tableOf s .m + s .columns ≤ length e
   pub held :
-      Positions (layoutOf s) (settingsOf s .m) (remainderTable (settingsOf s .m)) (x .start) 0 (l * s .columns) (length e) e
+      Positions (layoutOf s) (tableOf s .m) (remainderTable (tableOf s .m)) (x .start) (offsetOf s l) (l * s .columns)
+      (length e) e
 
 -- lists of those lengths have room for a pass
 pub record Room (pass : Pass) (e p q : ℕ) : Type 0 where
-  pub wide : pass .classes + pass .columns ≤ e
-  pub row-long : e + pass .classes ≤ p
+  pub wide : pass .period + pass .columns ≤ e
+  pub row-long : e + pass .period ≤ p
   pub row-short : p ≤ 4096
-  pub plane-long : e + pass .classes ≤ q
+  pub plane-long : e + pass .period ≤ q
   pub plane-short : q ≤ 4096
 
--- the lists have a place for each class, and the numbers of the pass are small
+-- the lists have a place for each class of a slice, and the numbers of the pass are small
 pub record Small (pass : Pass) (e p q : ℕ) : Type 0 where
-  pub some : 0 < pass .classes
-  pub long : pass .classes ≤ e
+  pub some : 0 < pass .period
+  pub long : pass .period ≤ e
   pub short : e ≤ 4096
-  pub row-long : pass .classes ≤ p
+  pub row-long : pass .period ≤ p
   pub row-short : p ≤ 4096
-  pub plane-long : pass .classes ≤ q
+  pub plane-long : pass .period ≤ q
   pub plane-short : q ≤ 4096
   pub row : pass .columns + pass .row ≤ 8192
   pub plane : pass .columns + pass .plane ≤ 8192
@@ -137,10 +151,10 @@ pub record Small (pass : Pass) (e p q : ℕ) : Type 0 where
 -- length
 pub record Ready (pass : Pass) (wide : ℕ) (p q : List ℕ) : Type 0 where
   pub short : wide ≤ 4096
-  pub row-long : wide + pass .classes ≤ length p
-  pub row : Gains (pass .classes) (pass .columns + pass .row) (length p) p
-  pub plane-long : wide + pass .classes ≤ length q
-  pub plane : Gains (pass .classes) (pass .columns + pass .plane) (length q) q
+  pub row-long : wide + pass .period ≤ length p
+  pub row : Gains (pass .period) (pass .columns + pass .row) (length p) p
+  pub plane-long : wide + pass .period ≤ length q
+  pub plane : Gains (pass .period) (pass .columns + pass .plane) (length q) q
 
 -- how many of the first n lines begin at place a
 unfoldable pub startsAt : (ℕ → ℕ) → ℕ → ℕ → ℕ

@@ -22,6 +22,7 @@ refusalNumber why.BadPadding = 7
 refusalNumber why.BadForm = 8
 refusalNumber why.BadSettings = 9
 refusalNumber why.TooManyErasures = 10
+refusalNumber why.BadWindow = 11
 
 -- the number that tests give: 0 where they pass
 abbrev pub testedNumber : Tested → ℕ

@@ -1,5 +1,5 @@
--- The settings m, b and c of a field: source document 002, constructions 2.1 and 3.1. m is the number of classes, b goes with
--- the row and c with the plane.
+-- The settings m, b and c of a field by strength: source document 002, constructions 2.1 and 3.1. m is the number of classes, b
+-- goes with the row and c with the plane.
 use Prim.Native.Nat.{ℕ, _+_, _*_, _/_, _%_}
 use mathlib.Core.Bool.{Bool, cond}
 use mathlib.Core.List.{List, [], _∷_}
@@ -7,8 +7,6 @@ use lib.Dec.{eqb}
 use lib.ListN.{getD}
 use Rattle.lattice.specs.declared.settings.Settings.{Settings}
 use Rattle.lattice.specs.declared.shape.Shape.{Shape}
-use Rattle.lattice.specs.Refusal.{beside}
-use Rattle.lattice.specs.Shape.{shapeNumber}
 
 abbrev pub settings : ℕ → ℕ → ℕ → Settings
 settings m b c = record { m = m; b = b; c = c }
@@ -50,7 +48,3 @@ settingsFor d t = cond (eqb d 1) (flatSettings t) (stackSettings t)
 
 abbrev pub settingsOf : Shape → Settings
 settingsOf s = settingsFor (s .planes) (s .strength)
-
--- the settings that a shape gives: those of its planes and strength, or all 0 where the constructor refuses it
-unfoldable pub settingsGiven : Shape → Settings
-settingsGiven s = beside (shapeNumber s) (settingsOf s) (settings 0 0 0)

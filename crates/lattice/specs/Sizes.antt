@@ -7,7 +7,7 @@ use lib.ListN.{getD}
 use Rattle.lattice.specs.declared.class.Placement.{Placement}
 use Rattle.lattice.specs.declared.shape.Shape.{Shape}
 use Rattle.lattice.specs.Shape.{maxClasses, Accepted, cellsOf}
-use Rattle.lattice.specs.Class.{classAt, layoutOf, placementOf}
+use Rattle.lattice.specs.Class.{classAt, layoutOf, placementGiven}
 use Rattle.lattice.specs.Position.{Layout, sizeTo, size, position}
 
 -- the array holds 0 for each class
@@ -30,7 +30,7 @@ pub record EntryStored (before after : List ℕ) (a v : ℕ) : Type 0 where
 -- the next cell of a pass from the field's end is cell i; one array holds the sizes of the classes, one counts the cells behind
 pub record AtCellBack (s : Shape) (k : Placement) (sizes behind : List ℕ) (i : ℕ) : Type 0 where
   pub accepted : Accepted s
-  pub placement : k ≡ placementOf s
+  pub placement : k ≡ placementGiven s
   pub below : i < cellsOf s
   pub sized : HoldsSizes (layoutOf s) sizes (cellsOf s)
   pub counted : HoldsRest (layoutOf s) behind (i + 1)

@@ -5,6 +5,7 @@ pub mod Refused
 pub mod Classes
 pub mod Distance
 pub mod Labels
+pub mod Windows
 pub mod Capacity
 pub mod Order
 pub mod Testing

@@ -1,13 +1,13 @@
-// The sizes of the classes, from where the lines begin in the table of classes: an addition for each line.
+// The sizes of the classes: from where the lines begin in the table of classes, an addition for each line, or from how many lines
+// each slice has.
 ghost use mathlib.Core.Path.{_≡_};
 ghost use Prim.Native.Nat.{ℕ, _+_, _-_, _*_, _%_, _<_, _≤_};
 ghost use lib.ListN.{length, getD};
 ghost use Rattle.lattice.specs.declared.shape.Shape.{Shape};
 ghost use Rattle.lattice.specs.Shape.{maxCells, maxClasses, Accepted};
-ghost use Rattle.lattice.specs.Settings.{settingsOf};
 ghost use Rattle.lattice.specs.Class.{layoutOf};
 ghost use Rattle.lattice.specs.Position.{size};
-ghost use Rattle.lattice.specs.Lines.{lineStart, passOf, OfShape, startsAt, Sums};
+ghost use Rattle.lattice.specs.Lines.{tableOf, lineStart, passOf, OfShape, among, startsAt, Sums};
 use crate::line::Line;
 use crate::line::Pass;
 use crate::line::next_line;
@@ -22,7 +22,7 @@ fn count_starts(pass: Pass, starts: &mut [u32])
         → Accepted s
         → pass ≡ passOf s
         → (a : ℕ)
-        → getD (now (starts .exit)) a 0 ≡ startsAt (lineStart (settingsOf s) (s .rows)) a (pass .lines)) ⌝ }
+        → getD (now (starts .exit)) a 0 ≡ startsAt (lineStart (tableOf s) (s .rows)) a (pass .lines)) ⌝ }
 {
     let mut line = Line {
         left: pass.last,
@@ -72,9 +72,9 @@ fn spread(m: usize, gap: usize, base: u32, heads: &[u32], sizes: &mut [u32])
     }
 }
 
-// The size of each class of an accepted shape; the array is 0 at entry.
-pub(crate) fn sizes_by(pass: Pass, sizes: &mut [u32])
-    requires { ⌜ OfShape pass × (maxClasses ≤ length (now sizes)) ⌝ }
+// The size of each class where there is one slice; the array is 0 at entry.
+fn sizes_by_starts(pass: Pass, sizes: &mut [u32])
+    requires { ⌜ OfShape pass × (pass .slices ≡ 1) × (maxClasses ≤ length (now sizes)) ⌝ }
     requires { ⌜ ((a : ℕ) → getD (now sizes) a 0 ≡ 0) ⌝ }
     ensures { λ _. ⌜ ((s : Shape)
         → Accepted s
@@ -82,7 +82,7 @@ pub(crate) fn sizes_by(pass: Pass, sizes: &mut [u32])
         → (a : ℕ)
         → getD (now (sizes .exit)) a 0 ≡ size (layoutOf s) a) ⌝ }
 {
-    let m = pass.classes;
+    let m = pass.period;
     let mut starts = [0u32; Shape::MAX_CLASSES];
     count_starts(pass, &mut starts);
     let mut heads = [0u32; 1025];
@@ -94,4 +94,48 @@ pub(crate) fn sizes_by(pass: Pass, sizes: &mut [u32])
         &heads,
         sizes,
     );
+}
+
+// How many of n numbers from 0 on have the remainder y by m.
+fn share(n: usize, m: usize, y: usize) -> usize
+    requires { ⌜ (y < m) × (n ≤ maxCells) ⌝ }
+    ensures { λ r. ⌜ r ≡ among m y n ⌝ }
+{
+    if y < n % m { n / m + 1 } else { n / m }
+}
+
+// The size of each class where there are more slices, whose lines all begin at the table's first place; the array is 0 at entry.
+fn sizes_by_slices(pass: Pass, sizes: &mut [u32])
+    requires { ⌜ OfShape pass × (2 ≤ pass .slices) × (maxClasses ≤ length (now sizes)) ⌝ }
+    requires { ⌜ ((a : ℕ) → getD (now sizes) a 0 ≡ 0) ⌝ }
+    ensures { λ _. ⌜ ((s : Shape)
+        → Accepted s
+        → pass ≡ passOf s
+        → (a : ℕ)
+        → getD (now (sizes .exit)) a 0 ≡ size (layoutOf s) a) ⌝ }
+{
+    let mut a = 0;
+    while a < pass.classes {
+        let lines = share(pass.lines, pass.slices, a / pass.period);
+        let columns = share(pass.columns, pass.period, a % pass.period);
+        sizes[a] = (lines * columns) as u32;
+        a += 1;
+    }
+}
+
+// The size of each class of an accepted shape; the array is 0 at entry.
+pub(crate) fn sizes_by(pass: Pass, sizes: &mut [u32])
+    requires { ⌜ OfShape pass × (maxClasses ≤ length (now sizes)) ⌝ }
+    requires { ⌜ ((a : ℕ) → getD (now sizes) a 0 ≡ 0) ⌝ }
+    ensures { λ _. ⌜ ((s : Shape)
+        → Accepted s
+        → pass ≡ passOf s
+        → (a : ℕ)
+        → getD (now (sizes .exit)) a 0 ≡ size (layoutOf s) a) ⌝ }
+{
+    if pass.slices == 1 {
+        sizes_by_starts(pass, sizes);
+    } else {
+        sizes_by_slices(pass, sizes);
+    }
 }

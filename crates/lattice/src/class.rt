@@ -2,20 +2,24 @@
 ghost use mathlib.Core.Path.{_≡_};
 ghost use Prim.Native.Nat.{_/_, _%_, _<_};
 ghost use Rattle.lattice.specs.Cell.{cell, cellAt};
-ghost use Rattle.lattice.specs.Refusal.{testedNumber, NoLength};
-ghost use Rattle.lattice.specs.Class.{minusMod, classWith, inside, classNumber, placementOf, classBy};
+ghost use Rattle.lattice.specs.Refusal.{testedNumber, NoLength, figure};
+ghost use Rattle.lattice.specs.Shape.{shapeNumber, Accepted};
+ghost use Rattle.lattice.specs.Class.{minusMod, classWith, classesOf, inside, classNumber};
+ghost use Rattle.lattice.specs.Class.{placementOf, placementGiven, classBy};
 ghost use Rattle.lattice.specs.Answer.{IsCellClass, cellClassNumber, cellClass};
 use crate::refusal::Refusal;
 use crate::refusal::Tested;
 use crate::settings::Settings;
 use crate::shape::Shape;
 
-// How the cells of a field are placed in classes: what a pass over the cells is handed, to find the class of each.
+// How the cells of a field are placed in classes: what a pass over the cells is handed, to find the class of each. The rows have
+// so many slices of classes by turns, and the settings place the cells in the classes of a slice.
 pub struct Placement {
+    pub slices: u32,
     pub settings: Settings,
 }
 
-// The class, or the refusal 1, 2 or 4.
+// The class, or the refusal 1, 2, 11 or 4.
 pub enum CellClass {
     Class(usize),
     Refused(Refusal),
@@ -88,7 +92,8 @@ fn class_by(placement: Placement, row: u32, plane: u32, column: u32) -> usize
     ensures { λ r. ⌜ r ≡ classBy placement (cell row plane column) ⌝ }
 {
     let settings = placement.settings;
-    class_with(settings, row, plane, column)
+    let slice = remainder(row, placement.slices) as usize;
+    slice * settings.m as usize + class_with(settings, row, plane, column)
 }
 
 // The class of the cell with a byte number.
@@ -116,7 +121,7 @@ impl Shape {
         column < self.columns as usize
     }
 
-    // The tests of the class of a cell: 1, 2, 4.
+    // The tests of the class of a cell: 1, 2, 11, 4.
     fn class_tests(self, row: usize, plane: usize, column: usize) -> Tested
         ensures { λ r. ⌜ testedNumber r ≡ classNumber self (cell row plane column) ⌝ }
         ensures { λ r. ⌜ NoLength r ⌝ }
@@ -131,7 +136,7 @@ impl Shape {
         Tested::Passed
     }
 
-    // The class of the cell, or the refusal 1, 2 or 4.
+    // The class of the cell, or the refusal 1, 2, 11 or 4.
     pub fn class_of(self, row: usize, plane: usize, column: usize) -> CellClass
         ensures { λ r. ⌜ IsCellClass self (cell row plane column) r ⌝ }
     {
@@ -142,11 +147,49 @@ impl Shape {
         CellClass::Class(class_by(self.placement(), row as u32, plane as u32, column as u32))
     }
 
-    // How the cells of the field are placed in classes.
-    pub fn placement(self) -> Placement
+    // How the cells of an accepted field are placed in classes.
+    fn placed(self) -> Placement
+        requires { ⌜ Accepted self ⌝ }
         ensures { λ r. ⌜ r ≡ placementOf self ⌝ }
     {
+        if self.strength == 0 {
+            let settings = Settings {
+                m: self.window.columns as u16,
+                b: 0,
+                c: 0,
+            };
+            return Placement {
+                slices: self.window.rows as u32,
+                settings,
+            };
+        }
         let settings = self.settings();
-        Placement { settings }
+        Placement {
+            slices: 1,
+            settings,
+        }
+    }
+
+    // How the cells of the field are placed in classes; all 0 for a shape that the constructor refuses.
+    pub fn placement(self) -> Placement
+        ensures { λ r. ⌜ r ≡ placementGiven self ⌝ }
+    {
+        let tested = self.tests();
+        if let Tested::Refused(_) = tested {
+            let settings = Settings { m: 0, b: 0, c: 0 };
+            return Placement {
+                slices: 0,
+                settings,
+            };
+        }
+        self.placed()
+    }
+
+    // The number of classes, m; 0 for a shape that the constructor refuses.
+    pub fn classes(self) -> usize
+        ensures { λ r. ⌜ r ≡ figure (shapeNumber self) (classesOf self) ⌝ }
+    {
+        let placement = self.placement();
+        placement.slices as usize * placement.settings.m as usize
     }
 }

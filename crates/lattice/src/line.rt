@@ -3,21 +3,23 @@ ghost use mathlib.Core.Path.{_≡_};
 ghost use Prim.Native.Nat.{ℕ, _+_, _%_, _<_};
 ghost use Rattle.lattice.specs.declared.shape.Shape.{Shape};
 ghost use Rattle.lattice.specs.Shape.{Accepted};
-ghost use Rattle.lattice.specs.Settings.{settingsOf};
-ghost use Rattle.lattice.specs.Class.{minusMod};
-ghost use Rattle.lattice.specs.Lines.{passOf, passGiven, IsLine};
+ghost use Rattle.lattice.specs.Class.{minusMod, placementOf};
+ghost use Rattle.lattice.specs.Lines.{tableOf, passOf, passGiven, IsLine};
+use crate::class::Placement;
 use crate::class::minus_mod;
 use crate::refusal::Tested;
-use crate::settings::Settings;
 use crate::shape::Shape;
 
-// What a pass over the cells needs of a shape, weighed once: columns, lines, cells and classes; the steps back in the table of
-// classes to the next row, and from a plane's last row to the next plane; and the number of a plane's last row.
+// What a pass over the cells needs of a shape, weighed once: columns, lines, cells and classes; the slices, and the period of the
+// table of classes; the steps back in the table to the next row, and from a plane's last row to the next plane; and the number of
+// a plane's last row.
 pub struct Pass {
     pub columns: usize,
     pub lines: usize,
     pub cells: usize,
     pub classes: usize,
+    pub slices: usize,
+    pub period: usize,
     pub row: usize,
     pub plane: usize,
     pub last: usize,
@@ -29,22 +31,26 @@ pub struct Line {
     pub start: usize,
 }
 
-// The pass over the field of an accepted shape, from its settings.
-fn pass_with(shape: Shape, settings: Settings) -> Pass
-    requires { ⌜ Accepted shape × (settings ≡ settingsOf shape) ⌝ }
+// The pass over the field of an accepted shape, from its placement.
+fn pass_with(shape: Shape, placement: Placement) -> Pass
+    requires { ⌜ Accepted shape × (placement ≡ placementOf shape) ⌝ }
     ensures { λ r. ⌜ r ≡ passOf shape ⌝ }
 {
+    let settings = placement.settings;
     let m = settings.m as usize;
     let b = settings.b as usize;
     let columns = shape.columns as usize;
     let rows = shape.rows as usize;
+    let slices = placement.slices as usize;
     let lines = rows * shape.planes as usize;
     let last = rows - 1;
     Pass {
         columns,
         lines,
         cells: columns * lines,
-        classes: m,
+        classes: slices * m,
+        slices,
+        period: m,
         row: b % m,
         plane: minus_mod(settings.c as usize, b * last, m),
         last,
@@ -63,12 +69,14 @@ impl Shape {
                 lines: 0,
                 cells: 0,
                 classes: 0,
+                slices: 0,
+                period: 0,
                 row: 0,
                 plane: 0,
                 last: 0,
             };
         }
-        pass_with(self, self.settings())
+        pass_with(self, self.placement())
     }
 }
 
@@ -95,24 +103,24 @@ pub fn next_place(a: usize, m: usize) -> usize
     if a + 1 < m { a + 1 } else { 0 }
 }
 
-// The line after.
+// The line after, of the field or of a slice.
 pub fn next_line(pass: Pass, line: Line) -> Line
     ensures { λ r. ⌜ ((s : Shape)
         → Accepted s
         → pass ≡ passOf s
         → (l : ℕ)
-        → IsLine (settingsOf s) (s .rows) l line
-        → IsLine (settingsOf s) (s .rows) (l + 1) r) ⌝ }
+        → IsLine (tableOf s) (s .rows) l line
+        → IsLine (tableOf s) (s .rows) (l + 1) r) ⌝ }
 {
     if line.left > 0 {
         Line {
             left: line.left - 1,
-            start: next_start(line.start, pass.row, pass.classes),
+            start: next_start(line.start, pass.row, pass.period),
         }
     } else {
         Line {
             left: pass.last,
-            start: next_start(line.start, pass.plane, pass.classes),
+            start: next_start(line.start, pass.plane, pass.period),
         }
     }
 }

@@ -15,6 +15,7 @@ pub enum Refusal {
     BadForm,
     BadSettings,
     TooManyErasures,
+    BadWindow,
 }
 
 impl Refusal {
@@ -34,6 +35,7 @@ impl Refusal {
             Refusal::BadForm => 8,
             Refusal::BadSettings => 9,
             Refusal::TooManyErasures => 10,
+            Refusal::BadWindow => 11,
         }
     }
 }

@@ -1,11 +1,8 @@
-// The settings m, b and c of a field.
+// The settings m, b and c of a field by strength.
 ghost use mathlib.Core.Path.{_≡_};
-ghost use Prim.Native.Nat.{_<_};
-ghost use Rattle.lattice.specs.Refusal.{figure};
-ghost use Rattle.lattice.specs.Settings.{flatSettings, stackSettings, settingsGiven};
-ghost use Rattle.lattice.specs.Shape.{shapeNumber};
-ghost use Rattle.lattice.specs.Class.{classesOf};
-use crate::refusal::Tested;
+ghost use Prim.Native.Nat.{_<_, _≤_};
+ghost use Rattle.lattice.specs.Settings.{flatSettings, stackSettings, settingsOf};
+ghost use Rattle.lattice.specs.Shape.{Accepted};
 use crate::shape::Shape;
 
 // m classes; b goes with the row and c with the plane.
@@ -61,26 +58,15 @@ fn stack(strength: usize) -> Settings
 }
 
 impl Shape {
-    // The settings of the shape; all 0 for a shape that the constructor refuses.
-    pub fn settings(self) -> Settings
-        ensures { λ r. ⌜ r ≡ settingsGiven self ⌝ }
+    // The settings of an accepted shape by strength.
+    pub(crate) fn settings(self) -> Settings
+        requires { ⌜ Accepted self × (1 ≤ self .strength) ⌝ }
+        ensures { λ r. ⌜ r ≡ settingsOf self ⌝ }
     {
-        match self.tests() {
-            Tested::Refused(_) => Settings { m: 0, b: 0, c: 0 },
-            Tested::Passed => {
-                if self.planes == 1 {
-                    flat(self.strength)
-                } else {
-                    stack(self.strength as usize)
-                }
-            }
+        if self.planes == 1 {
+            flat(self.strength)
+        } else {
+            stack(self.strength as usize)
         }
-    }
-
-    // The number of classes, m; 0 for a shape that the constructor refuses.
-    pub fn classes(self) -> usize
-        ensures { λ r. ⌜ r ≡ figure (shapeNumber self) (classesOf self) ⌝ }
-    {
-        self.settings().m as usize
     }
 }

@@ -2,18 +2,26 @@
 ghost use mathlib.Core.Path.{_≡_};
 ghost use Rattle.lattice.specs.Refusal.{testedNumber, figure};
 ghost use Rattle.lattice.specs.Shape.{maxSide, maxPlanes, maxCells, maxFlatStrength, maxStackStrength, maxClasses};
-ghost use Rattle.lattice.specs.Shape.{maxStrength, sizeOk, strengthOk, shapeFrom, shapeNumber, cellsOf};
+ghost use Rattle.lattice.specs.Shape.{maxStrength, sizeOk, isNone, strengthOk, windowOk, shapeFrom, shapeNumber, cellsOf};
 ghost use Rattle.lattice.specs.Answer.{IsNewShape, newNumber};
 use crate::range::within;
 use crate::refusal::Refusal;
 use crate::refusal::Tested;
 
-// W columns, H rows and D planes of cells, and the strength t.
+// A window of p rows by q columns; both are 0 where a shape has none.
+#[repr(C)]
+pub struct Window {
+    pub rows: usize,
+    pub columns: usize,
+}
+
+// W columns, H rows and D planes of cells, and the strength t; at strength 0 the window says how the cells are placed.
 pub struct Shape {
     pub columns: u16,
     pub rows: u16,
     pub planes: u16,
     pub strength: u16,
+    pub window: Window,
 }
 
 // The numbers of a shape as a caller hands them over, of any size.
@@ -23,9 +31,10 @@ pub struct ShapeNumbers {
     pub rows: usize,
     pub planes: usize,
     pub strength: usize,
+    pub window: Window,
 }
 
-// What the constructor gives: the shape, or the refusal 1 or 2.
+// What the constructor gives: the shape, or the refusal 1, 2 or 11.
 pub enum NewShape {
     Accepted(Shape),
     Refused(Refusal),
@@ -40,6 +49,18 @@ impl NewShape {
             NewShape::Accepted(_) => 0,
             NewShape::Refused(why) => why.number(),
         }
+    }
+}
+
+impl Window {
+    // Are both sides 0?
+    fn is_none(self) -> bool
+        ensures { λ r. ⌜ r ≡ isNone self ⌝ }
+    {
+        if self.rows != 0 {
+            return false;
+        }
+        self.columns == 0
     }
 }
 
@@ -81,26 +102,51 @@ impl Shape {
         }
     }
 
-    fn strength_ok(planes: usize, strength: usize) -> bool
-        ensures { λ r. ⌜ r ≡ strengthOk planes strength ⌝ }
+    fn strength_ok(planes: usize, strength: usize, window: Window) -> bool
+        ensures { λ r. ⌜ r ≡ strengthOk planes strength window ⌝ }
     {
-        within(1, Shape::max_strength(planes), strength)
+        if strength == 0 {
+            return !window.is_none();
+        }
+        strength <= Shape::max_strength(planes)
     }
 
-    // The tests of a shape's numbers: 1, 2.
+    fn window_ok(planes: usize, strength: usize, window: Window) -> bool
+        ensures { λ r. ⌜ r ≡ windowOk planes strength window ⌝ }
+    {
+        if strength != 0 {
+            return window.is_none();
+        }
+        if !within(1, Shape::MAX_CLASSES, window.rows) {
+            return false;
+        }
+        if !within(1, Shape::MAX_CLASSES, window.columns) {
+            return false;
+        }
+        if window.rows * window.columns > Shape::MAX_CLASSES {
+            return false;
+        }
+        planes <= 1
+    }
+
+    // The tests of a shape's numbers: 1, 2, 11.
     fn tests_of(numbers: ShapeNumbers) -> Tested
         ensures { λ r. ⌜ testedNumber r ≡ shapeNumber (shapeFrom numbers) ⌝ }
     {
         if !Shape::size_ok(numbers.columns, numbers.rows, numbers.planes) {
             return Tested::Refused(Refusal::BadSize);
         }
-        if !Shape::strength_ok(numbers.planes, numbers.strength) {
+        let window = numbers.window;
+        if !Shape::strength_ok(numbers.planes, numbers.strength, window) {
             return Tested::Refused(Refusal::BadStrength);
+        }
+        if !Shape::window_ok(numbers.planes, numbers.strength, window) {
+            return Tested::Refused(Refusal::BadWindow);
         }
         Tested::Passed
     }
 
-    // The shape of these numbers, or the refusal 1 or 2.
+    // The shape of these numbers, or the refusal 1, 2 or 11.
     pub fn new(numbers: ShapeNumbers) -> NewShape
         ensures { λ r. ⌜ IsNewShape numbers r ⌝ }
         ensures limits { λ r. do
@@ -116,11 +162,13 @@ impl Shape {
         if let Tested::Refused(why) = tested {
             return NewShape::Refused(why);
         }
+        let window = numbers.window;
         NewShape::Accepted(Shape {
             columns: numbers.columns as u16,
             rows: numbers.rows as u16,
             planes: numbers.planes as u16,
             strength: numbers.strength as u16,
+            window,
         })
     }
 
@@ -128,11 +176,13 @@ impl Shape {
     pub fn numbers(self) -> ShapeNumbers
         ensures { λ r. ⌜ shapeFrom r ≡ self ⌝ }
     {
+        let window = self.window;
         ShapeNumbers {
             columns: self.columns as usize,
             rows: self.rows as usize,
             planes: self.planes as usize,
             strength: self.strength as usize,
+            window,
         }
     }
 

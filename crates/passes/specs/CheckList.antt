@@ -8,11 +8,10 @@ use Rattle.lattice.specs.declared.line.Line.{Line}
 use Rattle.lattice.specs.declared.line.Pass.{Pass}
 use Rattle.lattice.specs.declared.shape.Shape.{Shape}
 use Rattle.lattice.specs.Shape.{Accepted}
-use Rattle.lattice.specs.Settings.{settingsOf}
 use Rattle.lattice.specs.Class.{layoutOf}
 use Rattle.lattice.specs.Position.{Layout}
 use Rattle.lattice.specs.Check.{isPower}
-use Rattle.lattice.specs.Lines.{passOf, IsLine}
+use Rattle.lattice.specs.Lines.{tableOf, passOf, IsLine}
 use Rattle.lattice.specs.Listing.{maxChecks, ListsChecks, HoldsPlaces}
 use Rattle.lattice.specs.Sizes.{HoldsSizes}
 
@@ -30,15 +29,16 @@ LinesListed pass l amount sizes counts cells places =
 
 -- line l of a pass, as the code keeps it
 abbrev pub LineOf : Pass → ℕ → Line → Type 0
-LineOf pass l line = (s : Shape) → Accepted s → pass ≡ passOf s → IsLine (settingsOf s) (s .rows) l line
+LineOf pass l line = (s : Shape) → Accepted s → pass ≡ passOf s → IsLine (tableOf s) (s .rows) l line
 
 -- none of the `more` numbers after an entry below m is a power of two
 abbrev pub NoPowerNear : ℕ → ℕ → List ℕ → Type 0
 NoPowerNear m more counts = (a k : ℕ) → a < m → getD counts a 0 < k → k ≤ getD counts a 0 + more → isPower k ≡ false
 
--- no class reaches a power of two in the next `free` lines of a pass, which give it at most W / m + 1 cells each
+-- no class reaches a power of two in the next `free` lines of a pass, which give it at most W / m + 1 cells each, with m classes
+-- in a slice
 abbrev pub FreeAhead : Pass → ℕ → List ℕ → Type 0
-FreeAhead pass free counts = NoPowerNear (pass .classes) (free * (pass .columns / pass .classes + 1)) counts
+FreeAhead pass free counts = NoPowerNear (pass .classes) (free * (pass .columns / pass .period + 1)) counts
 
 -- cell i is put at the end of the lists, with its place
 pub record PutLast (amount r i j : ℕ) (cells places cells' places' : List ℕ) : Type 0 where

@@ -18,13 +18,14 @@ use lattice::shape::Shape;
 // What stands for a cell where there is none.
 pub const NO_CELL: u32 = 65536;
 
-// The cell of a class that has a position from 1 on, or `NO_CELL`. Of the class `before` cells stand in the lines before it, and
-// `here` in the line that begins at cell n: the first of them in column x, and m columns from one to the next.
+// The cell of a class that has a position from 1 on, or `NO_CELL`. The class is number y of its slice. Of it `before` cells stand
+// in the slice's lines before line l, and `here` in line l: the first of them in column x, and m columns from one to the next.
 fn find_cell(pass: Pass, class: usize, position: usize) -> u32
     requires { ⌜ OfShape pass × (class < pass .classes) × (1 ≤ position) ⌝ }
     ensures { λ r. ⌜ ((s : Shape) → Accepted s → pass ≡ passOf s → CellOrNone (layoutOf s) class position r) ⌝ }
 {
-    let m = pass.classes;
+    let m = pass.period;
+    let y = class % m;
     let whole = (pass.columns / m) as u16;
     let rest = pass.columns % m;
     let mut line = Line {
@@ -32,18 +33,16 @@ fn find_cell(pass: Pass, class: usize, position: usize) -> u32
         start: 0,
     };
     let mut before = 0;
-    let mut n = 0;
-    let mut l = 0;
+    let mut l = class / m;
     while l < pass.lines {
-        let x = next_start(class, line.start, m);
+        let x = next_start(y, line.start, m);
         let here = raised(x, rest, whole) as usize;
         if position <= before + here {
-            return (n + x + (position - before - 1) * m) as u32;
+            return (l * pass.columns + x + (position - before - 1) * m) as u32;
         }
         before += here;
-        n += pass.columns;
         line = next_line(pass, line);
-        l += 1;
+        l += pass.slices;
     }
     NO_CELL
 }

@@ -1,7 +1,8 @@
 // The cells that hold a check, listed in byte order with the place of each. Most lines of a large field hold no check; they are
 // passed over by loops over the classes.
+ghost use mathlib.Core.Logic.{_⊎_};
 ghost use mathlib.Core.Path.{_≡_};
-ghost use Prim.Native.Nat.{ℕ, _+_, _-_, _*_, _^_, _<_, _≤_};
+ghost use Prim.Native.Nat.{ℕ, _+_, _-_, _*_, _^_, _%_, _<_, _≤_};
 ghost use lib.ListN.{length, getD};
 ghost use Rattle.lattice.specs.Shape.{maxSide, maxCells, maxClasses, Accepted, cellsOf};
 ghost use Rattle.lattice.specs.Class.{layoutOf};
@@ -33,19 +34,21 @@ fn fill_gains(gained: &mut [u16], m: usize, w: usize)
     gains(&mut gained[..n], m, w);
 }
 
-// A line is passed: each class below m gains its cells of the line.
-fn count_line(counts: &mut [u32], gains: &[u16], m: usize, from: usize)
-    requires { ⌜ (m ≤ length (now counts)) × (m + from ≤ length (now gains)) ⌝ }
-    requires { ⌜ ((a : ℕ) → a < m → getD (now counts) a 0 ≤ maxCells) ⌝ }
+// A line is passed: each of the m classes of its slice, from the class `first` on, gains its cells of the line.
+fn count_line(counts: &mut [u32], gains: &[u16], m: usize, first: usize, from: usize)
+    requires { ⌜ (first + m ≤ length (now counts)) × (m + from ≤ length (now gains)) ⌝ }
+    requires { ⌜ ((a : ℕ) → a < m → getD (now counts) (first + a) 0 ≤ maxCells) ⌝ }
     ensures { λ _. ⌜ ((a : ℕ)
         → a < m
-        → getD (now (counts .exit)) a 0
-        ≡ getD (now (counts .entry)) a 0 + getD (now (gains .entry)) (a + from) 0) ⌝ }
-    ensures { λ _. ⌜ ((a : ℕ) → m ≤ a → getD (now (counts .exit)) a 0 ≡ getD (now (counts .entry)) a 0) ⌝ }
+        → getD (now (counts .exit)) (first + a) 0
+        ≡ getD (now (counts .entry)) (first + a) 0 + getD (now (gains .entry)) (a + from) 0) ⌝ }
+    ensures { λ _. ⌜ ((a : ℕ)
+        → (a < first) ⊎ (first + m ≤ a)
+        → getD (now (counts .exit)) a 0 ≡ getD (now (counts .entry)) a 0) ⌝ }
 {
     let mut a = 0;
     while a < m {
-        counts[a] = counts[a] + gains[a + from] as u32;
+        counts[first + a] = counts[first + a] + gains[a + from] as u32;
         a += 1;
     }
 }
@@ -200,6 +203,17 @@ fn list_cell(
     amount
 }
 
+// The first class of the slice of line l. By strength, with one slice, nothing is divided.
+fn first_class(pass: Pass, l: usize) -> usize
+    requires { ⌜ OfShape pass × (l < pass .lines) ⌝ }
+    ensures { λ r. ⌜ r ≡ l % pass .slices * pass .period ⌝ }
+{
+    if pass.slices == 1 {
+        return 0;
+    }
+    l % pass.slices * pass.period
+}
+
 // Passes line l, whose cells it takes one by one.
 fn list_line(
     pass: Pass,
@@ -216,13 +230,14 @@ fn list_line(
     ensures { λ r. ⌜ LinesListed pass (l + 1) r (now (sizes .entry)) (now (counts .exit)) (now (cells .exit))
         (now (places .exit)) ⌝ }
 {
-    let first = l * pass.columns;
+    let cell = l * pass.columns;
+    let first = first_class(pass, l);
     let mut n = amount;
     let mut a = line.start;
     let mut x = 0;
     while x < pass.columns {
-        n = list_cell(sizes, counts, cells, places, first + x, a, n);
-        a = next_place(a, pass.classes);
+        n = list_cell(sizes, counts, cells, places, cell + x, first + a, n);
+        a = next_place(a, pass.period);
         x += 1;
     }
     n
@@ -247,18 +262,19 @@ fn list_or_count(
     at: Progress,
 ) -> Progress
     requires { ⌜ OfShape pass × (l < pass .lines) × LineOf pass l line ⌝ }
-    requires { ⌜ (2 * pass .classes ≤ length (now gains))
-        × Gains (pass .classes) (pass .columns) (2 * pass .classes) (now gains) ⌝ }
+    requires { ⌜ (2 * pass .period ≤ length (now gains))
+        × Gains (pass .period) (pass .columns) (2 * pass .period) (now gains) ⌝ }
     requires { ⌜ LinesListed pass l (at .amount) (now sizes) (now counts) (now cells) (now places) ⌝ }
     requires { ⌜ FreeAhead pass (at .free) (now counts) ⌝ }
     ensures { λ r. ⌜ LinesListed pass (l + 1) (r .amount) (now (sizes .entry)) (now (counts .exit))
         (now (cells .exit)) (now (places .exit)) ⌝ }
     ensures { λ r. ⌜ FreeAhead pass (r .free) (now (counts .exit)) ⌝ }
 {
-    let m = pass.classes;
-    let free = look_ahead(counts, m, (pass.columns / m) as u32 + 1, at.free);
+    let m = pass.period;
+    let free = look_ahead(counts, pass.classes, (pass.columns / m) as u32 + 1, at.free);
     if free > 0 {
-        count_line(counts, gains, m, m - line.start);
+        let first = first_class(pass, l);
+        count_line(counts, gains, m, first, m - line.start);
         return Progress {
             amount: at.amount,
             free: free - 1,
@@ -278,8 +294,8 @@ fn list_lines(
     places: &mut [u16; MAX_CHECKS],
 ) -> usize
     requires { ⌜ OfShape pass × ((a : ℕ) → getD (now counts) a 0 ≡ 0) ⌝ }
-    requires { ⌜ (2 * pass .classes ≤ length (now gains))
-        × Gains (pass .classes) (pass .columns) (2 * pass .classes) (now gains) ⌝ }
+    requires { ⌜ (2 * pass .period ≤ length (now gains))
+        × Gains (pass .period) (pass .columns) (2 * pass .period) (now gains) ⌝ }
     ensures { λ r. ⌜ LinesListed pass (pass .lines) r (now (sizes .entry)) (now (counts .exit)) (now (cells .exit))
         (now (places .exit)) ⌝ }
 {
@@ -317,7 +333,7 @@ pub fn check_cells(
     }
     let pass = shape.pass();
     let mut gained = [0u16; 1024];
-    fill_gains(&mut gained, pass.classes, pass.columns);
+    fill_gains(&mut gained, pass.period, pass.columns);
     let mut counts = [0u32; Shape::MAX_CLASSES];
     list_lines(pass, sizes, &gained, &mut counts, cells, places)
 }

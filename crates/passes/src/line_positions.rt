@@ -88,13 +88,13 @@ fn has_room(pass: Pass, e: usize, p: usize, q: usize) -> bool
     ensures { λ r. ⌜ (r ≡ true → Small pass e p q) ⌝ }
     ensures { λ r. ⌜ ((s : Shape) → Accepted s → pass ≡ passOf s → Room pass e p q → r ≡ true) ⌝ }
 {
-    if !within(1, e, pass.classes) {
+    if !within(1, e, pass.period) {
         return false;
     }
-    if !within(pass.classes, 4096, p) {
+    if !within(pass.period, 4096, p) {
         return false;
     }
-    if !within(pass.classes, 4096, q) {
+    if !within(pass.period, 4096, q) {
         return false;
     }
     if e > 4096 {
@@ -113,23 +113,23 @@ fn has_room(pass: Pass, e: usize, p: usize, q: usize) -> bool
 fn fill_lists(pass: Pass, e: &mut [u16], p: &mut [u16], q: &mut [u16])
     requires { ⌜ Small pass (length (now e)) (length (now p)) (length (now q)) ⌝ }
     ensures { λ _. ⌜ ((L : Layout) (table : ℕ → ℕ) (off : ℕ)
-        → Positions L (pass .classes) table 0 off 0 (length (now (e .entry))) (now (e .exit))) ⌝ }
-    ensures { λ _. ⌜ Gains (pass .classes) (pass .columns + pass .row) (length (now (p .entry))) (now (p .exit)) ⌝ }
-    ensures { λ _. ⌜ Gains (pass .classes) (pass .columns + pass .plane) (length (now (q .entry))) (now (q .exit)) ⌝ }
+        → Positions L (pass .period) table 0 off 0 (length (now (e .entry))) (now (e .exit))) ⌝ }
+    ensures { λ _. ⌜ Gains (pass .period) (pass .columns + pass .row) (length (now (p .entry))) (now (p .exit)) ⌝ }
+    ensures { λ _. ⌜ Gains (pass .period) (pass .columns + pass .plane) (length (now (q .entry))) (now (q .exit)) ⌝ }
 {
-    first_positions(e, pass.classes);
-    gains(p, pass.classes, pass.columns + pass.row);
-    gains(q, pass.classes, pass.columns + pass.plane);
+    first_positions(e, pass.period);
+    gains(p, pass.period, pass.columns + pass.row);
+    gains(q, pass.period, pass.columns + pass.plane);
 }
 
-// Fills the lists for a pass: e with the positions of the first line, p and q with what a line and its step give, to the next row
-// and to the next plane; where they have no room they stay. Gives the first line.
+// Fills the lists for a pass over a slice: e with the positions of its first line, p and q with what a line and its step give, to
+// the next row and to the next plane; where they have no room they stay. Gives the first line.
 pub fn first_line(pass: Pass, e: &mut [u16], p: &mut [u16], q: &mut [u16]) -> Line
     ensures { λ r. ⌜ ((s : Shape)
         → Accepted s
         → pass ≡ passOf s
         → Room pass (length (now (e .entry))) (length (now (p .entry))) (length (now (q .entry)))
-        → AtLine s 0 r (now (e .exit))
+        → ((j : ℕ) → j < pass .slices → j < pass .lines → AtLine s j r (now (e .exit)))
         × Ready pass (length (now (e .entry))) (now (p .exit)) (now (q .exit))) ⌝ }
 {
     if has_room(pass, e.len(), p.len(), q.len()) {
@@ -167,7 +167,8 @@ fn step(e: &mut [u16], p: &[u16], m: usize, start: usize, back: usize, next: usi
     advance(e, p, from, raised(start, back, 0));
 }
 
-// Steps the list to the line after, which is given. With one class, where a position may need 17 bits, the list does not serve.
+// Steps the list to the line after in its slice, which is given. With one class, where a position may need 17 bits, the list does
+// not serve.
 pub fn next_positions(pass: Pass, line: Line, e: &mut [u16], p: &[u16], q: &[u16]) -> Line
     ensures { λ r. ⌜ ((s : Shape)
         → Accepted s
@@ -175,15 +176,15 @@ pub fn next_positions(pass: Pass, line: Line, e: &mut [u16], p: &[u16], q: &[u16
         → 2 ≤ pass .classes
         → Ready pass (length (now (e .entry))) (now (p .entry)) (now (q .entry))
         → (l : ℕ)
-        → l < pass .lines
+        → l + pass .slices < pass .lines
         → AtLine s l line (now (e .entry))
-        → AtLine s (l + 1) r (now (e .exit))) ⌝ }
+        → AtLine s (l + pass .slices) r (now (e .exit))) ⌝ }
 {
     let next = next_line(pass, line);
     if line.left > 0 {
-        step(e, p, pass.classes, line.start, pass.row, next.start);
+        step(e, p, pass.period, line.start, pass.row, next.start);
     } else {
-        step(e, q, pass.classes, line.start, pass.plane, next.start);
+        step(e, q, pass.period, line.start, pass.plane, next.start);
     }
     next
 }

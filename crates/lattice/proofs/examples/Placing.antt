@@ -6,7 +6,8 @@ use mathlib.Core.Path.{_≡_, refl, sym, ap, _∙_, subst⁻¹}
 use native.Mathlib.Omega.{arith}
 use lib.Dec.{T, ltb, lit<, lit≤}
 use Rattle.lattice.specs.declared.shape.Shape.{Shape}
-use Rattle.lattice.specs.Shape.{maxStrength, sizeOk, strengthOk, shapeNumber, Accepted, cellsOf}
+use Rattle.lattice.specs.Shape.{noWindow, isNone, maxStrength, sizeOk, strengthOk, windowOk, shapeNumber}
+use Rattle.lattice.specs.Shape.{Accepted, cellsOf}
 use Rattle.lattice.specs.Range.{inRange}
 use Rattle.lattice.specs.Settings.{oddSettings, flatSettings, settingsFor, settingsOf}
 use Rattle.lattice.specs.Cell.{Cell, cell, InField, cellNumber, cellAt}
@@ -20,16 +21,19 @@ use Rattle.lattice.proofs.theory.ClassBelow.{class-below}
 use Rattle.lattice.proofs.theorems.Labels.{labelsNeeded}
 use Rattle.lattice.proofs.examples.ThreeCells.{Among, cluster-of-three, at-most-three}
 
--- a field that the constructor accepts, flat and with both sides at least its strength
+-- a field that the constructor accepts, flat, by strength, and with both sides at least its strength
 abbrev pub field : Shape
-field = record { columns = 5; rows = 5; planes = 1; strength = 3 }
+field = record { columns = 5; rows = 5; planes = 1; strength = 3; window = noWindow }
 
 pub accepted : Accepted field
-unfolding shapeNumber sizeOk strengthOk maxStrength inRange
+unfolding shapeNumber sizeOk strengthOk windowOk isNone maxStrength inRange
 accepted = refl
 
 pub flat : field .planes ≡ 1
 flat = refl
+
+pub strong : 1 ≤ field .strength
+strong = lit≤ tt
 
 pub wide : field .strength ≤ field .columns
 wide = lit≤ tt
@@ -108,7 +112,7 @@ unfolding classesOf settingsFor flatSettings oddSettings
 five = refl
 
 pub numbers-needed : classesOf field ≤ labels field (cellNumber field)
-numbers-needed = labelsNeeded field flat (lit≤ tt) wide high (cellNumber field) (numbers-separate field 3)
+numbers-needed = labelsNeeded field flat strong wide high (cellNumber field) (numbers-separate field 3)
 
 -- a byte number of the field
 pub third : 3 < cellsOf field
@@ -116,15 +120,15 @@ third = lit< tt
 
 -- a cell that the field does not have is refused, with another number than 0
 pub outside-refused : classNumber field (cell 5 0 0) ≢ 0
-unfolding classNumber shapeNumber sizeOk strengthOk maxStrength inRange inside
+unfolding classNumber shapeNumber sizeOk strengthOk windowOk isNone maxStrength inRange inside
 outside-refused e = omega (arith, e)
 
 -- the two cells of one class, as points of plane 0 of the endless stack
 pub corner-class : HasClass (settingsOf field) (pointOf corner) (classOf field corner)
-corner-class = class-point field accepted corner
+corner-class = class-point field accepted strong corner
 
 pub mate-class : HasClass (settingsOf field) (pointOf mate) (classOf field corner)
-mate-class = rw mates (class-point field accepted mate)
+mate-class = rw mates (class-point field accepted strong mate)
 
 -- every class of the field is below m
 pub classes-below : (i : ℕ) → i < cellsOf field → classAt field i < classesOf field
@@ -132,5 +136,5 @@ classes-below i h = class-below field accepted (cellAt field i)
 
 -- the class of the first cell is given
 pub corner-given : classNumber field corner ≡ 0
-unfolding classNumber inside shapeNumber sizeOk strengthOk maxStrength inRange
+unfolding classNumber inside shapeNumber sizeOk strengthOk windowOk isNone maxStrength inRange
 corner-given = refl

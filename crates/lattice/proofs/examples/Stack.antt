@@ -7,7 +7,7 @@ use native.Mathlib.Omega.{arith}
 use lib.Dec.{T, ltb, lit<}
 use Rattle.lattice.specs.declared.shape.Shape.{Shape}
 use Rattle.lattice.specs.Range.{inRange}
-use Rattle.lattice.specs.Shape.{maxStrength, sizeOk, strengthOk, shapeNumber, Accepted}
+use Rattle.lattice.specs.Shape.{noWindow, isNone, maxStrength, sizeOk, strengthOk, windowOk, shapeNumber, Accepted}
 use Rattle.lattice.specs.Settings.{stackTable, stackSettings, settingsFor}
 use Rattle.lattice.specs.Cell.{Cell, cell, InField}
 use Rattle.lattice.specs.Cluster.{by-plane, by-column, Cluster, AtMost, apart}
@@ -16,10 +16,10 @@ use Rattle.lattice.proofs.theorems.Clusters.{clusterClasses}
 use Rattle.lattice.proofs.examples.ThreeCells.{Among, cluster-of-three, at-most-three}
 
 abbrev pub stack : Shape
-stack = record { columns = 7; rows = 5; planes = 2; strength = 3 }
+stack = record { columns = 7; rows = 5; planes = 2; strength = 3; window = noWindow }
 
 pub stack-accepted : Accepted stack
-unfolding shapeNumber sizeOk strengthOk maxStrength inRange
+unfolding shapeNumber sizeOk strengthOk windowOk isNone maxStrength inRange
 stack-accepted = refl
 
 -- two different cells of one class, in different planes

@@ -10,7 +10,7 @@ use Rattle.lattice.specs.declared.class.CellClass.the-variants as cls
 use Rattle.lattice.specs.Refusal.{refusalNumber}
 use Rattle.lattice.specs.Shape.{shapeNumber, Accepted}
 use Rattle.lattice.specs.Cell.{Cell, InField}
-use Rattle.lattice.specs.Class.{inside, classNumber, classGiven, placementOf, classBy}
+use Rattle.lattice.specs.Class.{inside, classNumber, classGiven, placementGiven, classBy}
 use Rattle.lattice.specs.Answer.{IsCellClass}
 use Rattle.lattice.proofs.theory.Answers.{done, earlier-told, unless-zero, or-else-zero}
 use Rattle.lattice.proofs.theory.ClassAt.{placed}
@@ -43,7 +43,7 @@ module _ (s : Shape) (x : Cell) where
       record { none = e; accepted = both .0; field = inside-field s x (unless-zero (inside s x) 3 0 (both .1) .0) }
 
   -- the class by the shape's placement is the cell's
-  pub class-given : (k : Placement) (a : ℕ) → Classed → k ≡ placementOf s → a ≡ classBy k x → IsCellClass s x (cls.Class a)
+  pub class-given : (k : Placement) (a : ℕ) → Classed → k ≡ placementGiven s → a ≡ classBy k x → IsCellClass s x (cls.Class a)
   unfolding classGiven
   class-given k a c g e =
       record {

@@ -18,7 +18,8 @@ use Rattle.lattice.specs.Class.{classOf}
 use Rattle.lattice.specs.theorems.Distance.{FlatDistance, StackDistance, ClassDistance}
 use Rattle.lattice.proofs.theory.FlatPlane.{near-is-one}
 use Rattle.lattice.proofs.theory.StackTable.{holdsFor, row-holds, row-accepted}
-use Rattle.lattice.proofs.theory.Limits.{Legal, legal, strength-stack}
+use Rattle.lattice.proofs.theory.Limits.{strength-stack}
+use Rattle.lattice.proofs.theory.Placements.{either}
 use Rattle.lattice.proofs.theory.SettingsLaws.{settings-flat, settings-stack}
 use Rattle.lattice.proofs.theory.Points.{cell-distance}
 use Rattle.lattice.proofs.theory.ClassRemainder.{class-point}
@@ -45,16 +46,13 @@ stackDistance t some most =
 point-inj : (x y : Cell) → x ≢ y → pointOf x ≢ pointOf y
 point-inj x y other e = other (λ i. cell (natAbs (e i .row)) (natAbs (e i .plane)) (natAbs (e i .column)))
 
-module _ (s : Shape) (accepted : Accepted s) (x y : Cell) (hx : InField s x) (hy : InField s y) (same : classOf s x ≡ classOf s y)
-    (other : x ≢ y) where
-  bounds : Legal s
-  bounds = legal s accepted
-
+module _ (s : Shape) (accepted : Accepted s) (some : 1 ≤ s .strength) (x y : Cell) (hx : InField s x) (hy : InField s y)
+    (same : classOf s x ≡ classOf s y) (other : x ≢ y) where
   class-x : HasClass (settingsOf s) (pointOf x) (classOf s x)
-  class-x = class-point s accepted x
+  class-x = class-point s accepted some x
 
   class-y : HasClass (settingsOf s) (pointOf y) (classOf s x)
-  class-y = rw same (class-point s accepted y)
+  class-y = rw same (class-point s accepted some y)
 
   flat : s .planes ≡ 1 → s .strength ≤ distance x y
   flat d =
@@ -64,7 +62,7 @@ module _ (s : Shape) (accepted : Accepted s) (x y : Cell) (hx : InField s x) (hy
       apart : ApartOnPlane (settingsOf s) (s .strength)
       apart =
           subst (λ (k : Settings). ApartOnPlane k (s .strength)) (sym (settings-flat (s .planes) (s .strength) d))
-          (flatDistance (s .strength) (bounds .strength-low))
+          (flatDistance (s .strength) some)
 
   stack : s .planes ≢ 1 → s .strength ≤ distance x y
   stack d = rw cell-distance at (apart (pointOf x) (pointOf y) (classOf s x) class-x class-y (point-inj x y other))
@@ -72,12 +70,12 @@ module _ (s : Shape) (accepted : Accepted s) (x y : Cell) (hx : InField s x) (hy
       apart : Apart (settingsOf s) (s .strength)
       apart =
           subst (λ (k : Settings). Apart k (s .strength)) (sym (settings-stack (s .planes) (s .strength) d))
-          (stackDistance (s .strength) (bounds .strength-low) (strength-stack s accepted d))
+          (stackDistance (s .strength) some (strength-stack s accepted d))
 
 -- Theorem. In a field that the constructor accepts, two different cells of one class are never closer than t.
 pub classDistance : ClassDistance
-classDistance s accepted x y hx hy same other = go (ℕ-discrete (s .planes) 1)
+classDistance s accepted x y hx hy same other = either s (λ z. omega arith) (λ some. go some (ℕ-discrete (s .planes) 1))
   where
-    go : Dec (s .planes ≡ 1) → s .strength ≤ distance x y
-    go (yes d) = flat s accepted x y hx hy same other d
-    go (no d) = stack s accepted x y hx hy same other d
+    go : 1 ≤ s .strength → Dec (s .planes ≡ 1) → s .strength ≤ distance x y
+    go some (yes d) = flat s accepted some x y hx hy same other d
+    go some (no d) = stack s accepted some x y hx hy same other d

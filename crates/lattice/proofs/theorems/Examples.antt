@@ -1,12 +1,12 @@
 -- Our own examples of placing: the term of the theorem, by computation of the definitions.
 use mathlib.Core.Path.{refl}
 use Rattle.lattice.specs.Range.{inRange}
-use Rattle.lattice.specs.Shape.{maxStrength, sizeOk, strengthOk, shapeNumber}
+use Rattle.lattice.specs.Shape.{isNone, maxStrength, sizeOk, strengthOk, windowOk, shapeNumber}
 use Rattle.lattice.specs.Settings.{oddSettings, evenSettings, flatSettings, stackTable, stackSettings, settingsFor}
 use Rattle.lattice.specs.Cell.{cellNumber, cellAt}
-use Rattle.lattice.specs.Class.{minusMod, classWith, classesOf, classOf, inside, classNumber, classGiven}
+use Rattle.lattice.specs.Class.{minusMod, classWith, windowClass, classesOf, classOf, inside, classNumber, classGiven}
 use Rattle.lattice.specs.Position.{sizeTo, position}
-use Rattle.lattice.specs.Check.{isPower, isCheck, dataCells}
+use Rattle.lattice.specs.Check.{isPower, isCheck, dataCells, holdsData, capacity}
 use Rattle.lattice.specs.Order.{order}
 use Rattle.lattice.specs.DistanceTest.{testStrengthOk, testSettingsOk, testNumber, failsAt, outcome, verdict, foundTriple}
 use Rattle.lattice.specs.DistanceTest.{triplesTried}
@@ -15,10 +15,10 @@ use Rattle.lattice.specs.theorems.Examples.{PlacingExamples}
 -- Theorem. The examples hold.
 pub placingExamples : PlacingExamples
 unfolding
-    inRange maxStrength sizeOk strengthOk shapeNumber
+    inRange maxStrength sizeOk strengthOk windowOk isNone shapeNumber
     oddSettings evenSettings flatSettings stackTable stackSettings settingsFor
-    cellNumber cellAt minusMod classWith classesOf classOf inside classNumber classGiven
-    sizeTo position isPower isCheck dataCells
+    cellNumber cellAt minusMod classWith windowClass classesOf classOf inside classNumber classGiven
+    sizeTo position isPower isCheck dataCells holdsData capacity
     testStrengthOk testSettingsOk testNumber order failsAt outcome verdict foundTriple triplesTried
 placingExamples =
     record {
@@ -36,11 +36,14 @@ placingExamples =
       cells = (refl, refl, refl);
       flat-strengths = (refl, refl, refl, refl);
       stack-strengths = (refl, refl, refl, refl);
+      window-classes = (refl, refl, refl);
+      window-numbers = (refl, refl, refl);
+      window-limits = (refl, refl, refl, refl, refl, refl, refl, refl, refl, refl, refl, refl, refl, refl);
       test-strengths = (refl, refl, refl, refl);
       test-classes = (refl, refl, refl, refl);
       test-steps = (refl, refl, refl);
-      first-number = (refl, refl);
+      first-number = (refl, refl, refl);
       limits = (refl, refl, refl, refl, refl, refl, refl, refl);
       test-finds = (refl, refl, refl);
-      refusal-numbers = (refl, refl, refl, refl, refl, refl, refl, refl, refl, refl, refl);
+      refusal-numbers = (refl, refl, refl, refl, refl, refl, refl, refl, refl, refl, refl, refl);
     }

@@ -7,10 +7,9 @@ use Rattle.lattice.specs.Cell.{Cell, InField}
 use Rattle.lattice.specs.Class.{classOf}
 use Rattle.lattice.specs.Labelling.{labels}
 use Rattle.lattice.specs.theorems.Labels.{LabelsNeeded, BoundAttained}
-use Rattle.lattice.proofs.theory.SettingsLaws.{classes-flat}
+use Rattle.lattice.proofs.theory.Placements.{classes-flat}
 use Rattle.lattice.proofs.theory.Sphere.{sphere, sphere-length, sphere-distinct, sphere-near, sphere-inside}
 use Rattle.lattice.proofs.theory.LabelsMany.{separates-near, labels-many}
-use Rattle.lattice.proofs.theory.Limits.{legal}
 use Rattle.lattice.proofs.theorems.Classes.{classesBelow}
 use Rattle.lattice.proofs.theorems.Clusters.{clusterClasses}
 
@@ -18,7 +17,7 @@ use Rattle.lattice.proofs.theorems.Clusters.{clusterClasses}
 -- cells has one label twice has at least m labels.
 pub labelsNeeded : LabelsNeeded
 labelsNeeded s flat positive wide high L sep =
-    rw (classes-flat s flat, ← sphere-length (s .strength) positive)
+    rw (classes-flat s positive flat, ← sphere-length (s .strength) positive)
     (labels-many s L (sphere t) (sphere-distinct t positive) inside
     (λ x y mx my. separates-near s t L sep x y (inside x mx) (inside y my) (sphere-near t positive x y mx my)))
   where
@@ -28,9 +27,8 @@ labelsNeeded s flat positive wide high L sep =
     inside : (x : Cell) → List·Memᴰ x (sphere t) → InField s x
     inside = sphere-inside t positive s (omega arith) wide high
 
--- Theorem. Where both sides of a flat field are at least t, the classes are exactly m labels.
+-- Theorem. Where t is at least 1 and both sides of a flat field are at least t, the classes are exactly m labels.
 pub boundAttained : BoundAttained
 unfolding labels
-boundAttained s a flat wide high =
-    le-antisymm (classesBelow .most s a)
-    (labelsNeeded s flat (legal s a .strength-low) wide high (classOf s) (clusterClasses s a))
+boundAttained s a flat positive wide high =
+    le-antisymm (classesBelow .most s a) (labelsNeeded s flat positive wide high (classOf s) (clusterClasses s a))

@@ -10,7 +10,7 @@ use borrow.Author.Tests.{eq-eqb, ne-eqb}
 use lib.Dec.{eqb}
 use Rattle.lattice.specs.Counting.{count}
 use Rattle.lattice.specs.Lines.{among}
-use Rattle.lattice.proofs.theory.Counting.{bit, count-same, count-none, count-mono}
+use Rattle.lattice.proofs.theory.Counting.{bit, count-step, count-same, count-none, count-mono}
 use Rattle.lattice.proofs.theory.Remainder.{add-same, cancel-same}
 
 -- two tests of equality that mean the same
@@ -30,6 +30,10 @@ module _ (m : ℕ) where
   pub among-none : (y : ℕ) → among m y 0 ≡ 0
   unfolding among
   among-none y = refl
+
+  pub among-step : (y n : ℕ) → among m y (n + 1) ≡ bit (eqb (n % m) (y % m)) + among m y n
+  unfolding among
+  among-step y n = count-step (λ z. eqb (z % m) (y % m)) n
 
   -- the place itself matters only by its remainder
   among-same : (y z n : ℕ) → y % m ≡ z % m → among m y n ≡ among m z n

@@ -13,8 +13,9 @@ use Rattle.lattice.specs.Class.{classesOf, layoutOf}
 use Rattle.lattice.specs.Position.{Layout, size}
 use Rattle.lattice.specs.Check.{dataCells, capacity, dataIn}
 use Rattle.lattice.specs.Sizes.{HoldsSizes}
+use Rattle.lattice.proofs.theory.Placements.{classes-limit}
 use Rattle.lattice.proofs.theory.CapacityByClass.{capacity-by-class}
-use Rattle.lattice.proofs.theory.ClassBelow.{class-below, classes-limit}
+use Rattle.lattice.proofs.theory.ClassBelow.{class-below}
 use Rattle.lattice.proofs.theory.Counting.{sum-same}
 use Rattle.lattice.proofs.theory.Answers.{beside-zero, beside-other}
 

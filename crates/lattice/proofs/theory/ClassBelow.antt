@@ -1,19 +1,18 @@
--- The class of a cell is below the number of classes, which is at most 512.
-use Prim.Native.Nat.{_<_, _≤_}
-use mathlib.Core.Bool.{Bool, true, false}
-use mathlib.Core.Path.{_≡_, refl}
-use native.Mathlib.Nat.{le-trans, mod-lt, mod-zero, zero-sub, add-zero}
-use lib.Dec.{eqb, lit≤}
-use borrow.Author.Tests.{eqb-true, eqb-false}
+-- The class of a cell is below the number of classes.
+use Prim.Native.Nat.{_+_, _<_, _≤_}
+use mathlib.Core.Path.{_≡_}
+use native.Mathlib.Nat.{mod-lt, mod-zero, zero-sub, add-zero}
+use native.Mathlib.Decide.{ℕ-discrete}
+use native.Mathlib.Omega.{arith}
+use lib.Arith.{digits-lt}
 use Rattle.lattice.specs.declared.settings.Settings.{Settings}
 use Rattle.lattice.specs.declared.shape.Shape.{Shape}
-use Rattle.lattice.specs.Shape.{Accepted, maxClasses}
-use Rattle.lattice.specs.Settings.{settingsOf}
+use Rattle.lattice.specs.Shape.{Accepted}
 use Rattle.lattice.specs.Cell.{Cell}
-use Rattle.lattice.specs.Class.{minusMod, classWith, classesOf, classOf}
-use Rattle.lattice.proofs.theory.Limits.{legal, strength-stack, strength-most}
-use Rattle.lattice.proofs.theory.SettingsLaws.{settings-flat, settings-stack, classes-stack, flat-most, stack-bounds}
-use Rattle.lattice.proofs.theory.SettingsLaws.{classes-some}
+use Rattle.lattice.specs.Class.{minusMod, classWith, classesOf, classOf, placementOf, classBy}
+use Rattle.lattice.proofs.theory.Limits.{strength-stack, window-legal}
+use Rattle.lattice.proofs.theory.Placements.{either, class-placed, classes-placed, slices-some, period-some, classes-stack}
+use Rattle.lattice.proofs.theory.SettingsLaws.{stack-bounds}
 
 -- with m of 0 the class is the column
 pub class-none : (k : Settings) (x : Cell) → k .m ≡ 0 → classWith k x ≡ x .column
@@ -25,27 +24,25 @@ class-with-below : (k : Settings) (x : Cell) → 1 ≤ k .m → classWith k x < 
 unfolding classWith minusMod
 class-with-below k x p = mod-lt _ p
 
--- an accepted shape has at most 512 classes, and every class is below their number
-module _ (s : Shape) (a : Accepted s) where
-  pub classes-limit : classesOf s ≤ maxClasses
-  unfolding classesOf
-  classes-limit = go (eqb (s .planes) 1) refl
-    where
-      go : (b : Bool) → eqb (s .planes) 1 ≡ b → settingsOf s .m ≤ maxClasses
-      go true e = rw (settings-flat _ (s .strength) (eqb-true (s .planes) 1 e)) (flat-most _ (strength-most s a))
-      go false e =
-          rw
-          (settings-stack _ (s .strength) (eqb-false (s .planes) 1 e))
-          (le-trans
-          (stack-bounds _ (legal s a .strength-low) (strength-stack s a (eqb-false (s .planes) 1 e)) .1)
-          (lit≤ tt))
+-- in any case it is not above their sum
+pub class-most : (k : Settings) (x : Cell) → classWith k x ≤ k .m + x .column
+class-most k x = go (ℕ-discrete (k .m) 0)
+  where
+    go : Dec (k .m ≡ 0) → classWith k x ≤ k .m + x .column
+    go (yes e) = omega (arith, class-none k x e)
+    go (no e) = omega (arith, class-with-below k x (omega arith))
 
-  -- and an accepted stack at most 92
+-- the class of a cell of an accepted shape is below the number of classes
+module _ (s : Shape) (a : Accepted s) where
+  pub class-below : (x : Cell) → classOf s x < classesOf s
+  unfolding classBy
+  class-below x =
+      rw (← (class-placed s x), ← (classes-placed s))
+      (digits-lt (mod-lt (x .row) (slices-some s a)) (class-with-below (placementOf s .settings) x (period-some s a)))
+
+  -- an accepted stack has at most 92 classes
   pub classes-stack-most : (s .planes ≡ 1 → ⊥) → classesOf s ≤ 92
   classes-stack-most stack =
-      rw (classes-stack s stack)
-      (stack-bounds (s .strength) (legal s a .strength-low) (strength-stack s a stack) .1)
-
-  pub class-below : (x : Cell) → classOf s x < classesOf s
-  unfolding classesOf classOf
-  class-below x = class-with-below (settingsOf s) x (classes-some s a)
+      either s
+      (λ z. absurd (stack (window-legal s a z .flat)))
+      (λ some. rw (classes-stack s some stack) (stack-bounds (s .strength) some (strength-stack s a stack) .1))

@@ -1,17 +1,18 @@
 -- The class of a cell is the remainder of column − b × row − c × plane by m, over the integers.
-use Prim.Native.Nat.{ℕ, _+_, _*_, _%_, _<_}
+use Prim.Native.Nat.{ℕ, _+_, _*_, _%_, _<_, _≤_}
 use mathlib.Core.Path.{_≡_, sym, _∙_, ap}
 use native.Mathlib.Omega.{arith}
 use Rattle.lattice.specs.declared.settings.Settings.{Settings}
 use Rattle.lattice.specs.declared.shape.Shape.{Shape}
 use Rattle.lattice.specs.Cell.{Cell}
-use Rattle.lattice.specs.Class.{minusMod, classWith, classesOf, classOf}
+use Rattle.lattice.specs.Class.{minusMod, classWith, classOf}
 use Rattle.lattice.specs.Endless.{pointOf, HasClass}
 use Rattle.lattice.specs.Shape.{Accepted}
 use Rattle.lattice.specs.Settings.{settingsOf}
 use Rattle.lattice.proofs.theory.Remainder.{minus-below, minus-adds, minus-only}
 use Rattle.lattice.proofs.theory.Residue.{class-mod, mod-class}
-use Rattle.lattice.proofs.theory.SettingsLaws.{classes-some}
+use Rattle.lattice.proofs.theory.Placements.{class-strength}
+use Rattle.lattice.proofs.theory.SettingsLaws.{settings-some}
 
 module _ (k : Settings) (x : Cell) where
   taken : ℕ
@@ -33,7 +34,6 @@ module _ (k : Settings) (x : Cell) where
       ∙ sym (class-mod k (pointOf x) r h)
       ∙ ap (λ (n : ℕ). n % k .m) (omega arith))
 
--- the class of a cell, as a point of the endless stack
-pub class-point : (s : Shape) → Accepted s → (x : Cell) → HasClass (settingsOf s) (pointOf x) (classOf s x)
-unfolding classesOf classOf
-class-point s accepted x = is (settingsOf s) x (classes-some s accepted)
+-- the class of a cell by strength, as a point of the endless stack
+pub class-point : (s : Shape) → Accepted s → 1 ≤ s .strength → (x : Cell) → HasClass (settingsOf s) (pointOf x) (classOf s x)
+class-point s accepted some x = rw (class-strength s some x) (is (settingsOf s) x (settings-some s accepted some))

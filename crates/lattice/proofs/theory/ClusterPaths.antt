@@ -1,9 +1,8 @@
 -- Two cells of the field lie in some cluster of at most t cells exactly when their distance is below t.
-use Prim.Native.Nat.{ℕ, zero, suc, _≤_, _<_}
+use Prim.Native.Nat.{ℕ, zero, suc, _<_}
 use mathlib.Core.List.{List, [], _∷_, List·Memᴰ, List·Memᴰ·head, List·Memᴰ·tail, List·Memᴰ·eq-of-singleton, List·Memᴰ·cases-cons}
 use mathlib.Core.Logic.{_⊎_, inl, inr, ⊎-elim}
 use mathlib.Core.Path.{_≡_, refl, ap}
-use native.Mathlib.Decide.{ℕ-discrete}
 use native.Mathlib.Omega.{arith}
 use lib.ListN.{length}
 use Rattle.lattice.specs.declared.shape.Shape.{Shape}
@@ -11,53 +10,13 @@ use Rattle.lattice.specs.Cell.{Cell, InField}
 use Rattle.lattice.specs.Cluster.{distance, Joined, Linked, stay, step, Together}
 use Rattle.lattice.proofs.theory.Distances.{distance-self, distance-eq, distance-triangle, distance-joined, joined-sym}
 use Rattle.lattice.proofs.theory.Distances.{Towards, towards}
-use Rattle.lattice.proofs.theory.Pigeonhole.{all-covered}
-
--- a path's first and last cell lie in the set, paths can be joined and turned round, and a larger set has them too
-module _ {S : Cell → Type 0} where
-  linked-start : {x y : Cell} → Linked S x y → S x
-  linked-start (stay h) = h
-  linked-start (step h j l) = h
-
-  linked-end : {x y : Cell} → Linked S x y → S y
-  linked-end (stay h) = h
-  linked-end (step h j l) = linked-end l
-
-  pub linked-append : {x y z : Cell} → Linked S x y → Linked S y z → Linked S x z
-  linked-append (stay h) k = k
-  linked-append (step h j l) k = step h j (linked-append l k)
-
-  pub linked-reverse : {x y : Cell} → Linked S x y → Linked S y x
-  linked-reverse (stay h) = stay h
-  linked-reverse (step h j l) = linked-append (linked-reverse l) (step (linked-start l) (joined-sym j) (stay h))
-
-  linked-into : {T : Cell → Type 0} → ((c : Cell) → S c → T c) → {x y : Cell} → Linked S x y → Linked T x y
-  linked-into f (stay {x} h) = stay (f x h)
-  linked-into f (step {x} h j l) = step (f x h) j (linked-into f l)
-
-  -- on a path from a to b some cell is at each distance from x that lies between those of a and b
-  at-each-distance : (x : Cell) (k : ℕ) {a b : Cell} → Linked S a b → distance x a ≤ k → k ≤ distance x b
-      → (c : Cell) × S c × (k ≡ distance x c)
-  at-each-distance x k (stay {x = a} h) p q = (a, h, omega arith)
-  at-each-distance x k (step {x = a} {y = b} h j l) p q = go (ℕ-discrete k (distance x a)) (λ p′. at-each-distance x k l p′ q)
-    where
-      go : Dec (k ≡ distance x a)
-          → (distance x b ≤ k → (c : Cell) × S c × (k ≡ distance x c))
-          → (c : Cell) × S c × (k ≡ distance x c)
-      go (yes e) rest = (a, h, e)
-      go (no e) rest = rest (omega (arith, distance-triangle x a b, distance-joined j))
+use Rattle.lattice.proofs.theory.Paths.{path-append, path-reverse, path-into, path-end, path-short}
 
 -- cells of one cluster of at most t cells are less than t apart
 pub together-near : (s : Shape) (t : ℕ) (x y : Cell) → Together s t x y → distance x y < t
 together-near s t x y r =
-    omega (arith, r .small .few, all-covered (distance x) (suc (distance x y)) (r .small .cells) there)
-  where
-    there : (k : ℕ) → k < suc (distance x y) → (c : Cell) × List·Memᴰ c (r .small .cells) × (k ≡ distance x c)
-    there k h =
-        let c =
-        at-each-distance x k (r .cluster .linked x y (r .first) (r .second)) (omega (arith, distance-self x))
-        (omega arith) in
-        (c .0, r .small .all (c .0) (c .1), c .2)
+    path-short (distance x) (λ a b j. omega (arith, distance-triangle x a b, distance-joined j)) t (r .small)
+    (r .cluster .linked x y (r .first) (r .second)) (distance-self x)
 
 -- a walk from x to y of d steps, inside the field: its cells, each linked to y among them
 record Walk (s : Shape) (x y : Cell) (d : ℕ) : Type 0 where
@@ -89,7 +48,7 @@ walk-step s x y z d h j w =
     }
   where
     later : {c : Cell} → Linked (λ v. List·Memᴰ v (w .cells)) c y → Linked (λ v. List·Memᴰ v (x ∷ w .cells)) c y
-    later l = linked-into (λ v m. List·Memᴰ·tail m) l
+    later l = path-into (λ v m. List·Memᴰ·tail m) l
 
     first : Linked (λ v. List·Memᴰ v (x ∷ w .cells)) x y
     first = step (List·Memᴰ·head refl) j (later (w .linked z (w .start)))
@@ -115,9 +74,9 @@ near-together s t x y hx hy h =
       set = λ c. List·Memᴰ c (w .cells);
       cluster = record {
         inside = w .inside;
-        linked = λ a b ha hb. linked-append (w .linked a ha) (linked-reverse (w .linked b hb));
+        linked = λ a b ha hb. path-append (w .linked a ha) (path-reverse joined-sym (w .linked b hb));
       };
       small = record { cells = w .cells; few = omega (arith, w .many); all = λ c m. m };
       first = w .start;
-      second = linked-end (w .linked x (w .start));
+      second = path-end (w .linked x (w .start));
     }

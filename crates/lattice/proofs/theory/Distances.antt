@@ -8,6 +8,7 @@ use native.Mathlib.Omega.{arith}
 use Rattle.lattice.specs.declared.shape.Shape.{Shape}
 use Rattle.lattice.specs.Cell.{Cell, cell, InField}
 use Rattle.lattice.specs.Cluster.{apart, distance, Joined, by-row, by-plane, by-column}
+use Rattle.lattice.specs.Window.{Touching}
 
 pub apart-self : (a : ℕ) → apart a a ≡ 0
 unfolding apart
@@ -69,13 +70,21 @@ distance-triangle x y z =
       apart-triangle (x .column) (y .column) (z .column),
     )
 
-cell-path : (x y : Cell) → x .row ≡ y .row → x .plane ≡ y .plane → x .column ≡ y .column → x ≡ y
+pub cell-path : (x y : Cell) → x .row ≡ y .row → x .plane ≡ y .plane → x .column ≡ y .column → x ≡ y
 cell-path x y r p c = λ i. record { row = r i; plane = p i; column = c i }
 
-pub joined-sym : {x y : Cell} → Joined x y → Joined y x
-joined-sym {x} {y} (by-row r p c) = by-row (apart-sym (y .row) (x .row) ∙ r) (sym p) (sym c)
-joined-sym {x} {y} (by-plane r p c) = by-plane (sym r) (apart-sym (y .plane) (x .plane) ∙ p) (sym c)
-joined-sym {x} {y} (by-column r p c) = by-column (sym r) (sym p) (apart-sym (y .column) (x .column) ∙ c)
+pub joined-sym : (x y : Cell) → Joined x y → Joined y x
+joined-sym x y (by-row r p c) = by-row (apart-sym (y .row) (x .row) ∙ r) (sym p) (sym c)
+joined-sym x y (by-plane r p c) = by-plane (sym r) (apart-sym (y .plane) (x .plane) ∙ p) (sym c)
+joined-sym x y (by-column r p c) = by-column (sym r) (sym p) (apart-sym (y .column) (x .column) ∙ c)
+
+pub touching-sym : (x y : Cell) → Touching x y → Touching y x
+touching-sym x y h =
+    record {
+      plane = sym (h .plane);
+      row = omega (arith, apart-sym (x .row) (y .row), h .row);
+      column = omega (arith, apart-sym (x .column) (y .column), h .column);
+    }
 
 -- joined cells are at distance 1
 pub distance-joined : {x y : Cell} → Joined x y → distance x y ≡ 1

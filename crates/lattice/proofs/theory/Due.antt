@@ -16,6 +16,11 @@ pub record Decides (ok : Bool) (P : Type 0) : Type 0 where
 pub decides-same : {ok : Bool} {P Q : Type 0} → P ↔ Q → Decides ok P → Decides ok Q
 decides-same e d = record { fails = λ z. e .0 (d .fails z); passes = λ z q. d .passes z (e .1 q) }
 
+-- where the condition holds, the test fails
+pub decided : {ok : Bool} {P : Type 0} → Decides ok P → P → ok ≡ false
+decided {ok = true} d p = absurd (d .passes refl p)
+decided {ok = false} d p = refl
+
 -- where one of the conditions comes first, not all fail
 first-holds : (k : ℕ) (rs : List Listed) → FirstIs k rs → ¬ NoneHolds rs
 first-holds k [] f none = f

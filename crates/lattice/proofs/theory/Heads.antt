@@ -4,20 +4,15 @@ use mathlib.Core.Path.{_≡_, refl, sym, ap, ap₂, _∙_}
 use native.Mathlib.Nat.{add-mod-right, mod-eq-of-lt, le-refl}
 use native.Mathlib.Numerals.{add-one}
 use native.Mathlib.Omega.{arith}
-use lib.Dec.{eqb}
 use Rattle.lattice.specs.Position.{Layout, sizeTo}
-use Rattle.lattice.proofs.theory.Counting.{bit, count-step}
+use Rattle.lattice.proofs.theory.Counting.{bit}
 use Rattle.lattice.proofs.theory.Positions.{size-none}
 use Rattle.lattice.proofs.theory.Remainder.{add-same, cancel-same}
-use Rattle.lattice.specs.Lines.{ByLines, HasPeriod, noOffset, among, startsAt, heads}
-use Rattle.lattice.proofs.theory.Among.{same-test, among-many}
+use Rattle.lattice.specs.Lines.{ByLines, HasPeriod, among, startsAt, heads}
+use Rattle.lattice.proofs.theory.Among.{same-test, among-step, among-many}
 use Rattle.lattice.proofs.theory.LineSizes.{line-size}
 
 module _ (m : ℕ) where
-  among-step : (y n : ℕ) → among m y (n + 1) ≡ bit (eqb (n % m) (y % m)) + among m y n
-  unfolding among
-  among-step y n = count-step (λ z. eqb (z % m) (y % m)) n
-
   -- the places from s on with the remainder of a, and the places back from a with the remainder of s
   among-back : (a s x : ℕ) → x ≤ a + 1 + m
       → among m a (s + x) + among m s (a + 1 + m - x) ≡ among m a s + among m s (a + 1 + m)
@@ -32,8 +27,8 @@ module _ (m : ℕ) where
         arith,
         ap (λ (i : ℕ). among m a i) left,
         ap (λ (i : ℕ). among m s i) right,
-        among-step a (s + x),
-        among-step s (a + 1 + m - suc x),
+        among-step m a (s + x),
+        among-step m s (a + 1 + m - suc x),
         ap bit (same-test ((s + x) % m) (a % m) ((a + 1 + m - suc x) % m) (s % m) there back),
         among-back a s x (omega arith),
       )
@@ -73,9 +68,9 @@ module _ (m : ℕ) (start : ℕ → ℕ) where
       own : start n % m ≡ start n
       own = mod-eq-of-lt (below n)
 
--- Theorem. The sizes of the classes after n lines of w = q × m + g cells.
+-- Theorem. The sizes of the classes after n lines of w = q × m + g cells, where no line has an offset.
 module _ (L : Layout) (m : ℕ) (table start : ℕ → ℕ) (period : HasPeriod m table) (w q g lines : ℕ) (e : w ≡ q * m + g) (l : g ≤ m)
-    (placed : ByLines L w lines table start noOffset) where
+    (placed : ByLines L w lines table start (λ n. 0)) where
   pub sizes-by-lines : (a n : ℕ) → n ≤ lines
       → sizeTo L (table a) (n * w) + heads m start n (a + 1 + m - g) ≡ n * q + heads m start n (a + 1 + m)
   unfolding heads

@@ -71,6 +71,10 @@ add-parts (pos m) (negsuc n) = omega (arith, sub-parts m (suc n))
 add-parts (negsuc m) (pos n) = omega (arith, sub-parts n (suc m))
 add-parts (negsuc m) (negsuc n) = omega arith
 
+-- a natural number that is z + d, by the parts of z
+pub sum-parts : (z : ℤ) (d a : ℕ) → pos a ≡ z +ℤ pos d → a + down z ≡ up z + d
+sum-parts z d a e = omega (arith, add-parts z (pos d), ap up e, ap down e)
+
 -- (a − b) + (c − d) = (a + c) − (b + d)
 pub sub-add : (a b c d : ℕ) → subℕ a b +ℤ subℕ c d ≡ subℕ (a + c) (b + d)
 sub-add a b c d =

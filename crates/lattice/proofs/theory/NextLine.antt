@@ -3,18 +3,18 @@ use Prim.Native.Nat.{ℕ, _+_, _-_, _*_, _%_, _<_, _≤_}
 use mathlib.Core.Path.{_≡_, sym, ap, _∙_}
 use native.Mathlib.Nat.{mod-lt, zero-mod, mul-assoc, mul-le-mul}
 use native.Mathlib.Omega.{arith}
+use Rattle.lattice.specs.declared.class.Placement.{Placement}
 use Rattle.lattice.specs.declared.line.Line.{Line}
 use Rattle.lattice.specs.declared.line.Pass.{Pass}
 use Rattle.lattice.specs.declared.settings.Settings.{Settings}
 use Rattle.lattice.specs.declared.shape.Shape.{Shape}
-use Rattle.lattice.specs.Shape.{maxSide, maxPlanes, maxCells, shapeNumber, Accepted}
-use Rattle.lattice.specs.Settings.{settingsOf}
-use Rattle.lattice.specs.Class.{minusMod, classesOf}
-use Rattle.lattice.specs.Lines.{passWith, noPass, passOf, passGiven, IsLine}
+use Rattle.lattice.specs.Shape.{maxSide, maxPlanes, maxCells, maxClasses, shapeNumber, Accepted}
+use Rattle.lattice.specs.Class.{minusMod, placementOf}
+use Rattle.lattice.specs.Lines.{tableOf, passWith, noPass, passOf, passGiven, IsLine}
 use Rattle.lattice.proofs.theory.Answers.{beside-zero}
 use Rattle.lattice.proofs.theory.Limits.{legal}
 use Rattle.lattice.proofs.theory.Remainder.{minus-below}
-use Rattle.lattice.proofs.theory.SettingsLaws.{classes-some}
+use Rattle.lattice.proofs.theory.Placements.{period-some, classes-placed, classes-limit}
 use Rattle.lattice.proofs.theory.Starts.{minus-mod, row-next, plane-row, start-below, start-first, start-row, start-turns}
 
 -- the first line
@@ -53,23 +53,22 @@ module _ (k : Settings) (h l : ℕ) (x : Line) (some : 0 < k .m) (some-row : 0 <
 
 -- the same by the pass of an accepted shape, whose steps are below m
 module _ (s : Shape) (accepted : Accepted s) (pass : Pass) (same : pass ≡ passOf s) (l : ℕ) (x : Line)
-    (is : IsLine (settingsOf s) (s .rows) l x) where
-  some : 0 < settingsOf s .m
-  unfolding classesOf
-  some = classes-some s accepted
+    (is : IsLine (tableOf s) (s .rows) l x) where
+  some : 0 < tableOf s .m
+  some = period-some s accepted
 
   some-row : 0 < s .rows
   some-row = legal s accepted .height-low
 
-  classes-same : pass .classes ≡ settingsOf s .m
+  period-same : pass .period ≡ tableOf s .m
   unfolding passWith
-  classes-same = ap (λ (p : Pass). p .classes) same
+  period-same = ap (λ (p : Pass). p .period) same
 
-  row-same : pass .row ≡ settingsOf s .b % settingsOf s .m
+  row-same : pass .row ≡ tableOf s .b % tableOf s .m
   unfolding passWith
   row-same = ap (λ (p : Pass). p .row) same
 
-  plane-same : pass .plane ≡ minusMod (settingsOf s .c) (settingsOf s .b * (s .rows - 1)) (settingsOf s .m)
+  plane-same : pass .plane ≡ minusMod (tableOf s .c) (tableOf s .b * (s .rows - 1)) (tableOf s .m)
   unfolding passWith
   plane-same = ap (λ (p : Pass). p .plane) same
 
@@ -77,38 +76,38 @@ module _ (s : Shape) (accepted : Accepted s) (pass : Pass) (same : pass ≡ pass
   unfolding passWith
   last-same = ap (λ (p : Pass). p .last) same
 
-  start-low : x .start < pass .classes
-  start-low = omega (arith, classes-same, line-below (settingsOf s) (s .rows) l x some some-row is)
+  start-low : x .start < pass .period
+  start-low = omega (arith, period-same, line-below (tableOf s) (s .rows) l x some some-row is)
 
   pub pass-on : 0 < x .left → (r : ℕ)
-      → (x .start < pass .classes → pass .row < pass .classes → r ≡ minusMod (x .start) (pass .row) (pass .classes))
-      → IsLine (settingsOf s) (s .rows) (l + 1) (record { left = x .left - 1; start = r })
+      → (x .start < pass .period → pass .row < pass .period → r ≡ minusMod (x .start) (pass .row) (pass .period))
+      → IsLine (tableOf s) (s .rows) (l + 1) (record { left = x .left - 1; start = r })
   pass-on more r back =
-      line-on (settingsOf s) (s .rows) l x some some-row is more r
-      (back start-low (omega (arith, row-same, classes-same, mod-lt (settingsOf s .b) some)) ∙ rw (row-same, classes-same))
+      line-on (tableOf s) (s .rows) l x some some-row is more r
+      (back start-low (omega (arith, row-same, period-same, mod-lt (tableOf s .b) some)) ∙ rw (row-same, period-same))
 
   pub pass-over : x .left ≤ 0 → (r : ℕ)
-      → (x .start < pass .classes → pass .plane < pass .classes → r ≡ minusMod (x .start) (pass .plane) (pass .classes))
-      → IsLine (settingsOf s) (s .rows) (l + 1) (record { left = pass .last; start = r })
+      → (x .start < pass .period → pass .plane < pass .period → r ≡ minusMod (x .start) (pass .plane) (pass .period))
+      → IsLine (tableOf s) (s .rows) (l + 1) (record { left = pass .last; start = r })
   pass-over none r back =
       rw last-same
-      (line-over (settingsOf s) (s .rows) l x some some-row is none r
+      (line-over (tableOf s) (s .rows) l x some some-row is none r
       (back start-low (omega (
         arith,
         plane-same,
-        classes-same,
-        minus-below (settingsOf s .m) some (settingsOf s .c)
-            (settingsOf s .b * (s .rows - 1)),
+        period-same,
+        minus-below (tableOf s .m) some (tableOf s .c)
+            (tableOf s .b * (s .rows - 1)),
       ))
-      ∙ rw (plane-same, classes-same)))
+      ∙ rw (plane-same, period-same)))
 
 -- the first line of an accepted shape's pass
 pub pass-first : (s : Shape) → Accepted s → (pass : Pass) → pass ≡ passOf s
-    → IsLine (settingsOf s) (s .rows) 0 (record { left = pass .last; start = 0 })
-unfolding passWith classesOf
+    → IsLine (tableOf s) (s .rows) 0 (record { left = pass .last; start = 0 })
+unfolding passWith
 pass-first s accepted pass same =
     let last : pass .last ≡ s .rows - 1 = ap (λ (p : Pass). p .last) same in
-    rw last (line-first (settingsOf s) (s .rows) (classes-some s accepted))
+    rw last (line-first (tableOf s) (s .rows) (period-some s accepted))
 
 -- the pass that an accepted shape gives is its own
 pub pass-accepted : (s : Shape) → Accepted s → passGiven s ≡ passOf s
@@ -116,26 +115,30 @@ unfolding passGiven
 pass-accepted s accepted = beside-zero (shapeNumber s) (passOf s) noPass accepted
 
 -- a pass from its numbers
-pub pass-is : (k : Settings) (s : Shape) (cells plane : ℕ) → cells ≡ s .columns * (s .rows * s .planes)
-    → plane ≡ minusMod (k .c) (k .b * (s .rows - 1)) (k .m)
+pub pass-is : (p : Placement) (s : Shape) (cells plane : ℕ) → cells ≡ s .columns * (s .rows * s .planes)
+    → plane ≡ minusMod (p .settings .c) (p .settings .b * (s .rows - 1)) (p .settings .m)
     → _≡_ {A = Pass} (record {
       columns = s .columns;
       lines = s .rows * s .planes;
       cells = cells;
-      classes = k .m;
-      row = k .b % k .m;
+      classes = p .slices * p .settings .m;
+      slices = p .slices;
+      period = p .settings .m;
+      row = p .settings .b % p .settings .m;
       plane = plane;
       last = s .rows - 1;
-    }) (passWith k s)
+    }) (passWith p s)
 unfolding passWith
-pass-is k s cells plane p q i =
+pass-is p s cells plane c t i =
     record {
       columns = s .columns;
       lines = s .rows * s .planes;
-      cells = (p ∙ sym (mul-assoc (s .columns) (s .rows) (s .planes))) i;
-      classes = k .m;
-      row = k .b % k .m;
-      plane = q i;
+      cells = (c ∙ sym (mul-assoc (s .columns) (s .rows) (s .planes))) i;
+      classes = p .slices * p .settings .m;
+      slices = p .slices;
+      period = p .settings .m;
+      row = p .settings .b % p .settings .m;
+      plane = t i;
       last = s .rows - 1;
     }
 
@@ -147,6 +150,10 @@ module _ (s : Shape) (accepted : Accepted s) where
   pub cells-few : s .columns * (s .rows * s .planes) ≤ maxCells
   cells-few = rw (← (mul-assoc (s .columns) (s .rows) (s .planes))) (legal s accepted .product)
 
-  pub classes-own : (k : Settings) → k ≡ settingsOf s → 0 < k .m
-  unfolding classesOf
-  classes-own k e = rw e (classes-some s accepted)
+  -- and so are those of its placement
+  module _ (p : Placement) (own : p ≡ placementOf s) where
+    pub period-own : 0 < p .settings .m
+    period-own = rw own (period-some s accepted)
+
+    pub classes-own : p .slices * p .settings .m ≤ maxClasses
+    classes-own = rw own (rw (classes-placed s) (classes-limit s accepted))

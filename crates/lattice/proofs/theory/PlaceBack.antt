@@ -9,7 +9,7 @@ use Rattle.lattice.specs.declared.class.Placement.{Placement}
 use Rattle.lattice.specs.declared.shape.Shape.{Shape}
 use Rattle.lattice.specs.Shape.{maxClasses, Accepted, cellsOf}
 use Rattle.lattice.specs.Cell.{cellAt}
-use Rattle.lattice.specs.Class.{classAt, layoutOf, placementOf, classBy}
+use Rattle.lattice.specs.Class.{classAt, layoutOf, placementGiven, classBy}
 use Rattle.lattice.specs.Position.{Layout, sizeTo, size}
 use Rattle.lattice.specs.Sizes.{HoldsZeros, HoldsSizes, HoldsRest, EntryStored, AtCellBack, AtPlace}
 use Rattle.lattice.proofs.theory.ClassAt.{at-class, at-below}
@@ -37,7 +37,7 @@ rest-more L xs ys n k rest own st = record { at = λ a l. go a l (ℕ-discrete a
         omega (arith, st .others a e, rest .at a l, size-other L a n (λ (q : L .class n ≡ a). e (sym (own ∙ q))))
 
 -- the last of the cells before cell i
-pub back-cell : (s : Shape) (k : Placement) (sizes behind : List ℕ) (i : ℕ) → Accepted s → k ≡ placementOf s
+pub back-cell : (s : Shape) (k : Placement) (sizes behind : List ℕ) (i : ℕ) → Accepted s → k ≡ placementGiven s
     → HoldsSizes (layoutOf s) sizes (cellsOf s) → HoldsRest (layoutOf s) behind i → 0 < i → i ≤ cellsOf s
     → AtCellBack s k sizes behind (i - 1)
 back-cell s k sizes behind i a e sized p some l =

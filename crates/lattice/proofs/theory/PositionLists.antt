@@ -91,7 +91,7 @@ among-one : (m y n : ℕ) → 0 < m → n ≤ m → among m y n ≤ 1
 unfolding among
 among-one m y n some l = omega (arith, among-whole m some y, count-mono (λ z. eqb (z % m) (y % m)) n m l)
 
-among-most : (m y n : ℕ) → among m y n ≤ n
+pub among-most : (m y n : ℕ) → among m y n ≤ n
 unfolding among
 among-most m y n = count-most (λ z. eqb (z % m) (y % m)) n
 

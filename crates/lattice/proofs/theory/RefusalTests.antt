@@ -1,20 +1,25 @@
 -- Demand 1 for the constructor, the class of a cell and the distance test: each test decides its refusal's condition, and the
 -- number is settled by the conditions in the listed order.
 use Prim.Native.Nat.{ℕ, _*_, _<_, _≤_}
-use mathlib.Core.Bool.{Bool, true, false, _&&_, false≢true}
-use mathlib.Core.Logic.{_⊎_, inl, inr, ⊎-elim}
-use mathlib.Core.Path.{refl}
+use mathlib.Core.Bool.{Bool, true, false, not, _&&_, false≢true}
+use mathlib.Core.Logic.{_≢_, _⊎_, inl, inr, ⊎-elim}
+use mathlib.Core.Path.{_≡_, refl, sym, ap, _∙_}
+use native.Mathlib.Decide.{ℕ-discrete}
 use native.Mathlib.Nat.{not-le-of-lt}
-use borrow.Author.Tests.{leb-true, leb-false, ltb-true, ltb-false}
-use lib.Dec.{leb, ltb}
+use native.Mathlib.Omega.{arith}
+use borrow.Author.Tests.{leb-true, leb-false, ltb-true, ltb-false, eq-eqb, ne-eqb, eqb-true, eqb-false}
+use lib.Dec.{leb, ltb, eqb}
 use Rattle.lattice.specs.declared.shape.Shape.{Shape}
-use Rattle.lattice.specs.Shape.{maxSide, maxPlanes, maxCells, maxStrength, sizeOk, strengthOk, shapeNumber, BadSize}
-use Rattle.lattice.specs.Shape.{BadStrength, shapeRefusals}
+use Rattle.lattice.specs.declared.shape.Window.{Window}
+use Rattle.lattice.specs.Shape.{maxSide, maxPlanes, maxCells, maxClasses, maxStrength, sizeOk, strengthOk, shapeNumber}
+use Rattle.lattice.specs.Shape.{BadSize}
+use Rattle.lattice.specs.Shape.{isNone, windowOk, BothZero, BadStrength, BadWindow, shapeRefusals}
 use Rattle.lattice.specs.Range.{inRange, Outside}
 use Rattle.lattice.specs.Cell.{Cell}
 use Rattle.lattice.specs.Class.{inside, classNumber, OutsideShape, classRefusals}
 use Rattle.lattice.specs.DistanceTest.{maxTestStrength, maxTestClasses, testStrengthOk, testSettingsOk, testNumber}
 use Rattle.lattice.specs.DistanceTest.{BadTestStrength, BadTestSettings, testRefusals}
+use Rattle.lattice.proofs.theory.Limits.{strength-none, strength-some, window-alone, window-beside}
 use Rattle.lattice.proofs.theory.Due.{Decides, Due, due-none, due-test, due-append}
 
 -- two tests one after the other decide that one of the two conditions holds
@@ -29,7 +34,7 @@ at-most a b = record { fails = leb-false a b; passes = λ e l. not-le-of-lt l (l
 less : (a b : ℕ) → Decides (ltb a b) (b ≤ a)
 less a b = record { fails = ltb-false a b; passes = λ e l. not-le-of-lt (ltb-true a b e) l }
 
-in-range : (low high x : ℕ) → Decides (inRange low high x) (Outside low high x)
+pub in-range : (low high x : ℕ) → Decides (inRange low high x) (Outside low high x)
 unfolding inRange
 in-range low high x = both (at-most low x) (at-most x high)
 
@@ -47,9 +52,70 @@ size-decides w h d =
     assoc (assoc (both (both (both (in-range 1 maxSide w) (in-range 1 maxSide h)) (in-range 1 maxPlanes d))
     (at-most (w * h * d) maxCells)))
 
-strength-decides : (d t : ℕ) → Decides (strengthOk d t) (BadStrength d t)
-unfolding strengthOk BadStrength
-strength-decides d t = in-range 1 (maxStrength d) t
+-- a test of two sides that fails where both are 0
+is-zero : (a : ℕ) → Decides (not (eqb a 0)) (a ≡ 0)
+is-zero a = go (ℕ-discrete a 0)
+  where
+    go : Dec (a ≡ 0) → Decides (not (eqb a 0)) (a ≡ 0)
+    go (yes p) = record { fails = λ e. p; passes = λ e z. false≢true (sym (ap not (eq-eqb a 0 p)) ∙ e) }
+    go (no p) = record { fails = λ e. absurd (false≢true (sym e ∙ ap not (ne-eqb a 0 p))); passes = λ e. p }
+
+-- a window is none exactly where both sides are 0
+none-decides : (w : Window) → Decides (not (isNone w)) (BothZero w)
+unfolding isNone
+none-decides w = either (eqb (w .rows) 0) (eqb (w .columns) 0) (is-zero (w .rows)) (is-zero (w .columns))
+  where
+    either : (a b : Bool) {P Q : Type 0} → Decides (not a) P → Decides (not b) Q → Decides (not (a && b)) (P × Q)
+    either true b p q =
+        record { fails = λ e. (p .fails refl, q .fails e); passes = λ e n. q .passes e (n .1) }
+    either false b p q =
+        record { fails = λ e. absurd (false≢true (sym e)); passes = λ e n. p .passes refl (n .0) }
+
+strength-decides : (d t : ℕ) (w : Window) → Decides (strengthOk d t w) (BadStrength d t w)
+unfolding BadStrength
+strength-decides d t w = go (ℕ-discrete t 0)
+  where
+    go : Dec (t ≡ 0) → Decides (strengthOk d t w) (BadStrength d t w)
+    go (yes z) = rw (strength-none d t w z)
+        (record {
+          fails = λ e. inl (z, none-decides w .fails e);
+          passes = λ e. ⊎-elim (λ n. none-decides w .passes e (n .1)) (λ l. omega arith);
+        })
+    go (no z) = rw (strength-some d t w z)
+        (record {
+          fails = λ e. inr (at-most t (maxStrength d) .fails e);
+          passes = λ e. ⊎-elim (λ n. z (n .0)) (at-most t (maxStrength d) .passes e);
+        })
+
+-- and one of its sides is another
+some-decides : (w : Window) → Decides (isNone w) ((w .rows ≢ 0) ⊎ (w .columns ≢ 0))
+unfolding isNone
+some-decides w = both (other (w .rows)) (other (w .columns))
+  where
+    other : (a : ℕ) → Decides (eqb a 0) (a ≢ 0)
+    other a = record { fails = eqb-false a 0; passes = λ e n. n (eqb-true a 0 e) }
+
+pub window-decides : (d t : ℕ) (w : Window) → Decides (windowOk d t w) (BadWindow d t w)
+unfolding BadWindow
+window-decides d t w = go (ℕ-discrete t 0)
+  where
+    alone : Decides (not (eqb (w .rows) 0) && not (eqb (w .columns) 0) && leb (w .rows * w .columns) maxClasses && leb d 1)
+        ((w .rows ≡ 0) ⊎ ((w .columns ≡ 0) ⊎ ((maxClasses < w .rows * w .columns) ⊎ (1 < d))))
+    alone =
+        assoc (assoc (both (both (both (is-zero (w .rows)) (is-zero (w .columns))) (at-most (w .rows * w .columns) maxClasses))
+        (at-most d 1)))
+
+    go : Dec (t ≡ 0) → Decides (windowOk d t w) (BadWindow d t w)
+    go (yes z) = rw (window-alone d t w z)
+        (record {
+          fails = λ e. inl (z, alone .fails e);
+          passes = λ e. ⊎-elim (λ n. alone .passes e (n .1)) (λ n. n .0 z);
+        })
+    go (no z) = rw (window-beside d t w z)
+        (record {
+          fails = λ e. inr (z, some-decides w .fails e);
+          passes = λ e. ⊎-elim (λ n. z (n .0)) (λ n. some-decides w .passes e (n .1));
+        })
 
 inside-decides : (s : Shape) (x : Cell) → Decides (inside s x) (OutsideShape s x)
 unfolding inside OutsideShape
@@ -68,7 +134,8 @@ pub shape-due : (s : Shape) → Due (shapeRefusals s) (shapeNumber s)
 unfolding shapeNumber
 shape-due s =
     due-test 0 _ (size-decides (s .columns) (s .rows) (s .planes))
-    (λ _. due-test 1 _ (strength-decides (s .planes) (s .strength)) (λ _. due-none))
+    (λ _. due-test 1 _ (strength-decides (s .planes) (s .strength) (s .window))
+    (λ _. due-test 10 _ (window-decides (s .planes) (s .strength) (s .window)) (λ _. due-none)))
 
 pub class-due : (s : Shape) (x : Cell) → Due (classRefusals s x) (classNumber s x)
 unfolding classNumber

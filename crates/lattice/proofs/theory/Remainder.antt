@@ -1,10 +1,11 @@
 -- Remainders: numbers with one remainder differ by a multiple, and the remainder of a difference.
-use Prim.Native.Nat.{ℕ, _+_, _-_, _*_, _/_, _%_, _<_, _≤_}
+use Prim.Native.Nat.{ℕ, zero, suc, _+_, _-_, _*_, _/_, _%_, _<_, _≤_}
 use mathlib.Core.Path.{_≡_, sym, _∙_, ap, ap₂}
 use native.Mathlib.Nat.{mul-comm, mul-sub, add-mod, mod-add-div, mod-lt, add-mul-mod-self-left, mod-add-mod, mod-eq-of-lt}
 use native.Mathlib.Nat.{lt-of-not-le}
 use native.Mathlib.Decide.{decLe}
 use native.Mathlib.Omega.{arith}
+use lib.Dec.{lit<}
 use Rattle.lattice.specs.Class.{minusMod}
 
 -- numbers that differ by a multiple of m have one remainder
@@ -17,6 +18,18 @@ multiple-between a b m l e = (b / m - a / m, omega (arith, mod-add-div a m, mod-
   where
     le : m * (a / m) ≤ m * (b / m)
     le = omega (arith, mod-add-div a m, mod-add-div b m)
+
+-- so two that are less than m apart are equal
+pub near-remainder : (a b m : ℕ) → a ≤ b → b < a + m → a % m ≡ b % m → a ≡ b
+near-remainder a b m l near e = let between = multiple-between a b m l e in go (between .0) (between .1)
+  where
+    go : (j : ℕ) → b ≡ a + j * m → a ≡ b
+    go zero q = omega arith
+    go (suc j) q = absurd (omega arith)
+
+-- every number is a multiple of 1
+pub remainder-one : (n : ℕ) → n % 1 ≡ 0
+remainder-one n = let less : n % 1 < 1 = mod-lt n (lit< tt) in omega arith
 
 -- sums of numbers with equal remainders have equal remainders
 pub add-same : (a b c d m : ℕ) → a % m ≡ b % m → c % m ≡ d % m → (a + c) % m ≡ (b + d) % m

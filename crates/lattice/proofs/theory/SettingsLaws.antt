@@ -1,20 +1,16 @@
 -- The settings: the flat rule by the parity of t, and the bounds on m.
 use Prim.Native.Nat.{ℕ, zero, suc, _*_, _%_, _≤_}
 use mathlib.Core.Bool.{Bool, cond, true, false}
-use mathlib.Core.Path.{_≡_, refl, ap}
+use mathlib.Core.Path.{_≡_, refl}
 use native.Mathlib.Omega.{arith}
-use native.Mathlib.Nat.{mul-le-mul}
+use native.Mathlib.Nat.{mul-le-mul, le-trans}
 use lib.Dec.{eqb, lit≤}
 use borrow.Author.Tests.{eq-eqb, ne-eqb, eqb-true, eqb-false}
-use Rattle.lattice.specs.declared.settings.Settings.{Settings}
 use Rattle.lattice.specs.declared.shape.Shape.{Shape}
-use Rattle.lattice.specs.Refusal.{beside, figure}
-use Rattle.lattice.specs.Shape.{maxFlatStrength, maxClasses, shapeNumber, Accepted}
-use Rattle.lattice.specs.Settings.{settings, isOdd, oddSettings, evenSettings, flatSettings, stackTable, stackSettings}
-use Rattle.lattice.specs.Settings.{settingsFor, settingsOf, settingsGiven}
-use Rattle.lattice.specs.Class.{classesOf}
-use Rattle.lattice.proofs.theory.Answers.{beside-zero}
-use Rattle.lattice.proofs.theory.Limits.{legal, strength-stack}
+use Rattle.lattice.specs.Shape.{maxFlatStrength, maxClasses, Accepted}
+use Rattle.lattice.specs.Settings.{isOdd, oddSettings, evenSettings, flatSettings, stackTable, stackSettings}
+use Rattle.lattice.specs.Settings.{settingsFor, settingsOf}
+use Rattle.lattice.proofs.theory.Limits.{strength-stack, strength-most}
 
 -- the flat rule by the parity of t
 pub flat-odd : (t : ℕ) → t % 2 ≡ 1 → flatSettings t ≡ oddSettings t
@@ -43,28 +39,6 @@ pub settings-stack : (d t : ℕ) → (d ≡ 1 → ⊥) → settingsFor d t ≡ s
 unfolding settingsFor
 settings-stack d t p = rw (ne-eqb d 1 p)
 
--- so a flat field has the classes of the flat rule, and a stack those of its row
-pub classes-flat : (s : Shape) → s .planes ≡ 1 → classesOf s ≡ flatSettings (s .strength) .m
-unfolding classesOf
-classes-flat s flat = ap (λ (k : Settings). k .m) (settings-flat (s .planes) (s .strength) flat)
-
-pub classes-stack : (s : Shape) → (s .planes ≡ 1 → ⊥) → classesOf s ≡ stackSettings (s .strength) .m
-unfolding classesOf
-classes-stack s stack = ap (λ (k : Settings). k .m) (settings-stack (s .planes) (s .strength) stack)
-
--- the settings that an accepted shape gives, and the classes that any shape gives
-pub given-accepted : (s : Shape) → Accepted s → settingsGiven s ≡ settingsOf s
-unfolding settingsGiven
-given-accepted s p = beside-zero _ _ _ p
-
-pub given-classes : (s : Shape) → settingsGiven s .m ≡ figure (shapeNumber s) (classesOf s)
-unfolding settingsGiven classesOf
-given-classes s = go (shapeNumber s)
-  where
-    go : (n : ℕ) → beside n (settingsOf s) (settings 0 0 0) .m ≡ figure n (settingsOf s .m)
-    go zero = refl
-    go (suc n) = refl
-
 -- a square, of a bounded number
 square-most : (t n : ℕ) → t ≤ n → t * t ≤ n * n
 square-most t n p = mul-le-mul p p
@@ -82,7 +56,7 @@ flat-some t p = go (eqb (t % 2) 1) refl
         rw (flat-even t o) (omega (arith, square-most 2 t two))
 
 -- a flat strength of at most 32 has at most 512 classes
-pub flat-most : (t : ℕ) → t ≤ maxFlatStrength → flatSettings t .m ≤ maxClasses
+flat-most : (t : ℕ) → t ≤ maxFlatStrength → flatSettings t .m ≤ maxClasses
 unfolding oddSettings evenSettings
 flat-most t p = go (eqb (t % 2) 1) refl
   where
@@ -107,15 +81,24 @@ stack-bounds (suc (suc (suc (suc (suc (suc (suc zero))))))) p q = (lit≤ tt, li
 stack-bounds (suc (suc (suc (suc (suc (suc (suc (suc zero)))))))) p q = (lit≤ tt, lit≤ tt)
 stack-bounds (suc (suc (suc (suc (suc (suc (suc (suc (suc t))))))))) p q = absurd (omega arith)
 
--- an accepted shape has at least one class
-module _ (s : Shape) (a : Accepted s) where
-  pub classes-some : 1 ≤ classesOf s
-  unfolding classesOf
-  classes-some = go (eqb (s .planes) 1) refl
+-- the settings of an accepted shape by strength have at least one class, and at most 512
+module _ (s : Shape) (a : Accepted s) (some : 1 ≤ s .strength) where
+  pub settings-some : 1 ≤ settingsOf s .m
+  settings-some = go (eqb (s .planes) 1) refl
     where
       go : (b : Bool) → eqb (s .planes) 1 ≡ b → 1 ≤ settingsOf s .m
-      go true e = rw (settings-flat _ (s .strength) (eqb-true (s .planes) 1 e)) (flat-some _ (legal s a .strength-low))
+      go true e = rw (settings-flat _ (s .strength) (eqb-true (s .planes) 1 e)) (flat-some _ some)
       go false e =
           rw
           (settings-stack _ (s .strength) (eqb-false (s .planes) 1 e))
-          (stack-bounds _ (legal s a .strength-low) (strength-stack s a (eqb-false (s .planes) 1 e)) .0)
+          (stack-bounds _ some (strength-stack s a (eqb-false (s .planes) 1 e)) .0)
+
+  pub settings-most : settingsOf s .m ≤ maxClasses
+  settings-most = go (eqb (s .planes) 1) refl
+    where
+      go : (b : Bool) → eqb (s .planes) 1 ≡ b → settingsOf s .m ≤ maxClasses
+      go true e = rw (settings-flat _ (s .strength) (eqb-true (s .planes) 1 e)) (flat-most _ (strength-most s a))
+      go false e =
+          rw
+          (settings-stack _ (s .strength) (eqb-false (s .planes) 1 e))
+          (le-trans (stack-bounds _ some (strength-stack s a (eqb-false (s .planes) 1 e)) .1) (lit≤ tt))

@@ -1,16 +1,21 @@
--- The lines of a field by strength: where each begins in the table y mod m, and the class of a cell from it.
+-- The lines of a field: where each begins in the table y mod m, and the class of a cell from it.
 use Prim.Native.Nat.{ℕ, _+_, _-_, _*_, _/_, _%_, _<_, _≤_}
 use mathlib.Core.Path.{_≡_, refl, sym, ap, _∙_}
-use native.Mathlib.Nat.{add-mod-right, mod-lt, mod-mod, zero-mod, zero-div, mod-add-mod, div-add-mod'}
+use native.Mathlib.Nat.{add-mod-right, mod-lt, mod-mod, mod-one, mod-eq-of-lt, zero-mod, zero-div, div-one, mod-add-mod}
+use native.Mathlib.Nat.{div-add-mod'}
 use native.Mathlib.Omega.{arith}
 use lib.Arith.{digits-div, digits-mod}
+use Rattle.lattice.specs.declared.class.Placement.{Placement}
 use Rattle.lattice.specs.declared.settings.Settings.{Settings}
 use Rattle.lattice.specs.declared.shape.Shape.{Shape}
+use Rattle.lattice.specs.Shape.{Accepted}
 use Rattle.lattice.specs.Cell.{Cell, cell, cellAt}
-use Rattle.lattice.specs.Class.{minusMod, classWith, classOf, classAt, layoutOf}
-use Rattle.lattice.specs.Settings.{settingsOf}
+use Rattle.lattice.specs.Class.{minusMod, classWith, classAt, layoutOf, placementOf, classBy}
+use Rattle.lattice.specs.Settings.{settings}
+use Rattle.lattice.specs.Lines.{ByLines, HasPeriod, remainderTable, tableOf, slicesOf, offsetOf, lineStart}
+use Rattle.lattice.proofs.theory.Limits.{window-legal}
+use Rattle.lattice.proofs.theory.Placements.{placed-window, placed-strength, either, class-placed, period-some}
 use Rattle.lattice.proofs.theory.Remainder.{add-same, minus-below, minus-adds, minus-only}
-use Rattle.lattice.specs.Lines.{ByLines, HasPeriod, remainderTable, noOffset, lineStart}
 
 abbrev over : ℕ → ℕ → ℕ
 over m n = n % m
@@ -162,19 +167,71 @@ line-cell s l x p i =
     (digits-div l p i / s .rows)
     (digits-mod l p i)
 
--- the class of the cell in column x of line l
-pub line-class : (s : Shape) → 0 < settingsOf s .m → (l x : ℕ) → x < s .columns
-    → classAt s (l * s .columns + x) ≡ (lineStart (settingsOf s) (s .rows) l + x) % settingsOf s .m
-unfolding classOf classWith lineStart
-line-class s some l x p =
-    ap (λ (c : Cell). classWith (settingsOf s) c) (line-cell s l x p)
-    ∙ minus-from (settingsOf s .m) some x (settingsOf s .b * (l % s .rows) + settingsOf s .c * (l / s .rows))
+-- by a window every line begins at the table's first place
+start-window : (q h l : ℕ) → 0 < q → lineStart (settings q 0 0) h l ≡ 0
+unfolding lineStart
+start-window q h l some =
+    let none : 0 * (l % h) + 0 * (l / h) ≡ 0 = omega arith in
+    ap (λ (n : ℕ). minusMod 0 n q) none ∙ minus-none q 0 some some
+
+-- the lines of an accepted shape, by window or by strength
+module _ (s : Shape) (a : Accepted s) where
+  abbrev starts : ℕ → ℕ
+  starts l = lineStart (tableOf s) (s .rows) l
+
+  window-starts : s .strength ≡ 0 → (l : ℕ) → starts l ≡ 0
+  window-starts z l =
+      ap (λ (p : Placement). lineStart (p .settings) (s .rows) l) (placed-window s z)
+      ∙ start-window (s .window .columns) (s .rows) l (window-legal s a z .columns)
+
+  one-slice : 1 ≤ s .strength → slicesOf s ≡ 1
+  one-slice some = ap (λ (p : Placement). p .slices) (placed-strength s some)
+
+  -- where there are two slices or more, every line begins at the table's first place
+  pub slices-start : 2 ≤ slicesOf s → (l : ℕ) → starts l ≡ 0
+  slices-start two = either s window-starts (λ some. absurd (omega (arith, one-slice some)))
+
+  -- a line begins where the line does whose number is that of the lines before it in its slice
+  pub start-slice : (l : ℕ) → starts (l / slicesOf s) ≡ starts l
+  start-slice l =
+      either s
+      (λ z. window-starts z (l / slicesOf s) ∙ sym (window-starts z l))
+      (λ some. ap starts (ap (λ (n : ℕ). l / n) (one-slice some) ∙ div-one l))
+
+  -- its row has the slice of its number
+  row-slice : (l : ℕ) → l < s .rows * s .planes → l % s .rows % slicesOf s ≡ l % slicesOf s
+  row-slice l p = either s window strength
+    where
+      window : s .strength ≡ 0 → l % s .rows % slicesOf s ≡ l % slicesOf s
+      window z =
+          let low : l < s .rows = omega (arith, ap (λ (n : ℕ). s .rows * n) (window-legal s a z .flat)) in
+          ap (λ (n : ℕ). n % slicesOf s) (mod-eq-of-lt low)
+
+      strength : 1 ≤ s .strength → l % s .rows % slicesOf s ≡ l % slicesOf s
+      strength some =
+          ap (λ (n : ℕ). l % s .rows % n) (one-slice some)
+          ∙ mod-one (l % s .rows)
+          ∙ sym (ap (λ (n : ℕ). l % n) (one-slice some) ∙ mod-one l)
+
+  -- the class of the cell in column x of line l
+  pub line-class : (l x : ℕ) → l < s .rows * s .planes → x < s .columns
+      → classAt s (l * s .columns + x) ≡ (starts l + x) % tableOf s .m + offsetOf s l
+  unfolding classBy classWith lineStart
+  line-class l x p q =
+      let k = tableOf s in
+      let m = tableOf s .m in
+      sym (class-placed s (cellAt s (l * s .columns + x)))
+      ∙ ap (λ (c : Cell). classBy (placementOf s) c) (line-cell s l x q)
+      ∙ omega (
+        arith,
+        ap (λ (n : ℕ). n * m) (row-slice l p),
+        minus-from m (period-some s a) x (k .b * (l % s .rows) + k .c * (l / s .rows)),
+      )
+
+  -- Theorem. The classes of a field go by lines.
+  pub by-lines : ByLines (layoutOf s) (s .columns) (s .rows * s .planes) (remainderTable (tableOf s .m)) starts (offsetOf s)
+  by-lines = record { class = line-class }
 
 -- the table y mod m has the period m
 pub remainder-period : (m : ℕ) → 0 < m → HasPeriod m (remainderTable m)
 remainder-period m some = record { some = some; same = λ y z e. e; only = λ y z e. e }
-
--- Theorem. The classes of a field go by lines, where it has classes.
-pub by-lines : (s : Shape) → 0 < settingsOf s .m → (n : ℕ)
-    → ByLines (layoutOf s) (s .columns) n (remainderTable (settingsOf s .m)) (lineStart (settingsOf s) (s .rows)) noOffset
-by-lines s some n = record { class = λ l x p q. line-class s some l x q ∙ omega arith }

@@ -6,7 +6,7 @@ use Rattle.lattice.specs.declared.shape.Shape.{Shape}
 use Rattle.lattice.specs.Shape.{Accepted, cellsOf, maxClasses}
 use Rattle.lattice.specs.Cell.{Cell, InField}
 use Rattle.lattice.specs.Labelling.{differentValues}
-use Rattle.lattice.specs.Class.{classWith, classesOf, classOf, classAt, classNumber, classGiven}
+use Rattle.lattice.specs.Class.{classWith, windowClass, classesOf, classOf, classAt, classNumber, classGiven}
 use Rattle.lattice.specs.Endless.{pointOf, HasClass}
 use Rattle.lattice.specs.Settings.{settingsOf}
 
@@ -23,8 +23,10 @@ pub record ClassesBelow : Type 0 where
   pub limit : (s : Shape) → Accepted s → classesOf s ≤ maxClasses
   pub most : (s : Shape) → Accepted s → differentValues (classAt s) (cellsOf s) ≤ classesOf s
 
--- Theorem. Where the class of a cell is given with the number 0, the cell lies in the field, and the class is the one number r
--- below m for which column − b × row − c × plane − r is a multiple of m.
-abbrev pub ClassIsGiven : Type 0
-ClassIsGiven =
-    (s : Shape) (x : Cell) → classNumber s x ≡ 0 → InField s x × HasClass (settingsOf s) (pointOf x) (classGiven s x)
+-- Theorem. Where the class of a cell is given with the number 0, the cell lies in the field. By strength the class is the one
+-- number r below m for which column − b × row − c × plane − r is a multiple of m, and by window it is the window's.
+pub record ClassIsGiven : Type 0 where
+  pub field : (s : Shape) (x : Cell) → classNumber s x ≡ 0 → InField s x
+  pub by-strength : (s : Shape) (x : Cell) → classNumber s x ≡ 0 → 1 ≤ s .strength
+      → HasClass (settingsOf s) (pointOf x) (classGiven s x)
+  pub by-window : (s : Shape) (x : Cell) → classNumber s x ≡ 0 → s .strength ≡ 0 → classGiven s x ≡ windowClass (s .window) x

@@ -7,17 +7,19 @@ use lib.IntN.{pos, negsuc}
 use Rattle.lattice.specs.declared.refusal.Refusal.the-variants as why
 use Rattle.lattice.specs.declared.shape.Shape.{Shape}
 use Rattle.lattice.specs.Refusal.{refusalNumber}
-use Rattle.lattice.specs.Shape.{shapeNumber, maxSide, maxPlanes, maxCells, maxFlatStrength, maxStackStrength, maxClasses}
+use Rattle.lattice.specs.Shape.{window, noWindow, shapeNumber, maxSide, maxPlanes, maxCells, maxFlatStrength}
+use Rattle.lattice.specs.Shape.{maxStackStrength, maxClasses}
 use Rattle.lattice.specs.Cell.{cell, cellNumber}
-use Rattle.lattice.specs.Class.{classGiven, classesOf, layoutOf}
+use Rattle.lattice.specs.Class.{classNumber, classGiven, classesOf, layoutOf}
 use Rattle.lattice.specs.Position.{position}
-use Rattle.lattice.specs.Check.{isCheck, dataCells}
+use Rattle.lattice.specs.Check.{isCheck, dataCells, capacity}
 use Rattle.lattice.specs.Order.{triple}
 use Rattle.lattice.specs.DistanceTest.{maxTestStrength, maxTestClasses, testNumber, verdict, foundTriple, triplesTried}
+use Rattle.lattice.specs.theorems.Windows.{windowed}
 
 -- a shape of w columns, h rows, d planes and strength t
 abbrev pub sized : ℕ → ℕ → ℕ → ℕ → Shape
-sized w h d t = record { columns = w; rows = h; planes = d; strength = t }
+sized w h d t = record { columns = w; rows = h; planes = d; strength = t; window = noWindow }
 
 -- Theorem. The examples hold.
 pub record PlacingExamples : Type 0 where
@@ -95,7 +97,33 @@ pub record PlacingExamples : Type 0 where
       (shapeNumber (sized 5 5 2 0) ≡ 2)
       × (shapeNumber (sized 5 5 2 1) ≡ 0)
       × (shapeNumber (sized 5 5 2 8) ≡ 0)
-      × (shapeNumber (sized 5 5 2 9) ≡ 2)
+      × (shapeNumber (sized 5 5 2 9) ≡
+      2)
+  -- a window of 2 rows and 3 columns: row 3, column 4 is of class 1 × 3 + 1; the sides are not exchanged, and may exceed the
+  -- field
+  pub window-classes :
+      (classGiven (windowed 5 5 2 3) (cell 3 0 4) ≡ 4)
+      × (classGiven (windowed 5 5 3 2) (cell 4 0 3) ≡ 3)
+      × (classGiven (windowed 5 5 7 9) (cell 4 0 3) ≡ 39)
+  -- on 5 by 5 it has 6 classes, and 9 cells that hold no check
+  pub window-numbers :
+      (classesOf (windowed 5 5 2 3) ≡ 6) × (capacity (layoutOf (windowed 5 5 2 3)) ≡ 9) × (classesOf (windowed 9 9 512 1) ≡ 512)
+  -- the limits of a window: 512 cells, one plane, and no strength beside it; 2 for none at all, in stacks too
+  pub window-limits :
+      (shapeNumber (windowed 9 9 512 1) ≡ 0)
+      × (shapeNumber (windowed 9 9 513 1) ≡ 11)
+      × (shapeNumber (windowed 9 9 1 512) ≡ 0)
+      × (shapeNumber (windowed 9 9 1 513) ≡ 11)
+      × (shapeNumber (windowed 9 9 16 32) ≡ 0)
+      × (shapeNumber (windowed 9 9 27 19) ≡ 11)
+      × (shapeNumber (windowed 9 9 0 1) ≡ 11)
+      × (shapeNumber (windowed 9 9 1 0) ≡ 11)
+      × (shapeNumber (windowed 9 9 0 0) ≡ 2)
+      × (shapeNumber (record { columns = 9; rows = 9; planes = 2; strength = 0; window = window 2 3 }) ≡ 11)
+      × (shapeNumber (record { columns = 9; rows = 9; planes = 1; strength = 3; window = window 0 1 }) ≡ 11)
+      × (shapeNumber (record { columns = 9; rows = 9; planes = 1; strength = 3; window = window 1 0 }) ≡ 11)
+      × (shapeNumber (record { columns = 9; rows = 9; planes = 1; strength = 33; window = window 1 1 }) ≡ 2)
+      × (shapeNumber (windowed 257 9 0 1) ≡ 1)
   -- the limits of the distance test: t to 18, m to 4,096, b and c below m
   pub test-strengths : (testNumber 7 2 3 0 ≡ 2) × (testNumber 7 2 3 1 ≡ 0) × (testNumber 7 2 3 18 ≡ 0) × (testNumber 7 2 3 19 ≡ 2)
   pub test-classes : (testNumber 0 0 0 1 ≡ 9)
@@ -104,7 +132,8 @@ pub record PlacingExamples : Type 0 where
       × (testNumber 4097 0 0 1 ≡ 9)
   pub test-steps : (testNumber 7 6 6 1 ≡ 0) × (testNumber 7 7 0 1 ≡ 9) × (testNumber 7 0 7 1 ≡ 9)
   -- the first in the order
-  pub first-number : (shapeNumber (sized 257 1 1 0) ≡ 1) × (testNumber 0 0 0 0 ≡ 2)
+  pub first-number :
+      (shapeNumber (sized 257 1 1 0) ≡ 1) × (classNumber (windowed 9 9 0 1) (cell 9 0 9) ≡ 11) × (testNumber 0 0 0 0 ≡ 2)
   -- the limits themselves, which are the constants of the code, and the most classes, those of the strength 32
   pub limits :
       (maxSide ≡ 256)
@@ -133,3 +162,4 @@ pub record PlacingExamples : Type 0 where
       × (refusalNumber why.BadForm ≡ 8)
       × (refusalNumber why.BadSettings ≡ 9)
       × (refusalNumber why.TooManyErasures ≡ 10)
+      × (refusalNumber why.BadWindow ≡ 11)

@@ -14,8 +14,9 @@ LabelsNeeded =
     (s : Shape) → s .planes ≡ 1 → 1 ≤ s .strength → s .strength ≤ s .columns → s .strength ≤ s .rows
     → (L : Cell → ℕ) → Separates s (s .strength) L → classesOf s ≤ labels s L
 
--- Theorem. The bound is attained: where both sides of a flat field are at least t, the classes are exactly m labels.
+-- Theorem. The bound is attained: where t is at least 1 and both sides of a flat field are at least t, the classes are exactly m
+-- labels.
 abbrev pub BoundAttained : Type 0
 BoundAttained =
-    (s : Shape) → Accepted s → s .planes ≡ 1 → s .strength ≤ s .columns → s .strength ≤ s .rows
+    (s : Shape) → Accepted s → s .planes ≡ 1 → 1 ≤ s .strength → s .strength ≤ s .columns → s .strength ≤ s .rows
     → labels s (classOf s) ≡ classesOf s

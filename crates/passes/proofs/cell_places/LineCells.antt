@@ -4,7 +4,7 @@ use Prim.Native.Nat.{ℕ, _+_, _*_, _/_, _%_, _<_, _≤_}
 use mathlib.Core.Bool.{cond}
 use mathlib.Core.Path.{_≡_, sym, ap, _∙_}
 use native.Mathlib.Decide.{decLt}
-use native.Mathlib.Nat.{mod-lt, mod-eq-of-lt, add-comm, add-zero, div-add-mod', le-refl}
+use native.Mathlib.Nat.{mod-lt, add-comm, div-add-mod', le-refl}
 use native.Mathlib.Omega.{arith}
 use lib.Dec.{ltb}
 use borrow.Author.Tests.{lt-ltb, le-ltb}
@@ -45,25 +45,20 @@ among-own m x j near =
       among-before m x x (omega arith) near (le-refl _),
     )
 
--- a line of w cells that begins at cell n and at `start` in the table, and the first column x of class a in it
-module _ (L : Layout) (m start n w a x : ℕ) (line : (z : ℕ) → z < w → L .class (n + z) ≡ (start + z) % m) (near : x < m)
-    (first : (start + x) % m ≡ a) where
+-- a line of w cells that begins at cell n, at `start` in the table and with the offset `off`, and the first column x in it of the
+-- class of the table's place y
+module _ (L : Layout) (m start off n w y x : ℕ) (line : (z : ℕ) → z < w → L .class (n + z) ≡ (start + z) % m + off) (near : x < m)
+    (first : (start + x) % m ≡ y % m) where
   some : 0 < m
   some = omega arith
 
-  own : a % m ≡ a
-  own = mod-eq-of-lt (omega (arith, first, mod-lt (start + x) some))
-
   -- its first z cells add to the class those places below z that have the remainder of x
-  pub line-adds : (z : ℕ) → z ≤ w → sizeTo L a (n + z) ≡ sizeTo L a n + among m x z
+  pub line-adds : (z : ℕ) → z ≤ w → sizeTo L (y % m + off) (n + z) ≡ sizeTo L (y % m + off) n + among m x z
   line-adds z p =
-      let same : a % m + 0 ≡ a = add-zero (a % m) ∙ own in
       omega (
         arith,
-        ap (λ (b : ℕ). sizeTo L b (n + z)) same,
-        ap (λ (b : ℕ). sizeTo L b n) same,
-        line-size L m (remainderTable m) (remainder-period m some) start 0 n w (λ i l. line i l ∙ sym (add-zero _)) a z p,
-        among-shift m a x start z (ap (λ (k : ℕ). k % m) (add-comm x start) ∙ first ∙ sym own),
+        line-size L m (remainderTable m) (remainder-period m some) start off n w line y z p,
+        among-shift m y x start z (ap (λ (k : ℕ). k % m) (add-comm x start) ∙ first),
       )
 
   module _ (j : ℕ) (less : j < among m x w) where
@@ -75,13 +70,15 @@ module _ (L : Layout) (m start n w a x : ℕ) (line : (z : ℕ) → z < w → L 
         go (yes l) = l
         go (no l) = absurd (omega (arith, among-own m x j near, among-mono m x w (x + j * m) (omega arith)))
 
-    cell-class : L .class (n + (x + j * m)) ≡ a
+    cell-class : L .class (n + (x + j * m)) ≡ y % m + off
     cell-class =
         let whole : start + (x + j * m) ≡ start + x + j * m = omega arith in
-        line (x + j * m) cell-inside ∙ ap (λ (k : ℕ). k % m) whole ∙ mod-of-add (start + x) j m ∙ first
+        line (x + j * m) cell-inside
+        ∙ ap (λ (k : ℕ). k + off) (ap (λ (k : ℕ). k % m) whole ∙ mod-of-add (start + x) j m ∙ first)
 
     -- and its position is one more than what stands before it
-    pub cell-place : (p : ℕ) → p ≡ sizeTo L a n + j + 1 → n + w ≤ L .cells → IsCellAt L a p (n + (x + j * m))
+    pub cell-place : (p : ℕ) → p ≡ sizeTo L (y % m + off) n + j + 1 → n + w ≤ L .cells
+        → IsCellAt L (y % m + off) p (n + (x + j * m))
     unfolding position
     cell-place p e room =
         record {

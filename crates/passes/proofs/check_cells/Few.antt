@@ -14,7 +14,8 @@ use Rattle.lattice.specs.Check.{isCheck, checks, holdsData}
 use Rattle.lattice.specs.Counting.{sumBelow}
 use Rattle.lattice.specs.Listing.{maxChecks, checksTo}
 use Rattle.lattice.proofs.theory.BitLength.{top-of}
-use Rattle.lattice.proofs.theory.ClassBelow.{class-below, classes-limit}
+use Rattle.lattice.proofs.theory.ClassBelow.{class-below}
+use Rattle.lattice.proofs.theory.Placements.{classes-limit}
 use Rattle.lattice.proofs.theory.Counting.{count-same, count-all, sum-same}
 use Rattle.lattice.proofs.theory.Limits.{legal}
 use Rattle.lattice.proofs.theory.Positions.{by-class}

@@ -2,9 +2,10 @@
 use Prim.Native.Nat.{ℕ, zero, suc, _+_, _-_, _*_, _/_, _%_, _<_, _≤_}
 use mathlib.Core.Bool.{true, not}
 use mathlib.Core.List.{List}
+use mathlib.Core.Logic.{_⊎_, ⊎-elim, inl, inr}
 use mathlib.Core.Path.{_≡_, ap, _∙_}
 use native.Mathlib.Decide.{decLt}
-use native.Mathlib.Nat.{add-mod-right, add-zero, mod-eq-of-lt, mod-lt, le-refl, suc-mul}
+use native.Mathlib.Nat.{add-mod-right, mod-eq-of-lt, mod-lt, le-refl, suc-mul}
 use native.Mathlib.Omega.{arith}
 use borrow.Author.Tests.{ne-eqb}
 use lib.Dec.{eqb}
@@ -38,93 +39,135 @@ pub ahead-first : (counts : List ℕ) (m more lines : ℕ) → 0 < lines → NoP
 ahead-first counts m more zero some none a k l p q = absurd (omega arith)
 ahead-first counts m more (suc n) some none a k l p q = none a k l p (omega (arith, suc-mul n more))
 
--- nor in the others after it, which gives each class at most w / m + 1 cells
-pub ahead-after : (m start w lines : ℕ) (gains counts counts' : List ℕ) → 0 < m → Gains m w (2 * m) gains
-    → ((a : ℕ) → a < m → getD counts' a 0 ≡ getD counts a 0 + getD gains (a + (m - start)) 0) → 0 < lines
-    → NoPowerNear m (lines * (w / m + 1)) counts → NoPowerNear m ((lines - 1) * (w / m + 1)) counts'
-unfolding Gains
-ahead-after m start w zero gains counts counts' some gain own more none a k l p q = absurd (omega arith)
-ahead-after m start w (suc n) gains counts counts' some gain own more none a k l p q =
-    let left : suc n - 1 ≡ n = omega arith in
-    none a k l (omega (arith, own a l))
-    (omega (
-      arith,
-      own a l,
-      gain (a + (m - start)) (omega arith),
-      among-few m (a + (m - start)) w some,
-      suc-mul n (w / m + 1),
-      ap (λ (j : ℕ). j * (w / m + 1)) left,
-    ))
+-- a class is one of the m of a slice, whose first is `first`, or of another slice
+own-or-other : {A : Type 0} (m first a : ℕ) → ((b : ℕ) → b < m → a ≡ first + b → A) → ((a < first) ⊎ (first + m ≤ a) → A) → A
+own-or-other {A} m first a own other = go (decLt a first) (decLt a (first + m))
+  where
+    go : Dec (a < first) → Dec (a < first + m) → A
+    go (yes l) d = other (inl l)
+    go (no l) (yes r) = own (a - first) (omega arith) (omega arith)
+    go (no l) (no r) = other (inr (omega arith))
 
--- a line of w cells that begins at cell n, and at `start` in the table
-module _ (L : Layout) (m start n w : ℕ) (some : 0 < m) (first : start < m)
-    (line : (x : ℕ) → x < w → L .class (n + x) ≡ (start + x) % m) where
-  -- a class gains what the stretch has of its remainder
-  line-gain : (a : ℕ) → a < m → sizeTo L a (n + w) ≡ sizeTo L a n + among m (a + (m - start)) w
-  line-gain a l =
-      let there : a + (m - start) + start ≡ a + m = omega arith in
-      let own : a % m + 0 ≡ a = add-zero (a % m) ∙ mod-eq-of-lt l in
+-- a line is counted: the classes of its slice gain what the list has for each, and the others stay
+module _ (m first start w : ℕ) (gains counts counts' : List ℕ) (some : 0 < m) (gain : Gains m w (2 * m) gains)
+    (own : (b : ℕ) → b < m → getD counts' (first + b) 0 ≡ getD counts (first + b) 0 + getD gains (b + (m - start)) 0)
+    (others : (a : ℕ) → (a < first) ⊎ (first + m ≤ a) → getD counts' a 0 ≡ getD counts a 0) where
+  -- so no count is less, nor more than w / m + 1 above
+  record Near (a : ℕ) : Type 0 where
+    pub low : getD counts a 0 ≤ getD counts' a 0
+    pub high : getD counts' a 0 ≤ getD counts a 0 + (w / m + 1)
+
+  near : (a : ℕ) → Near a
+  unfolding Gains
+  near a = own-or-other m first a here (λ o. record { low = omega (arith, others a o); high = omega (arith, others a o) })
+    where
+      here : (b : ℕ) → b < m → a ≡ first + b → Near a
+      here b l e =
+          let less : getD gains (b + (m - start)) 0 ≤ w / m + 1 = omega (
+            arith,
+            gain (b + (m - start)) (omega arith),
+            among-few m (b + (m - start)) w some,
+          ) in
+          let before : getD counts a 0 ≡ getD counts (first + b) 0 = ap (λ (k : ℕ). getD counts k 0) e in
+          let after : getD counts' a 0 ≡ getD counts' (first + b) 0 = ap (λ (k : ℕ). getD counts' k 0) e in
+          record { low = omega (arith, own b l); high = omega (arith, own b l) }
+
+  -- nor is a power near in the lines after it, in any of n classes
+  pub ahead-after : (n lines : ℕ) → 0 < lines → NoPowerNear n (lines * (w / m + 1)) counts
+      → NoPowerNear n ((lines - 1) * (w / m + 1)) counts'
+  ahead-after n zero more none a k l p q = absurd (omega arith)
+  ahead-after n (suc j) more none a k l p q =
+      let left : suc j - 1 ≡ j = omega arith in
+      none a k l (omega (arith, near a))
+      (omega (arith, near a, suc-mul j (w / m + 1), ap (λ (i : ℕ). i * (w / m + 1)) left))
+
+-- a line of w cells that begins at cell n and at `start` in the table, and whose slice has the m classes from `first` on
+module _ (L : Layout) (m first start n w : ℕ) (some : 0 < m) (below : start < m)
+    (line : (x : ℕ) → x < w → L .class (n + x) ≡ (start + x) % m + first) where
+  -- a class of the slice gains what the stretch has of its remainder
+  line-gain : (b : ℕ) → b < m → sizeTo L (first + b) (n + w) ≡ sizeTo L (first + b) n + among m (b + (m - start)) w
+  line-gain b l =
+      let there : b + (m - start) + start ≡ b + m = omega arith in
+      let own : b % m + first ≡ first + b = omega (arith, mod-eq-of-lt l) in
       omega (
         arith,
-        line-size L m (remainderTable m) (remainder-period m some) start 0 n w (λ x p. line x p ∙ omega arith) a w (le-refl _),
+        line-size L m (remainderTable m) (remainder-period m some) start first n w line b w (le-refl _),
         ap (λ (c : ℕ). sizeTo L c (n + w)) own,
         ap (λ (c : ℕ). sizeTo L c n) own,
-        among-shift m a (a + (m - start)) start w (ap (λ (k : ℕ). k % m) there ∙ add-mod-right a m),
+        among-shift m b (b + (m - start)) start w (ap (λ (k : ℕ). k % m) there ∙ add-mod-right b m),
       )
 
-  -- a number that is no class below m gains nothing
-  line-outside : (a : ℕ) → m ≤ a → sizeTo L a (n + w) ≡ sizeTo L a n
+  -- a number that is no class of the slice gains nothing
+  line-outside : (a : ℕ) → (a < first) ⊎ (first + m ≤ a) → sizeTo L a (n + w) ≡ sizeTo L a n
   unfolding sizeTo
-  line-outside a l =
+  line-outside a other =
       omega (
         arith,
         count-from (λ i. eqb (L .class i) a) n w,
-        count-none (λ x. eqb (L .class (n + x)) a) w
-            (λ x p. ne-eqb _ a (λ (e : L .class (n + x) ≡ a). omega (arith, line x p, mod-lt (start + x) some))),
+        count-none (λ x. eqb (L .class (n + x)) a) w (λ x p. ne-eqb _ a (never x p)),
       )
+    where
+      never : (x : ℕ) → x < w → L .class (n + x) ≡ a → ⊥
+      never x p e =
+          let less : (start + x) % m < m = mod-lt (start + x) some in
+          let here : a ≡ (start + x) % m + first = omega (arith, line x p) in
+          ⊎-elim (λ (l : a < first). omega arith) (λ (l : first + m ≤ a). omega arith) other
 
   -- the counts after the line, by the list of gains
   line-counts : (gains counts counts' : List ℕ) → Gains m w (2 * m) gains → HoldsSizes L counts n
-      → ((a : ℕ) → a < m → getD counts' a 0 ≡ getD counts a 0 + getD gains (a + (m - start)) 0)
-      → ((a : ℕ) → m ≤ a → getD counts' a 0 ≡ getD counts a 0) → HoldsSizes L counts' (n + w)
+      → ((b : ℕ) → b < m → getD counts' (first + b) 0 ≡ getD counts (first + b) 0 + getD gains (b + (m - start)) 0)
+      → ((a : ℕ) → (a < first) ⊎ (first + m ≤ a) → getD counts' a 0 ≡ getD counts a 0) → HoldsSizes L counts' (n + w)
   unfolding Gains
-  line-counts gains counts counts' gain counted own others = record { at = λ a l. go a l (decLt a m) }
+  line-counts gains counts counts' gain counted own others =
+      record {
+        at = λ a l.
+            own-or-other m first a (here a l) (λ o. omega (arith, others a o, counted .at a l, line-outside a o));
+      }
     where
-      go : (a : ℕ) → a < maxClasses → Dec (a < m) → getD counts' a 0 ≡ sizeTo L a (n + w)
-      go a l (yes p) =
-          omega (arith, own a p, gain (a + (m - start)) (omega arith), counted .at a l, line-gain a p)
-      go a l (no p) = omega (arith, others a (omega arith), counted .at a l, line-outside a (omega arith))
+      here : (a : ℕ) → a < maxClasses → (b : ℕ) → b < m → a ≡ first + b → getD counts' a 0 ≡ sizeTo L a (n + w)
+      here a l b p e =
+          rw e
+          (omega (
+            arith,
+            own b p,
+            gain (b + (m - start)) (omega arith),
+            counted .at (first + b) (omega arith),
+            line-gain b p,
+          ))
 
   -- where no power of two is near the counts, no cell of the line holds a check
-  line-free : (counts : List ℕ) → m ≤ maxClasses → HoldsSizes L counts n → NoPowerNear m (w / m + 1) counts
-      → (x : ℕ) → x < w → holdsData L (n + x) ≡ true
+  line-free : (counts : List ℕ) (classes : ℕ) → first + m ≤ classes → classes ≤ maxClasses → HoldsSizes L counts n
+      → NoPowerNear classes (w / m + 1) counts → (x : ℕ) → x < w → holdsData L (n + x) ≡ true
   unfolding holdsData isCheck position
-  line-free counts few counted none x l =
-      let a = L .class (n + x) in
-      let below : L .class (n + x) < m = omega (arith, line x l, mod-lt (start + x) some) in
+  line-free counts classes inside few counted none x l =
+      let b = (start + x) % m in
+      let low : (start + x) % m < m = mod-lt (start + x) some in
+      let class : L .class (n + x) ≡ first + (start + x) % m = omega (arith, line x l) in
       let here = counted .at (L .class (n + x)) (omega arith) in
       ap not
-      (none (L .class (n + x)) (position L (n + x)) below
+      (none (L .class (n + x)) (position L (n + x)) (omega arith)
       (omega (arith, here, size-mono L (L .class (n + x)) n (n + x) (omega arith)))
       (omega (
         arith,
         here,
         position-most L (n + x) (n + w) (omega arith),
-        line-gain (L .class (n + x)) below,
-        among-few m (L .class (n + x) + (m - start)) w some,
+        ap (λ (c : ℕ). sizeTo L c n) class,
+        ap (λ (c : ℕ). sizeTo L c (n + w)) class,
+        line-gain b low,
+        among-few m (b + (m - start)) w some,
       )))
 
   -- so the list stays, and the line is passed by its gains
-  pub line-listed : (amount : ℕ) (sizes gains counts cells places counts' : List ℕ) → m ≤ maxClasses → Gains m w (2 * m) gains
-      → NoPowerNear m (w / m + 1) counts
-      → ((a : ℕ) → a < m → getD counts' a 0 ≡ getD counts a 0 + getD gains (a + (m - start)) 0)
-      → ((a : ℕ) → m ≤ a → getD counts' a 0 ≡ getD counts a 0) → ListedTo L n amount sizes counts cells places
-      → ListedTo L (n + w) amount sizes counts' cells places
-  line-listed amount sizes gains counts cells places counts' few gain none own others before =
+  pub line-listed : (classes amount : ℕ) (sizes gains counts cells places counts' : List ℕ) → first + m ≤ classes
+      → classes ≤ maxClasses → Gains m w (2 * m) gains → NoPowerNear classes (w / m + 1) counts
+      → ((b : ℕ) → b < m → getD counts' (first + b) 0 ≡ getD counts (first + b) 0 + getD gains (b + (m - start)) 0)
+      → ((a : ℕ) → (a < first) ⊎ (first + m ≤ a) → getD counts' a 0 ≡ getD counts a 0)
+      → ListedTo L n amount sizes counts cells places → ListedTo L (n + w) amount sizes counts' cells places
+  line-listed classes amount sizes gains counts cells places counts' inside few gain none own others before =
       record {
         few = before .few;
         counted = line-counts gains counts counts' gain (before .counted) own others;
         listed = λ right.
-            listed-run L n amount cells w (line-free counts few (before .counted) none) (before .listed right);
+            listed-run L n amount cells w (line-free counts classes inside few (before .counted) none) (before .listed right);
         placed = before .placed;
       }

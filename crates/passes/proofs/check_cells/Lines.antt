@@ -1,16 +1,17 @@
 -- The lines of an accepted shape in a pass that lists its check cells.
 use Prim.Native.Nat.{ℕ, _+_, _-_, _*_, _/_, _%_, _<_, _≤_}
 use mathlib.Core.List.{List}
-use mathlib.Core.Path.{_≡_, refl, sym, ap, subst, _∙_}
+use mathlib.Core.Logic.{_⊎_}
+use mathlib.Core.Path.{_≡_, refl, sym, ap, ap₂, subst, _∙_}
+use native.Mathlib.Nat.{mod-lt}
 use native.Mathlib.Omega.{arith}
 use lib.ListN.{getD}
 use Rattle.lattice.specs.declared.line.Line.{Line}
 use Rattle.lattice.specs.declared.line.Pass.{Pass}
 use Rattle.lattice.specs.declared.shape.Shape.{Shape}
 use Rattle.lattice.specs.Shape.{maxCells, Accepted, cellsOf}
-use Rattle.lattice.specs.Settings.{settingsOf}
-use Rattle.lattice.specs.Class.{classesOf, classAt, layoutOf}
-use Rattle.lattice.specs.Lines.{passOf, IsLine, Gains}
+use Rattle.lattice.specs.Class.{classAt, layoutOf}
+use Rattle.lattice.specs.Lines.{tableOf, slicesOf, passOf, IsLine, Gains}
 use Rattle.lattice.specs.Listing.{maxChecks, checksTo, ListsChecks, HoldsPlaces}
 use Rattle.passes.specs.CheckList.{ListedTo, NoPowerNear}
 use Rattle.lattice.specs.Sizes.{HoldsSizes}
@@ -20,7 +21,8 @@ use Rattle.passes.proofs.check_cells.FreeLine.{line-listed}
 use Rattle.lattice.proofs.theory.Limits.{legal}
 use Rattle.lattice.proofs.theory.Positions.{size-none}
 use Rattle.lattice.proofs.theory.Sizes.{sizes-most}
-use Rattle.lattice.proofs.theory.SizesByLines.{classes-are, columns-are, lines-are, some, most, starts-below}
+use Rattle.lattice.proofs.theory.SizesByLines.{columns-are, lines-are, most, slices-are, period-is, slices-least, slice-room}
+use Rattle.lattice.proofs.theory.SizesByLines.{period-least, starts-below}
 use Rattle.lattice.proofs.theory.Starts.{line-class}
 
 -- nothing is listed of no cells
@@ -98,31 +100,39 @@ module _ (s : Shape) (ok : Accepted s) (pass : Pass) (same : pass ≡ passOf s) 
     pub line-checks : (x : ℕ) → x < pass .columns → checksTo (layoutOf s) (l * pass .columns + x + 1) ≤ maxChecks
     line-checks x p = checks-few s ok (l * pass .columns + x + 1) (omega (arith, line-inside))
 
-    module _ (line : Line) (is : IsLine (settingsOf s) (s .rows) l line) where
+    -- the classes of its slice, whose first is l % slices × m, are classes
+    pub line-slice : l % pass .slices * pass .period + pass .period ≤ pass .classes
+    line-slice = slice-room s ok pass same (l % pass .slices) (mod-lt l (slices-least s ok pass same))
+
+    module _ (line : Line) (is : IsLine (tableOf s) (s .rows) l line) where
       -- where the line begins, and the classes of its cells
-      pub line-starts : line .start < pass .classes
+      pub line-starts : line .start < pass .period
       line-starts = omega (arith, is .start, starts-below s ok pass same l)
 
-      pub cell-class : (x : ℕ) → x < pass .columns → classAt s (l * pass .columns + x) ≡ (line .start + x) % pass .classes
-      unfolding classesOf
+      pub cell-class : (x : ℕ) → x < pass .columns
+          → classAt s (l * pass .columns + x) ≡ (line .start + x) % pass .period + l % pass .slices * pass .period
       cell-class x p =
-          let m-is = classes-are s ok pass same in
+          let period = period-is s ok pass same in
+          let slices = slices-are s ok pass same in
           ap (λ (n : ℕ). classAt s (n + x)) (sym begins)
-          ∙ line-class s (omega (arith, m-is, some s ok pass same)) l x (omega (arith, columns-are s ok pass same))
-          ∙ ap (λ (n : ℕ). (n + x) % settingsOf s .m) (sym (is .start))
-          ∙ ap (λ (n : ℕ). (line .start + x) % n) (sym m-is)
+          ∙ line-class s ok l x (omega (arith, lines-are s ok pass same)) (omega (arith, columns-are s ok pass same))
+          ∙ ap (λ (n : ℕ). (n + x) % tableOf s .m + l % slicesOf s * tableOf s .m) (sym (is .start))
+          ∙ ap₂ (λ (n m : ℕ). (line .start + x) % m + l % n * m) (sym slices) (sym period)
 
       -- a line with no power of two near the counts is passed by its gains
       pub line-passed : (amount : ℕ) (sizes gains counts cells places counts' : List ℕ)
-          → Gains (pass .classes) (pass .columns) (2 * pass .classes) gains
-          → NoPowerNear (pass .classes) (pass .columns / pass .classes + 1) counts
-          → ((a : ℕ) → a < pass .classes
-          → getD counts' a 0 ≡ getD counts a 0 + getD gains (a + (pass .classes - line .start)) 0)
-          → ((a : ℕ) → pass .classes ≤ a → getD counts' a 0 ≡ getD counts a 0)
+          → Gains (pass .period) (pass .columns) (2 * pass .period) gains
+          → NoPowerNear (pass .classes) (pass .columns / pass .period + 1) counts
+          → ((a : ℕ) → a < pass .period
+          → getD counts' (l % pass .slices * pass .period + a) 0
+          ≡ getD counts (l % pass .slices * pass .period + a) 0 + getD gains (a + (pass .period - line .start)) 0)
+          → ((a : ℕ) → (a < l % pass .slices * pass .period) ⊎ (l % pass .slices * pass .period + pass .period ≤ a)
+          → getD counts' a 0 ≡ getD counts a 0)
           → ListedTo (layoutOf s) (l * s .columns) amount sizes counts cells places
           → ListedTo (layoutOf s) ((l + 1) * s .columns) amount sizes counts' cells places
       line-passed amount sizes gains counts cells places counts' gain none own others held =
           line-ends amount sizes counts' cells places (pass .columns) refl
-          (line-listed (layoutOf s) (pass .classes) (line .start) (l * pass .columns) (pass .columns) (some s ok pass same)
-          line-starts cell-class amount sizes gains counts cells places counts' (most s ok pass same) gain none own others
+          (line-listed (layoutOf s) (pass .period) (l % pass .slices * pass .period) (line .start) (l * pass .columns)
+          (pass .columns) (period-least s ok pass same) line-starts cell-class (pass .classes) amount sizes gains counts cells
+          places counts' line-slice (most s ok pass same) gain none own others
           (subst (λ (n : ℕ). ListedTo (layoutOf s) n amount sizes counts cells places) begins held))

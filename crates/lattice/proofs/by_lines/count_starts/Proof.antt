@@ -6,11 +6,10 @@ use native.Mathlib.Omega.{arith}
 use lib.ListN.{length, getD, length-set}
 use Rattle.lattice.specs.declared.shape.Shape.{Shape}
 use Rattle.lattice.specs.Shape.{maxCells, maxClasses, Accepted}
-use Rattle.lattice.specs.Settings.{settingsOf}
-use Rattle.lattice.specs.Lines.{lineStart, passOf, startsAt, IsLine}
+use Rattle.lattice.specs.Lines.{tableOf, lineStart, passOf, startsAt, IsLine}
 use Rattle.lattice.proofs.theory.LineCounts.{Counted, counted-none, counted-more, starts-most}
 use Rattle.lattice.proofs.theory.NextLine.{pass-first}
-use Rattle.lattice.proofs.theory.SizesByLines.{most, starts-below, lines-most}
+use Rattle.lattice.proofs.theory.SizesByLines.{period-most, starts-below, lines-most}
 use Rattle.lattice.proofs.by_lines.count_starts.Statement.{statement}
 use Rattle.lattice.proofs.by_lines.count_starts.Tie as tie
 
@@ -18,7 +17,7 @@ abbrev Inv-loop : tie.InvT-loop
 Inv-loop pass starts₀ line₀ l₀ starts line l =
     (l ≤ pass .lines) × (length starts ≡ length starts₀)
     × ((s : Shape) → Accepted s → pass ≡ passOf s
-    → IsLine (settingsOf s) (s .rows) l line × Counted (lineStart (settingsOf s) (s .rows)) starts l)
+    → IsLine (tableOf s) (s .rows) l line × Counted (lineStart (tableOf s) (s .rows)) starts l)
 
 abbrev μ-loop : tie.MeasureT-loop
 μ-loop pass starts₀ line₀ l₀ starts line l = pass .lines - l
@@ -33,7 +32,7 @@ module _ (c : tie.Then1 Inv-loop μ-loop) where
         arith,
         turn .inv .2 _ (e .pre .0 .0 .accepted) (e .pre .0 .0 .same) .0 .start,
         starts-below _ (e .pre .0 .0 .accepted) _ (e .pre .0 .0 .same) (turn .l),
-        most _ (e .pre .0 .0 .accepted) _ (e .pre .0 .0 .same),
+        period-most _ (e .pre .0 .0 .accepted) _ (e .pre .0 .0 .same),
       )
 
   entry :
@@ -45,7 +44,7 @@ module _ (c : tie.Then1 Inv-loop μ-loop) where
       omega (
         arith,
         turn .inv .2 _ (e .pre .0 .0 .accepted) (e .pre .0 .0 .same) .1 (turn .line .start),
-        starts-most (lineStart (settingsOf (e .pre .0 .0 .shape)) (e .pre .0 .0 .shape .rows)) (turn .line .start)
+        starts-most (lineStart (tableOf (e .pre .0 .0 .shape)) (e .pre .0 .0 .shape .rows)) (turn .line .start)
             (turn .l),
         lines-most _ (e .pre .0 .0 .accepted) _ (e .pre .0 .0 .same),
       )
@@ -99,7 +98,7 @@ returns c =
     let turn = c .before .before .loop in
     let e = c .before .before .before .before in
     let n : turn .l ≡ e .args .pass .lines = omega arith in
-    λ s accepted same a. turn .inv .2 s accepted same .1 a ∙ ap (startsAt (lineStart (settingsOf s) (s .rows)) a) n
+    λ s accepted same a. turn .inv .2 s accepted same .1 a ∙ ap (startsAt (lineStart (tableOf s) (s .rows)) a) n
 
 pub count-starts-spec : {M : Type 1} → statement M
 count-starts-spec =

@@ -9,7 +9,8 @@ use Rattle.lattice.proofs.theory.Answers.{some-number, told, told-none}
 use Rattle.passes.proofs.check_cells.Lines.{listed-all}
 use Rattle.lattice.proofs.theory.LineCounts.{zeros-at}
 use Rattle.lattice.proofs.theory.NextLine.{pass-accepted}
-use Rattle.lattice.proofs.theory.PassRoom.{pass-some, pass-most, pass-narrow}
+use Rattle.lattice.proofs.theory.PassRoom.{pass-narrow}
+use Rattle.lattice.proofs.theory.SizesByLines.{period-least, period-most}
 use Rattle.passes.proofs.check_cells.check_cells.Statement.{statement}
 use Rattle.passes.proofs.check_cells.check_cells.Tie as tie
 
@@ -46,7 +47,7 @@ fill-gains-requires : tie.Need-fill-gains-requires
 fill-gains-requires c κs =
     let ok = accepted (c .before .before) in
     let same = own (c .before) in
-    let most = pass-most _ ok _ same in (pass-some _ ok _ same, most, omega (arith, most), pass-narrow _ ok _ same)
+    let most = period-most _ ok _ same in (period-least _ ok _ same, most, omega (arith, most), pass-narrow _ ok _ same)
 
 slice-aggregate-list-lines : tie.Need-slice-aggregate-list-lines
 slice-aggregate-list-lines c = search needs
@@ -57,7 +58,7 @@ list-lines-requires c κs =
     let same = own (c .before .before .before .before .before .before .before) in
     let filled = c .before .before .before .before .before .fill-gains in (
       (record { shape = _; accepted = ok; same = same }, zeros-at maxClasses),
-      (omega (arith, pass-most _ ok _ same, filled .kept .0), filled .ensures),
+      (omega (arith, period-most _ ok _ same, filled .kept .0), filled .ensures),
     )
 
 returns-2 : tie.Need-returns-2

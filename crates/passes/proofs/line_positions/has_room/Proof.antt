@@ -7,24 +7,24 @@ use borrow.Author.Tests.{le-leb, leb-true}
 use Rattle.lattice.specs.Range.{inRange}
 use Rattle.lattice.proofs.theory.Bools.{failed, passed}
 use Rattle.lattice.proofs.theory.Limits.{range-low, range-high}
-use Rattle.lattice.proofs.theory.PassRoom.{refuted, pass-most, pass-narrow, pass-row, pass-plane, room-first, room-row}
-use Rattle.lattice.proofs.theory.PassRoom.{room-plane}
+use Rattle.lattice.proofs.theory.PassRoom.{refuted, pass-narrow, pass-row, pass-plane, room-first, room-row, room-plane}
+use Rattle.lattice.proofs.theory.SizesByLines.{period-most}
 use Rattle.passes.proofs.line_positions.has_room.Statement.{statement}
 use Rattle.passes.proofs.line_positions.has_room.Tie as tie
 
 first : (c : tie.Else1)
     → let a = c .before .before .args in
-    inRange 1 (a .e) (a .pass .classes) ≡ true
+    inRange 1 (a .e) (a .pass .period) ≡ true
 first c = passed _ _ (c .if1 .left) (c .before .within .ensures)
 
 row : (c : tie.Else2)
     → let a = c .before .before .before .before .args in
-    inRange (a .pass .classes) 4096 (a .p) ≡ true
+    inRange (a .pass .period) 4096 (a .p) ≡ true
 row c = passed _ _ (c .if2 .left) (c .before .within2 .ensures)
 
 plane : (c : tie.Else3)
     → let a = c .before .before .before .before .before .before .args in
-    inRange (a .pass .classes) 4096 (a .q) ≡ true
+    inRange (a .pass .period) 4096 (a .q) ≡ true
 plane c = passed _ _ (c .if3 .left) (c .before .within3 .ensures)
 
 within-requires : tie.Need-within-requires
@@ -72,7 +72,7 @@ returns-5 c = (
 returns-6 : tie.Need-returns-6
 returns-6 c = (
   (λ t. absurd (false≢true t)),
-  (λ s a same room. absurd (omega (arith, pass-row s a _ same, pass-most s a _ same))),
+  (λ s a same room. absurd (omega (arith, pass-row s a _ same, period-most s a _ same))),
 )
 
 returns-7 : tie.Need-returns-7
@@ -84,17 +84,17 @@ returns-7 c =
       (λ t.
           let small = leb-true (x .pass .plane) 4096 t in
           record {
-            some = range-low 1 (x .e) (x .pass .classes) f;
-            long = range-high 1 (x .e) (x .pass .classes) f;
+            some = range-low 1 (x .e) (x .pass .period) f;
+            long = range-high 1 (x .e) (x .pass .period) f;
             short = omega arith;
-            row-long = range-low (x .pass .classes) 4096 (x .p) r;
-            row-short = range-high (x .pass .classes) 4096 (x .p) r;
-            plane-long = range-low (x .pass .classes) 4096 (x .q) p;
-            plane-short = range-high (x .pass .classes) 4096 (x .q) p;
+            row-long = range-low (x .pass .period) 4096 (x .p) r;
+            row-short = range-high (x .pass .period) 4096 (x .p) r;
+            plane-long = range-low (x .pass .period) 4096 (x .q) p;
+            plane-short = range-high (x .pass .period) 4096 (x .q) p;
             row = omega arith;
             plane = omega (arith, small);
           }),
-      (λ s a same room. le-leb (x .pass .plane) 4096 (omega (arith, pass-plane s a _ same, pass-most s a _ same))),
+      (λ s a same room. le-leb (x .pass .plane) 4096 (omega (arith, pass-plane s a _ same, period-most s a _ same))),
     )
 
 pub has-room-spec : {M : Type 1} → statement M

@@ -22,7 +22,7 @@ returns c =
     let call = c .before .before .step in
     let line = c .before .before .before .before .before .before .next-line in
     λ s a same two ready l inside at.
-    row-step s a _ same two l inside _ _ (e .args .e .now) (call .last .0) at (line .ensures s a same l (at .line))
+    row-step s a _ same two l inside _ _ (e .args .e .now) (call .last .0) at (line .ensures s a same _ (at .line))
     (call .kept .0)
     (e .args .p .now) (e .args .q .now) ready (c .before .before .before .before .if1 .taken) (call .ensures)
 
@@ -35,7 +35,7 @@ returns-2 c =
     let call = c .before .before .step2 in
     let line = c .before .before .before .before .before .before .next-line in
     λ s a same two ready l inside at.
-    plane-step s a _ same two l inside _ _ (e .args .e .now) (call .last .0) at (line .ensures s a same l (at .line))
+    plane-step s a _ same two l inside _ _ (e .args .e .now) (call .last .0) at (line .ensures s a same _ (at .line))
     (call .kept .0)
     (e .args .p .now) (e .args .q .now) ready (c .before .before .before .before .if1 .left) (call .ensures)
 

@@ -25,21 +25,21 @@ returns c =
 enum-told : tie.Need-enum-told
 enum-told c = search needs
 
-cast-t4 : tie.Need-cast-t4
-cast-t4 c = fits-below tt (legal _ (accepted (c .before)) .width-high)
-
 cast-t5 : tie.Need-cast-t5
-cast-t5 c = fits-below tt (legal _ (accepted (c .before .before)) .height-high)
+cast-t5 c = fits-below tt (legal _ (accepted (c .before .before)) .width-high)
 
 cast-t6 : tie.Need-cast-t6
-cast-t6 c = fits-below tt (legal _ (accepted (c .before .before .before)) .planes-high)
+cast-t6 c = fits-below tt (legal _ (accepted (c .before .before .before)) .height-high)
 
 cast-t7 : tie.Need-cast-t7
-cast-t7 c = fits-below tt (strength-most _ (accepted (c .before .before .before .before)))
+cast-t7 c = fits-below tt (legal _ (accepted (c .before .before .before .before)) .planes-high)
+
+cast-t8 : tie.Need-cast-t8
+cast-t8 c = fits-below tt (strength-most _ (accepted (c .before .before .before .before .before)))
 
 returns-2 : tie.Need-returns-2
 returns-2 c =
-    let a = accepted (c .before .before .before .before) in
+    let a = accepted (c .before .before .before .before .before) in
     (record { number = sym a; shape = done _ _ _ _ a refl }, ((refl, refl, refl), (refl, refl, refl)))
 
 pub new-spec : {M : Type 1} → statement M
@@ -50,8 +50,8 @@ new-spec =
     enum-known-tested
     returns
     enum-told
-    cast-t4
     cast-t5
     cast-t6
     cast-t7
+    cast-t8
     returns-2)
