@@ -2,4 +2,5 @@
 pub mod Coding
 mod Stack
 pub mod Erased
+pub mod Windows
 mod Codes

@@ -1,4 +1,5 @@
 -- What taking the syndromes uses alone.
 mod LineTaken
 mod LinesTaken
+mod SlicesTaken
 mod OneClass

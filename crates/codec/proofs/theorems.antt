@@ -7,6 +7,7 @@ pub mod Writing
 pub mod Reading
 pub mod Recovery
 pub mod Erasures
+pub mod Windows
 pub mod Undamaged
 mod Told
 pub mod Bound

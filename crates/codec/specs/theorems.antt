@@ -7,6 +7,7 @@ pub mod Writing
 pub mod Reading
 pub mod Recovery
 pub mod Erasures
+pub mod Windows
 pub mod Undamaged
 pub mod Told
 pub mod Bound

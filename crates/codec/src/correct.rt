@@ -23,7 +23,7 @@ use lattice::refusal::Tested;
 use lattice::shape::Shape;
 use passes::cell_places::NO_CELL;
 
-// The number of cells changed, or the refusal 1, 2, 4, 5, 10, 6 or 7.
+// The number of cells changed, or the refusal 1, 2, 11, 4, 5, 10, 6 or 7.
 pub enum CorrectAnswer {
     Corrected(usize),
     Refused(Refusal),
@@ -111,8 +111,8 @@ fn store_corrected(
     count_changed(shape, erased, damaged)
 }
 
-// The tests of correcting in their order, 1, 2, 4, 5, 10, 6, 7; where they pass, the arrays say which cells are flipped. At entry
-// no cell is named as first or second.
+// The tests of correcting in their order, 1, 2, 11, 4, 5, 10, 6, 7; where they pass, the arrays say which cells are flipped.
+// At entry no cell is named as first or second.
 fn correct_tests(
     shape: Shape,
     field: &[u8],
@@ -138,7 +138,7 @@ fn correct_tests(
     examine(shape, field, &sizes, damaged, first, second)
 }
 
-// Stores the corrected field and gives the number of cells changed, or gives the refusal 1, 2, 4, 5, 10, 6 or 7.
+// Stores the corrected field and gives the number of cells changed, or gives the refusal 1, 2, 11, 4, 5, 10, 6 or 7.
 pub fn correct(shape: Shape, field: &mut [u8]) -> CorrectAnswer
     ensures { λ r. ⌜ IsCorrected shape (now (field .entry)) (now (field .exit)) r ⌝ }
 {

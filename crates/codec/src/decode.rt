@@ -26,7 +26,7 @@ use passes::cell_places::NO_CELL;
 use passes::check_cells::MAX_CHECKS;
 use passes::check_cells::check_cells;
 
-// The number of cells changed, or the refusal 1, 2, 3, 4, 5, 10, 6 or 7.
+// The number of cells changed, or the refusal 1, 2, 11, 3, 4, 5, 10, 6 or 7.
 pub enum DecodeAnswer {
     Decoded(usize),
     Refused(Refusal),
@@ -128,8 +128,8 @@ fn store_payload(
     );
 }
 
-// The tests of decoding in their order, 1, 2, 3, 4, 5, 10, 6, 7; where they pass, the arrays hold the size of each class and say
-// which cells are flipped. At entry no cell is named as first or second.
+// The tests of decoding in their order, 1, 2, 11, 3, 4, 5, 10, 6, 7; where they pass, the arrays hold the size of each class
+// and say which cells are flipped. At entry no cell is named as first or second.
 fn decode_tests(
     shape: Shape,
     payload: &[u8],
@@ -153,7 +153,7 @@ fn decode_tests(
     examine(shape, field, sizes, damaged, first, second)
 }
 
-// Stores the payload and gives the number of cells changed, or gives the refusal 1, 2, 3, 4, 5, 10, 6 or 7.
+// Stores the payload and gives the number of cells changed, or gives the refusal 1, 2, 11, 3, 4, 5, 10, 6 or 7.
 pub fn decode(shape: Shape, payload: &mut [u8], field: &[u8]) -> DecodeAnswer
     ensures { λ r. ⌜ IsDecoded shape (now (payload .entry)) (now (field .entry)) (now (payload .exit)) r ⌝ }
 {

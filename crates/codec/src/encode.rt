@@ -21,7 +21,7 @@ use lattice::shape::Shape;
 use passes::check_cells::MAX_CHECKS;
 use passes::check_cells::check_cells;
 
-// Done, or the refusal 1, 2, 3 or 4.
+// Done, or the refusal 1, 2, 11, 3 or 4.
 pub enum EncodeAnswer {
     Encoded,
     Refused(Refusal),
@@ -93,7 +93,7 @@ fn write_field(shape: Shape, payload: &[u8], sizes: &[u32; Shape::MAX_CLASSES], 
     set_checks(amount, &checks, &places, &syndromes, field);
 }
 
-// Writes the field of a payload, or gives the refusal 1, 2, 3 or 4.
+// Writes the field of a payload, or gives the refusal 1, 2, 11, 3 or 4.
 pub fn encode(shape: Shape, payload: &[u8], field: &mut [u8]) -> EncodeAnswer
     ensures { λ r. ⌜ IsEncoded shape (now (payload .entry)) (now (field .entry)) (now (field .exit)) r ⌝ }
 {

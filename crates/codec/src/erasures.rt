@@ -5,7 +5,7 @@ ghost use mathlib.Core.Path.{_≡_};
 ghost use Prim.Native.Nat.{ℕ, _+_, _<_, _≤_};
 ghost use lib.ListN.{getD, length};
 ghost use Rattle.lattice.specs.Shape.{maxCells, maxClasses, Accepted, cellsOf};
-ghost use Rattle.lattice.specs.Class.{placementOf, layoutOf};
+ghost use Rattle.lattice.specs.Class.{placementGiven, layoutOf};
 ghost use Rattle.lattice.specs.Position.{Layout};
 ghost use Rattle.lattice.specs.Counting.{count};
 ghost use Rattle.codec.specs.Field.{Field, fieldOf, erased, having, Received};
@@ -72,7 +72,7 @@ fn list_cell(
     value: u8,
     cell: u32,
 ) -> bool
-    requires { ⌜ Accepted shape × (placement ≡ placementOf shape) × (cell < cellsOf shape) ⌝ }
+    requires { ⌜ Accepted shape × (placement ≡ placementGiven shape) × (cell < cellsOf shape) ⌝ }
     ensures { λ r. ⌜ ((f : Field)
         → f cell ≡ value
         → ListsErasures (layoutOf shape) f cell (now (first .entry)) (now (second .entry))

@@ -13,7 +13,7 @@ pub struct FieldPlan {
     pub cells: usize,
 }
 
-// The plan, or the refusal 1 or 2.
+// The plan, or the refusal 1, 2 or 11.
 pub enum PlanAnswer {
     Planned(FieldPlan),
     Refused(Refusal),
@@ -46,7 +46,7 @@ impl PlanAnswer {
     }
 }
 
-// The figures of a field, or the refusal 1 or 2.
+// The figures of a field, or the refusal 1, 2 or 11.
 pub fn plan(shape: Shape) -> PlanAnswer
     ensures { λ r. ⌜ IsPlan shape r ⌝ }
 {

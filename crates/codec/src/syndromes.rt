@@ -1,16 +1,17 @@
 // The syndromes of the classes of a field, line by line. The cells of one value are its 1 cells.
+ghost use mathlib.Core.Logic.{_⊎_};
 ghost use mathlib.Core.Path.{_≡_};
 ghost use Prim.Native.Nat.{ℕ, _+_, _*_, _<_, _≤_};
 ghost use lib.ListN.{length, getD};
 ghost use Rattle.lattice.specs.declared.shape.Shape.{Shape};
 ghost use Rattle.lattice.specs.Shape.{maxCells, maxClasses, Accepted, cellsOf};
-ghost use Rattle.lattice.specs.Class.{classesOf, layoutOf};
+ghost use Rattle.lattice.specs.Class.{layoutOf};
 ghost use Rattle.lattice.specs.Position.{Layout};
 ghost use Rattle.lattice.specs.Lines.{passOf, OfShape, Room, AtLine, Ready};
 ghost use Rattle.lattice.specs.Sizes.{HoldsZeros};
 ghost use Rattle.codec.specs.Field.{fieldOf, having};
 ghost use Rattle.codec.specs.Working.{HoldsSyndromes};
-ghost use Rattle.codec.specs.Lines.{LineTaken, Taken, folded};
+ghost use Rattle.codec.specs.Lines.{LineTaken, Taken, SliceTaken, folded};
 use lattice::line::Line;
 use lattice::line::Pass;
 use lattice::line::next_place;
@@ -46,9 +47,10 @@ fn take_line(t: &mut [u16], e: &[u16], field: &[u8], value: u8, start: usize, n:
     }
 }
 
-// Takes in every line, from the first. At entry t is 0.
+// Takes in every line of slice j, from its first. At entry t is 0.
 fn take_lines(
     pass: Pass,
+    j: usize,
     first: Line,
     field: &[u8],
     value: u8,
@@ -57,47 +59,58 @@ fn take_lines(
     q: &[u16],
     t: &mut [u16],
 )
-    requires { ⌜ OfShape pass × (2 ≤ pass .classes) × (length (now field) ≡ pass .cells) × (length (now t) ≡ length (now e)) ⌝ }
+    requires { ⌜ OfShape pass × (2 ≤ pass .classes) × (j < pass .slices) × (j < pass .lines) ⌝ }
+    requires { ⌜ (length (now field) ≡ pass .cells) × (length (now t) ≡ length (now e)) ⌝ }
     requires { ⌜ Ready pass (length (now e)) (now p) (now q) ⌝ }
-    requires { ⌜ ((s : Shape) → Accepted s → pass ≡ passOf s → AtLine s 0 first (now e)) ⌝ }
+    requires { ⌜ ((s : Shape) → Accepted s → pass ≡ passOf s → AtLine s j first (now e)) ⌝ }
     requires { ⌜ ((y : ℕ) → getD (now t) y 0 ≡ 0) ⌝ }
     ensures { λ _. ⌜ ((s : Shape)
         → Accepted s
         → pass ≡ passOf s
-        → Taken (layoutOf s) (classesOf s) (having value (fieldOf (now (field .entry)))) (now (t .exit)) (cellsOf s)) ⌝ }
+        → Taken (layoutOf s) (pass .period) (j * pass .period) (having value (fieldOf (now (field .entry))))
+        (now (t .exit)) (cellsOf s)) ⌝ }
 {
     let mut line = first;
-    let mut n = 0;
-    let mut l = 0;
+    let mut l = j;
     while l < pass.lines {
-        take_line(t, e, field, value, line.start, n, pass.columns);
+        take_line(
+            t,
+            e,
+            field,
+            value,
+            line.start,
+            l * pass.columns,
+            pass.columns,
+        );
         line = next_positions(pass, line, e, p, q);
-        n += pass.columns;
-        l += 1;
+        l += pass.slices;
     }
 }
 
-// The exclusive or of the entries of each remainder; the array is 0 at entry.
-fn fold(t: &[u16], m: usize, syndromes: &mut [u32])
-    requires { ⌜ (0 < m) × (m ≤ maxClasses) × (m ≤ length (now syndromes)) ⌝ }
-    requires { ⌜ ((a : ℕ) → a < m → getD (now syndromes) a 0 ≡ 0) ⌝ }
+// The exclusive or of the entries of each remainder, from the entry `first` on; these are 0 at entry.
+fn fold(t: &[u16], m: usize, first: usize, syndromes: &mut [u32])
+    requires { ⌜ (0 < m) × (m ≤ maxClasses) × (first + m ≤ length (now syndromes)) ⌝ }
+    requires { ⌜ ((a : ℕ) → a < m → getD (now syndromes) (first + a) 0 ≡ 0) ⌝ }
     ensures { λ _. ⌜ ((a : ℕ)
         → a < m
-        → getD (now (syndromes .exit)) a 0 ≡ folded m a (length (now (t .entry))) (now (t .entry))) ⌝ }
-    ensures { λ _. ⌜ ((a : ℕ) → m ≤ a → getD (now (syndromes .exit)) a 0 ≡ getD (now (syndromes .entry)) a 0) ⌝ }
+        → getD (now (syndromes .exit)) (first + a) 0 ≡ folded m a (length (now (t .entry))) (now (t .entry))) ⌝ }
+    ensures { λ _. ⌜ ((a : ℕ)
+        → (a < first) ⊎ (first + m ≤ a)
+        → getD (now (syndromes .exit)) a 0 ≡ getD (now (syndromes .entry)) a 0) ⌝ }
 {
     let mut a = 0;
     let mut y = 0;
     while y < t.len() {
-        syndromes[a] = syndromes[a] ^ t[y] as u32;
+        syndromes[first + a] = syndromes[first + a] ^ t[y] as u32;
         a = next_place(a, m);
         y += 1;
     }
 }
 
-// The syndromes of two classes or more, by lists that are as long as the pass needs; the array and t are 0 at entry.
+// The syndromes of the classes of slice j, by lists that are as long as the pass needs; they and t are 0 at entry.
 fn listed_syndromes(
     pass: Pass,
+    j: usize,
     field: &[u8],
     value: u8,
     e: &mut [u16],
@@ -106,43 +119,36 @@ fn listed_syndromes(
     t: &mut [u16],
     syndromes: &mut [u32],
 )
-    requires { ⌜ OfShape pass
-        × (2 ≤ pass .classes)
-        × (length (now field) ≡ pass .cells)
-        × (maxClasses ≤ length (now syndromes)) ⌝ }
-    requires { ⌜ HoldsZeros (now syndromes) ⌝ }
+    requires { ⌜ OfShape pass × (2 ≤ pass .classes) × (j < pass .slices) × (j < pass .lines) ⌝ }
+    requires { ⌜ (length (now field) ≡ pass .cells) × (maxClasses ≤ length (now syndromes)) ⌝ }
+    requires { ⌜ ((a : ℕ) → a < pass .period → getD (now syndromes) (j * pass .period + a) 0 ≡ 0) ⌝ }
     requires { ⌜ Room pass (length (now e)) (length (now p)) (length (now q)) × (length (now t) ≡ length (now e)) ⌝ }
     requires { ⌜ ((y : ℕ) → getD (now t) y 0 ≡ 0) ⌝ }
-    ensures { λ _. ⌜ ((s : Shape)
-        → Accepted s
-        → pass ≡ passOf s
-        → HoldsSyndromes (layoutOf s) (having value (fieldOf (now (field .entry)))) (now (syndromes .exit)) (cellsOf s)) ⌝ }
+    ensures { λ _. ⌜ SliceTaken pass j (having value (fieldOf (now (field .entry)))) (now (syndromes .entry))
+        (now (syndromes .exit)) ⌝ }
 {
     let first = first_line(pass, e, p, q);
-    take_lines(pass, first, field, value, e, p, q, t);
-    fold(t, pass.classes, syndromes);
+    take_lines(pass, j, first, field, value, e, p, q, t);
+    fold(t, pass.period, j * pass.period, syndromes);
 }
 
-// The syndromes of two classes or more; the array is 0 at entry.
-fn line_syndromes(pass: Pass, field: &[u8], value: u8, syndromes: &mut [u32])
-    requires { ⌜ OfShape pass
-        × (2 ≤ pass .classes)
-        × (length (now field) ≡ pass .cells)
-        × (maxClasses ≤ length (now syndromes)) ⌝ }
-    requires { ⌜ HoldsZeros (now syndromes) ⌝ }
-    ensures { λ _. ⌜ ((s : Shape)
-        → Accepted s
-        → pass ≡ passOf s
-        → HoldsSyndromes (layoutOf s) (having value (fieldOf (now (field .entry)))) (now (syndromes .exit)) (cellsOf s)) ⌝ }
+// The syndromes of the classes of slice j, where there are two classes or more; they are 0 at entry.
+fn slice_syndromes(pass: Pass, j: usize, field: &[u8], value: u8, syndromes: &mut [u32])
+    requires { ⌜ OfShape pass × (2 ≤ pass .classes) × (j < pass .slices) × (j < pass .lines) ⌝ }
+    requires { ⌜ (length (now field) ≡ pass .cells) × (maxClasses ≤ length (now syndromes)) ⌝ }
+    requires { ⌜ ((a : ℕ) → a < pass .period → getD (now syndromes) (j * pass .period + a) 0 ≡ 0) ⌝ }
+    ensures { λ _. ⌜ SliceTaken pass j (having value (fieldOf (now (field .entry)))) (now (syndromes .entry))
+        (now (syndromes .exit)) ⌝ }
 {
-    let wide = pass.classes + pass.columns;
-    let long = wide + pass.classes;
+    let wide = pass.period + pass.columns;
+    let long = wide + pass.period;
     let mut e = [0u16; 768];
     let mut p = [0u16; 1280];
     let mut q = [0u16; 1280];
     let mut t = [0u16; 768];
     listed_syndromes(
         pass,
+        j,
         field,
         value,
         &mut e[..wide],
@@ -151,6 +157,25 @@ fn line_syndromes(pass: Pass, field: &[u8], value: u8, syndromes: &mut [u32])
         &mut t[..wide],
         syndromes,
     );
+}
+
+// The syndromes of two classes or more, slice by slice; the array is 0 at entry. Slices beyond the last line have no cell.
+fn line_syndromes(pass: Pass, field: &[u8], value: u8, syndromes: &mut [u32])
+    requires { ⌜ OfShape pass × (2 ≤ pass .classes) ⌝ }
+    requires { ⌜ (length (now field) ≡ pass .cells) × (maxClasses ≤ length (now syndromes)) ⌝ }
+    requires { ⌜ HoldsZeros (now syndromes) ⌝ }
+    ensures { λ _. ⌜ ((s : Shape)
+        → Accepted s
+        → pass ≡ passOf s
+        → HoldsSyndromes (layoutOf s) (having value (fieldOf (now (field .entry)))) (now (syndromes .exit)) (cellsOf s)) ⌝ }
+{
+    let mut j = 0;
+    while j < pass.slices {
+        if j < pass.lines {
+            slice_syndromes(pass, j, field, value, syndromes);
+        }
+        j += 1;
+    }
 }
 
 // The syndrome of the one class of n cells, where the position of cell i is i + 1; the array is 0 at entry.

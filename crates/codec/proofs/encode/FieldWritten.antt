@@ -10,7 +10,8 @@ use Rattle.lattice.specs.Shape.{maxClasses, Accepted, cellsOf}
 use Rattle.lattice.specs.Class.{layoutOf}
 use Rattle.lattice.specs.Listing.{maxChecks, ListsChecks, HoldsPlaces}
 use Rattle.lattice.specs.Sizes.{HoldsSizes}
-use Rattle.lattice.proofs.theory.ClassBelow.{classes-limit, class-below}
+use Rattle.lattice.proofs.theory.ClassBelow.{class-below}
+use Rattle.lattice.proofs.theory.Placements.{classes-limit}
 use Rattle.lattice.proofs.theory.Limits.{legal}
 use Rattle.codec.specs.Field.{fieldOf, Same}
 use Rattle.codec.specs.Hamming.{tagsOf}

@@ -17,7 +17,7 @@ use Rattle.lattice.specs.Position.{Layout}
 use Rattle.lattice.specs.Listing.{noCell}
 use Rattle.lattice.specs.Sizes.{EntryStored}
 use Rattle.lattice.proofs.theory.Bools.{and-true, and-false-left, and-false-right, not-true}
-use Rattle.lattice.proofs.theory.ClassBelow.{classes-limit}
+use Rattle.lattice.proofs.theory.Placements.{classes-limit}
 use Rattle.lattice.proofs.theory.Counting.{count-yes, count-no, count-mono}
 use Rattle.codec.specs.Field.{Field, Cells, erased}
 use Rattle.codec.specs.Erasure.{erasuresTo, erasures, fewErasures}

@@ -9,7 +9,7 @@ use Rattle.lattice.specs.declared.shape.Shape.{Shape}
 use Rattle.lattice.specs.Shape.{Accepted, cellsOf}
 use Rattle.lattice.specs.Class.{classesOf, layoutOf}
 use Rattle.lattice.specs.Counting.{allBelow}
-use Rattle.lattice.proofs.theory.ClassBelow.{classes-limit}
+use Rattle.lattice.proofs.theory.Placements.{classes-limit}
 use Rattle.codec.specs.Field.{fieldOf, having}
 use Rattle.codec.specs.Erasure.{inReach, allInReach}
 use Rattle.codec.specs.Working.{HoldsSyndromes, reachedBy, Located}

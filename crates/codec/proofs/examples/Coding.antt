@@ -9,7 +9,7 @@ use native.Mathlib.Omega.{arith}
 use borrow.Author.Tests.{eqb-true}
 use lib.Dec.{eqb, lit<}
 use lib.ListN.{length}
-use Rattle.lattice.specs.Shape.{maxStrength, sizeOk, strengthOk, shapeNumber, Accepted}
+use Rattle.lattice.specs.Shape.{noWindow, isNone, maxStrength, sizeOk, strengthOk, windowOk, shapeNumber, Accepted}
 use Rattle.lattice.specs.Range.{inRange}
 use Rattle.lattice.specs.Settings.{oddSettings, flatSettings, settingsFor}
 use Rattle.lattice.specs.Cell.{Cell, cellAt}
@@ -40,7 +40,7 @@ use Rattle.codec.proofs.theorems.Writing.{encodeMeaning}
 
 -- the plan accepts the field
 pub accepted : Accepted field
-unfolding shapeNumber sizeOk strengthOk maxStrength inRange
+unfolding shapeNumber sizeOk strengthOk windowOk isNone maxStrength inRange
 accepted = refl
 
 -- a payload of the plan's length
@@ -49,7 +49,7 @@ payload = 165 ∷ []
 
 pub payload-long : length payload ≡ planBytes field
 unfolding
-    planBytes planCapacity shapeNumber sizeOk strengthOk maxStrength inRange
+    planBytes planCapacity shapeNumber sizeOk strengthOk windowOk isNone maxStrength inRange
     capacity holdsData sizeTo position isPower isCheck cellAt classOf classWith minusMod settingsFor flatSettings oddSettings
 payload-long = refl
 
@@ -127,25 +127,25 @@ unfolding sizeTo position tagsOf
 both-above = lit< tt
 
 -- a shape of 257 columns is refused
-pub plan-refused : planNumber (record { columns = 257; rows = 1; planes = 1; strength = 1 }) ≢ 0
-unfolding shapeNumber sizeOk strengthOk maxStrength inRange
+pub plan-refused : planNumber (record { columns = 257; rows = 1; planes = 1; strength = 1; window = noWindow }) ≢ 0
+unfolding shapeNumber sizeOk strengthOk windowOk isNone maxStrength inRange
 plan-refused e = omega (arith, e)
 
 -- an empty payload and an empty field are refused
 pub encode-refused : encodeNumber field [] [] ≢ 0
 unfolding
-    encodeNumber planBytes planCapacity planCells shapeNumber sizeOk strengthOk maxStrength inRange
+    encodeNumber planBytes planCapacity planCells shapeNumber sizeOk strengthOk windowOk isNone maxStrength inRange
     capacity holdsData sizeTo position isPower isCheck cellAt classOf classWith minusMod settingsFor flatSettings oddSettings
 encode-refused e = omega (arith, e)
 
 pub decode-refused : decodeNumber field [] [] ≢ 0
 unfolding
-    decodeNumber planBytes planCapacity planCells shapeNumber sizeOk strengthOk maxStrength inRange
+    decodeNumber planBytes planCapacity planCells shapeNumber sizeOk strengthOk windowOk isNone maxStrength inRange
     capacity holdsData sizeTo position isPower isCheck cellAt classOf classWith minusMod settingsFor flatSettings oddSettings
 decode-refused e = omega (arith, e)
 
 pub correct-refused : correctNumber field [] ≢ 0
-unfolding correctNumber planCells shapeNumber sizeOk strengthOk maxStrength inRange
+unfolding correctNumber planCells shapeNumber sizeOk strengthOk windowOk isNone maxStrength inRange
 correct-refused e = omega (arith, e)
 
 -- a blank field with two cells flipped that are eight apart, in opposite corners: correcting flips both
@@ -156,7 +156,8 @@ corners =
 pub corners-beyond : ¬ WithinPromise field corners (correctLeaves field corners)
 unfolding
     correctLeaves correctNumber fieldNumber cellsOk isCell isReceived fewErasures allInReach inReach tagsOf corrected flipped
-    filled erasuresTo paddingOk padding payloadBytes rank planCells shapeNumber sizeOk strengthOk maxStrength inRange capacity
+    filled erasuresTo paddingOk padding payloadBytes rank planCells shapeNumber sizeOk strengthOk windowOk isNone
+    maxStrength inRange capacity
     holdsData sizeTo position isPower isCheck cellAt classesOf classOf classWith minusMod settingsFor flatSettings oddSettings
     distance apart
 corners-beyond told =

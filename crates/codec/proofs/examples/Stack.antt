@@ -8,7 +8,7 @@ use mathlib.Core.Path.{_≡_, refl, sym}
 use lib.Dec.{lit<}
 use lib.ListN.{length}
 use Rattle.lattice.specs.Range.{inRange}
-use Rattle.lattice.specs.Shape.{maxStrength, sizeOk, strengthOk, shapeNumber}
+use Rattle.lattice.specs.Shape.{isNone, maxStrength, sizeOk, strengthOk, windowOk, shapeNumber}
 use Rattle.lattice.specs.Cell.{Cell, cell}
 use Rattle.lattice.proofs.theory.Bools.{or-cases}
 use Rattle.lattice.proofs.examples.Stack.{stack-accepted, OfHole, hole-cluster, hole-few}
@@ -60,7 +60,7 @@ hole-recovered =
 
 -- a class of five cells with no codeword in reach: reading gives 6
 pub none-readable : Readable (strip 5) (0 ∷ 0 ∷ 1 ∷ 0 ∷ 1 ∷ [])
-unfolding shapeNumber sizeOk strengthOk maxStrength inRange isCell
+unfolding shapeNumber sizeOk strengthOk windowOk isNone maxStrength inRange isCell
 none-readable =
     cells-readable (strip 5) (0 ∷ 0 ∷ 1 ∷ 0 ∷ 1 ∷ []) refl refl
     (below-all (λ i. isCell (fieldOf (0 ∷ 0 ∷ 1 ∷ 0 ∷ 1 ∷ []) i)) 5 refl)
@@ -72,7 +72,7 @@ none-in-reach =
 
 -- a class of three cells whose padding cell is lost: reading gives 7
 pub wrong-readable : Readable (strip 3) (1 ∷ 1 ∷ 0 ∷ [])
-unfolding shapeNumber sizeOk strengthOk maxStrength inRange isCell
+unfolding shapeNumber sizeOk strengthOk windowOk isNone maxStrength inRange isCell
 wrong-readable =
     cells-readable (strip 3) (1 ∷ 1 ∷ 0 ∷ []) refl refl (below-all (λ i. isCell (fieldOf (1 ∷ 1 ∷ 0 ∷ []) i)) 3 refl)
 

@@ -16,9 +16,10 @@ use borrow.Author.Tests.{eq-eqb, ne-eqb}
 use Rattle.lattice.specs.declared.line.Line.{Line}
 use Rattle.lattice.specs.declared.shape.Shape.{Shape}
 use Rattle.lattice.specs.Shape.{Accepted}
-use Rattle.lattice.specs.Class.{classesOf, layoutOf}
+use Rattle.lattice.specs.Class.{layoutOf}
 use Rattle.lattice.specs.Position.{Layout}
-use Rattle.lattice.specs.Lines.{AtLine}
+use Rattle.lattice.specs.Lines.{tableOf, slicesOf, offsetOf, AtLine}
+use Rattle.lattice.proofs.theory.Among.{same-test}
 use Rattle.lattice.proofs.theory.AtLine.{at-class, at-position}
 use Rattle.codec.specs.Field.{Field, having}
 use Rattle.codec.specs.Hamming.{Tags, tagsOf, term, syndromeTo}
@@ -138,35 +139,49 @@ module _ (f : Field) (start n w : ℕ) (e before after : List ℕ) (taken : Line
 
 -- Theorem. A line of an accepted shape is taken in.
 module _ (s : Shape) (ok : Accepted s) (l : ℕ) (line : Line) (e : List ℕ) (at : AtLine s l line e)
+    (inside : l < s .rows * s .planes) (j : ℕ) (slice : l % slicesOf s ≡ j)
     (f : Field) (before after : List ℕ) (taken : LineTaken f (line .start) (l * s .columns) (s .columns) e before after)
     (room : line .start + s .columns ≤ length before)
     (long : length after ≡ length before) (cells : (x : ℕ) → x < s .columns → f (l * s .columns + x) ≤ 1) where
-  same : (a x : ℕ) → x < s .columns → term (layoutOf s) (tagsOf (layoutOf s)) f a (l * s .columns + x)
-      ≡ added f (line .start) (l * s .columns) (s .columns) e before after taken (classesOf s) a x
-  same a x q =
-      ap₂
-      (λ (c v : ℕ). cond (eqb c a && eqb (f (l * s .columns + x)) 1) v 0)
-      (at-class s ok l line e at x q)
-      (tag-position (layoutOf s) (l * s .columns + x) ∙ at-position s ok l line e at x q)
-      ∙ sym (chosen (eqb ((line .start + x) % classesOf s) a) (f (l * s .columns + x)) (getD e (line .start + x) 0) (cells x q))
+  -- a place has the class of its remainder and the slice
+  place : (y a : ℕ) → eqb (y + offsetOf s l) (j * tableOf s .m + a) ≡ eqb y a
+  place y a =
+      same-test (y + offsetOf s l) (j * tableOf s .m + a) y a
+      (λ (p : y + offsetOf s l ≡ j * tableOf s .m + a). omega (arith, own))
+      (λ (p : y ≡ a). omega (arith, own))
+    where
+      own : offsetOf s l ≡ j * tableOf s .m
+      own = ap (λ (n : ℕ). n * tableOf s .m) slice
 
-  pub line-taken : Taken (layoutOf s) (classesOf s) f before (l * s .columns)
-      → Taken (layoutOf s) (classesOf s) f after ((l + 1) * s .columns)
+  same : (a x : ℕ) → x < s .columns
+      → term (layoutOf s) (tagsOf (layoutOf s)) f (j * tableOf s .m + a) (l * s .columns + x)
+      ≡ added f (line .start) (l * s .columns) (s .columns) e before after taken (tableOf s .m) a x
+  same a x q =
+      let i = l * s .columns + x in
+      ap₂
+      (λ (c v : ℕ). cond (eqb c (j * tableOf s .m + a) && eqb (f i) 1) v 0)
+      (at-class s ok l line e at inside x q)
+      (tag-position (layoutOf s) i ∙ at-position s ok l line e at inside x q)
+      ∙ ap
+      (λ (b : Bool). cond (b && eqb (f i) 1) (getD e (line .start + x) 0) 0)
+      (place ((line .start + x) % tableOf s .m) a)
+      ∙ sym (chosen (eqb ((line .start + x) % tableOf s .m) a) (f i) (getD e (line .start + x) 0) (cells x q))
+
+  pub line-taken : Taken (layoutOf s) (tableOf s .m) (j * tableOf s .m) f before (l * s .columns)
+      → Taken (layoutOf s) (tableOf s .m) (j * tableOf s .m) f after (l * s .columns + s .columns)
   unfolding Taken
   line-taken p a r =
-      let m = classesOf s in
+      let m = tableOf s .m in
       let start = line .start in
       let wide = length before in
       let rest = wide - (start + s .columns) in
       let far : wide ≡ start + s .columns + rest = omega arith in
-      let more : l * s .columns + s .columns ≡ (l + 1) * s .columns = omega arith in
       let sum = xorBelow (added f start (l * s .columns) (s .columns) e before after taken m a) (s .columns) in
       ap (λ (k : ℕ). folded m a k after) (long ∙ far)
       ∙ fold-line f start (l * s .columns) (s .columns) e before after taken m a rest
       ∙ ap (λ (k : ℕ). bitXor (folded m a k before) sum) (sym far)
       ∙ ap₂ bitXor (p a r) (sym (xor-same _ _ (s .columns) (same a)))
-      ∙ sym (syndrome-from (layoutOf s) (tagsOf (layoutOf s)) f a (l * s .columns) (s .columns))
-      ∙ ap (syndromeTo (layoutOf s) (tagsOf (layoutOf s)) f a) more
+      ∙ sym (syndrome-from (layoutOf s) (tagsOf (layoutOf s)) f (j * m + a) (l * s .columns) (s .columns))
 
 -- one cell more of a line
 pub line-none : (f : Field) (start n : ℕ) (e t : List ℕ) → LineTaken f start n 0 e t t
@@ -201,25 +216,26 @@ pub fold-none : (m a : ℕ) (t : List ℕ) → folded m a 0 t ≡ 0
 unfolding folded
 fold-none m a t = refl
 
-pub fold-more : (m y : ℕ) (t s : List ℕ) (k v : ℕ) → k ≡ y % m → k < length s → v ≡ bitXor (getD s k 0) (getD t y 0)
-    → ((a : ℕ) → a < m → getD s a 0 ≡ folded m a y t) → (a : ℕ) → a < m → getD (set s k v) a 0 ≡ folded m a (y + 1) t
+pub fold-more : (m first y : ℕ) (t s : List ℕ) (k v : ℕ) → k ≡ y % m → first + k < length s
+    → v ≡ bitXor (getD s (first + k) 0) (getD t y 0) → ((a : ℕ) → a < m → getD s (first + a) 0 ≡ folded m a y t)
+    → (a : ℕ) → a < m → getD (set s (first + k) v) (first + a) 0 ≡ folded m a (y + 1) t
 unfolding folded
-fold-more m y t s k v own h q p a l = go (ℕ-discrete a k)
+fold-more m first y t s k v own h q p a l = go (ℕ-discrete a k)
   where
     next : xorBelow (entry m a t) (y + 1) ≡ bitXor (xorBelow (entry m a t) y) (entry m a t y)
     next = ap (xorBelow (entry m a t)) (add-one y)
 
-    go : Dec (a ≡ k) → getD (set s k v) a 0 ≡ xorBelow (entry m a t) (y + 1)
+    go : Dec (a ≡ k) → getD (set s (first + k) v) (first + a) 0 ≡ xorBelow (entry m a t) (y + 1)
     go (yes d) =
-        ap (λ (z : ℕ). getD (set s k v) z 0) d
-        ∙ getD-set-same s k v 0 h
+        ap (λ (z : ℕ). getD (set s (first + k) v) (first + z) 0) d
+        ∙ getD-set-same s (first + k) v 0 h
         ∙ q
-        ∙ ap (λ (z : ℕ). bitXor (getD s z 0) (getD t y 0)) (sym d)
+        ∙ ap (λ (z : ℕ). bitXor (getD s (first + z) 0) (getD t y 0)) (sym d)
         ∙ ap (λ (z : ℕ). bitXor z (getD t y 0)) (p a l)
         ∙ ap (λ (b : Bool). bitXor (xorBelow (entry m a t) y) (cond b (getD t y 0) 0)) (sym (eq-eqb (y % m) a (sym own ∙ sym d)))
         ∙ sym next
     go (no d) =
-        getD-set-other s k a v 0 d
+        getD-set-other s (first + k) (first + a) v 0 (λ (z : first + a ≡ first + k). d (omega arith))
         ∙ p a l
         ∙ sym (xor-zero-r (xorBelow (entry m a t) y))
         ∙ ap (λ (b : Bool). bitXor (xorBelow (entry m a t) y) (cond b (getD t y 0) 0))
@@ -227,9 +243,9 @@ fold-more m y t s k v own h q p a l = go (ℕ-discrete a k)
         ∙ sym next
 
 -- nothing is taken in yet
-pub taken-none : (L : Layout) (m : ℕ) (f : Field) (t : List ℕ) → ((y : ℕ) → getD t y 0 ≡ 0) → Taken L m f t 0
+pub taken-none : (L : Layout) (m first : ℕ) (f : Field) (t : List ℕ) → ((y : ℕ) → getD t y 0 ≡ 0) → Taken L m first f t 0
 unfolding Taken folded
-taken-none L m f t p a l =
+taken-none L m first f t p a l =
     xor-same (entry m a t) (λ y. 0) (length t)
     (λ y r. ap (λ (z : ℕ). cond (eqb (y % m) a) z 0) (p y) ∙ either (eqb (y % m) a))
     ∙ none (length t)

@@ -1,31 +1,35 @@
--- A pass over the lines of an accepted shape, with each line taken into the syndromes.
-use Prim.Native.Nat.{ℕ, _+_, _*_, _<_, _≤_, min}
+-- A pass over the lines of a slice of an accepted shape, with each line taken into the syndromes.
+use Prim.Native.Nat.{ℕ, zero, suc, _+_, _*_, _%_, _<_, _≤_, zero-le, min}
 use mathlib.Core.List.{List}
-use mathlib.Core.Path.{_≡_, sym, ap, subst, _∙_}
+use mathlib.Core.Logic.{_≢_, ⊎-elim}
+use mathlib.Core.Path.{_≡_, sym, ap, _∙_}
 use native.Mathlib.Decide.{decLt}
+use native.Mathlib.Nat.{add-mod-right, mod-eq-of-lt, mul-le-mul, le-refl, eq-or-lt-of-le, le-of-suc-le-suc}
+use native.Mathlib.Numerals.{add-one}
 use native.Mathlib.Omega.{arith}
 use lib.ListN.{length, getD, take, replicate, length-take, length-replicate, List·getD-eq-default}
 use lib.Seq.{getD-take}
 use Rattle.lattice.specs.declared.line.Line.{Line}
 use Rattle.lattice.specs.declared.line.Pass.{Pass}
 use Rattle.lattice.specs.declared.shape.Shape.{Shape}
-use Rattle.lattice.specs.Shape.{maxCells, maxClasses, Accepted, cellsOf}
+use Rattle.lattice.specs.Shape.{maxCells, Accepted, cellsOf}
 use Rattle.lattice.specs.Cell.{cellAt}
-use Rattle.lattice.specs.Class.{classesOf, classAt, layoutOf}
-use Rattle.lattice.specs.Lines.{passOf, Room, AtLine}
+use Rattle.lattice.specs.Class.{classAt, layoutOf}
+use Rattle.lattice.specs.Position.{Layout}
+use Rattle.lattice.specs.Lines.{tableOf, slicesOf, offsetOf, passOf, Room, AtLine}
 use Rattle.lattice.proofs.theory.AtLine.{line-room, at-room}
 use Rattle.lattice.proofs.theory.ClassBelow.{class-below}
 use Rattle.lattice.proofs.theory.Limits.{legal}
 use Rattle.lattice.proofs.theory.LineCounts.{zeros-at}
-use Rattle.lattice.proofs.theory.SizesByLines.{classes-are, columns-are, lines-are, cells-are, most}
+use Rattle.lattice.proofs.theory.Placements.{slices-some}
+use Rattle.lattice.proofs.theory.SizesByLines.{classes-are, slices-are, period-is, columns-are, lines-are, cells-are, period-most}
+use Rattle.lattice.proofs.theory.Slices.{skipped, skipped-last, skipped-first}
 use Rattle.codec.specs.Field.{Field, Cells}
-use Rattle.codec.specs.Hamming.{tagsOf, syndrome}
-use Rattle.lattice.specs.Sizes.{HoldsZeros}
-use Rattle.codec.specs.Working.{HoldsSyndromes}
-use Rattle.codec.specs.Lines.{folded, Taken, LineTaken}
+use Rattle.codec.specs.Hamming.{Tags, tagsOf, syndromeTo}
+use Rattle.codec.specs.Lines.{Taken, LineTaken}
 use Rattle.codec.proofs.theory.CellValues.{cell-most}
-use Rattle.codec.proofs.syndromes.LineTaken.{line-taken}
-use Rattle.codec.proofs.theory.Syndrome.{syndrome-empty}
+use Rattle.codec.proofs.syndromes.LineTaken.{line-taken, taken-none}
+use Rattle.codec.proofs.theory.Syndrome.{syndrome-other}
 
 -- the front of an array of zeros
 module _ (n N : ℕ) where
@@ -40,6 +44,88 @@ module _ (n N : ℕ) where
       go (no l) =
           List·getD-eq-default (take n (replicate N 0)) 0 (omega (arith, length-take n (replicate {A = ℕ} N 0)))
 
+-- where none of the cells from n to k − 1 is of a class, its syndrome stays
+syndrome-still : (L : Layout) (tag : Tags) (f : Field) (a n k : ℕ) → n ≤ k → ((i : ℕ) → n ≤ i → i < k → L .class i ≢ a)
+    → syndromeTo L tag f a k ≡ syndromeTo L tag f a n
+syndrome-still L tag f a n zero l none = let least : 0 ≡ n = omega arith in ap (syndromeTo L tag f a) least
+syndrome-still L tag f a n (suc k) l none =
+    ⊎-elim
+    (λ (e : n ≡ suc k). ap (syndromeTo L tag f a) (sym e))
+    (λ (p : n < suc k).
+    ap (syndromeTo L tag f a) (sym (add-one k))
+    ∙ syndrome-other L tag f a k (λ c. absurd (none k (le-of-suc-le-suc p) (le-refl _) c))
+    ∙ syndrome-still L tag f a n k (le-of-suc-le-suc p) (λ i low high. none i low (omega arith)))
+    (eq-or-lt-of-le l)
+
+-- and so do the syndromes of the classes that are taken in
+taken-still : (L : Layout) (m first : ℕ) (f : Field) (t : List ℕ) (n k : ℕ) → n ≤ k
+    → ((a i : ℕ) → a < m → n ≤ i → i < k → L .class i ≢ first + a) → Taken L m first f t n → Taken L m first f t k
+unfolding Taken
+taken-still L m first f t n k l none held a p =
+    held a p ∙ sym (syndrome-still L (tagsOf L) f (first + a) n k l (λ i. none a i p))
+
+-- line l is next in a pass over slice j, and the lines before it are taken in; behind the last line these are all
+pub record TakenTo (s : Shape) (j : ℕ) (f : Field) (l : ℕ) (line : Line) (e t : List ℕ) : Type 0 where
+  pub slice : l % slicesOf s ≡ j
+  pub at : l < s .rows * s .planes → AtLine s l line e
+  pub taken : l < s .rows * s .planes → Taken (layoutOf s) (tableOf s .m) (j * tableOf s .m) f t (l * s .columns)
+  pub over : s .rows * s .planes ≤ l → Taken (layoutOf s) (tableOf s .m) (j * tableOf s .m) f t (cellsOf s)
+
+module _ (s : Shape) (ok : Accepted s) (j : ℕ) (f : Field) where
+  -- a class of the slice, by its place
+  class : (l a : ℕ) → l % slicesOf s ≡ j → a < tableOf s .m → j * tableOf s .m + a ≡ a % tableOf s .m + offsetOf s l
+  class l a slice p = omega (arith, mod-eq-of-lt p, ap (λ (n : ℕ). n * tableOf s .m) slice)
+
+  -- the slice's first line
+  pub taken-first : (line : Line) (e t : List ℕ) → j < slicesOf s → j < s .rows * s .planes → AtLine s j line e
+      → ((y : ℕ) → getD t y 0 ≡ 0) → TakenTo s j f j line e t
+  taken-first line e t low inside at none =
+      record {
+        slice = mod-eq-of-lt low;
+        at = λ _. at;
+        taken = λ _.
+            taken-still (layoutOf s) (tableOf s .m) (j * tableOf s .m) f t 0 (j * s .columns) zero-le
+            (λ a i p _ q c. skipped-first s ok j a low i q (omega (arith, line-room s j inside))
+            (c ∙ omega (arith, mod-eq-of-lt p)))
+            (taken-none (layoutOf s) (tableOf s .m) (j * tableOf s .m) f t none);
+        over = λ last. absurd (omega arith);
+      }
+
+  -- to the next line of the slice
+  module _ (l : ℕ) (line : Line) (e t : List ℕ) (held : TakenTo s j f l line e t) (inside : l < s .rows * s .planes)
+      (after : List ℕ) (cells : Cells f (cellsOf s))
+      (added : LineTaken f (line .start) (l * s .columns) (s .columns) e t after) (long : length t ≡ length e)
+      (kept : length after ≡ length t) where
+    behind : Taken (layoutOf s) (tableOf s .m) (j * tableOf s .m) f after (l * s .columns + s .columns)
+    behind =
+        line-taken s ok l line e (held .at inside) inside j (held .slice) f t after added (omega
+        (arith, long, at-room s ok l line e (held .at inside))) kept
+        (λ x p. cell-most _ (cells (l * s .columns + x) (omega (arith, line-room s l inside))))
+        (held .taken inside)
+
+    taken-next : (next : Line) (e' : List ℕ) → (l + slicesOf s < s .rows * s .planes → AtLine s (l + slicesOf s) next e')
+        → TakenTo s j f (l + slicesOf s) next e' after
+    taken-next next e' at =
+        record {
+          slice = add-mod-right l (slicesOf s) ∙ held .slice;
+          at = at;
+          taken = λ on.
+              taken-still (layoutOf s) (tableOf s .m) (j * tableOf s .m) f after (l * s .columns + s .columns)
+              ((l + slicesOf s) * s .columns)
+              (omega (
+                arith,
+                mul-le-mul {n₁ = 1} {m₁ = s .columns} {n₂ = slicesOf s} {m₂ = s .columns} (slices-some s ok) (le-refl _),
+              ))
+              (λ a i p low high c. skipped s ok l a i low high (omega (arith, line-room s (l + slicesOf s) on))
+              (c ∙ class l a (held .slice) p))
+              behind;
+          over = λ last.
+              taken-still (layoutOf s) (tableOf s .m) (j * tableOf s .m) f after (l * s .columns + s .columns) (cellsOf s)
+              (line-room s l inside)
+              (λ a i p low high c. skipped-last s ok l a i last low high (c ∙ class l a (held .slice) p))
+              behind;
+        }
+
 module _ (s : Shape) (ok : Accepted s) (pass : Pass) (same : pass ≡ passOf s) where
   -- the numbers of the pass are small
   pub pass-cells : pass .cells ≤ maxCells
@@ -50,15 +136,15 @@ module _ (s : Shape) (ok : Accepted s) (pass : Pass) (same : pass ≡ passOf s) 
   pass-alone one i l = omega (arith, one, classes-are s ok pass same, class-below s ok (cellAt s i))
 
   -- arrays of 768 and 1,280 entries have room for its lists, which are as long as it needs
-  pub pass-narrow : pass .classes + pass .columns ≤ 768
+  pub pass-narrow : pass .period + pass .columns ≤ 768
   pass-narrow =
-      omega (arith, most s ok pass same, columns-are s ok pass same, legal s ok .width-high)
+      omega (arith, period-most s ok pass same, columns-are s ok pass same, legal s ok .width-high)
 
-  pub pass-long : pass .classes + pass .columns + pass .classes ≤ 1280
-  pass-long = omega (arith, pass-narrow, most s ok pass same)
+  pub pass-long : pass .period + pass .columns + pass .period ≤ 1280
+  pass-long = omega (arith, pass-narrow, period-most s ok pass same)
 
-  pub pass-space : (e p q : ℕ) → e ≡ pass .classes + pass .columns → p ≡ pass .classes + pass .columns + pass .classes
-      → q ≡ pass .classes + pass .columns + pass .classes → Room pass e p q
+  pub pass-space : (e p q : ℕ) → e ≡ pass .period + pass .columns → p ≡ pass .period + pass .columns + pass .period
+      → q ≡ pass .period + pass .columns + pass .period → Room pass e p q
   pass-space e p q wide row plane =
       record {
         wide = omega arith;
@@ -68,58 +154,25 @@ module _ (s : Shape) (ok : Accepted s) (pass : Pass) (same : pass ≡ passOf s) 
         plane-short = omega (arith, pass-long);
       }
 
-  -- the entries of each remainder, put together, are the syndromes
-  pub pass-folded : (f : Field) (t before after : List ℕ) → Taken (layoutOf s) (classesOf s) f t (cellsOf s) → HoldsZeros before
-      → ((a : ℕ) → a < pass .classes → getD after a 0 ≡ folded (pass .classes) a (length t) t)
-      → ((a : ℕ) → pass .classes ≤ a → getD after a 0 ≡ getD before a 0) → HoldsSyndromes (layoutOf s) f after (cellsOf s)
-  unfolding Taken
-  pass-folded f t before after taken zeros own others = record { at = λ a h. go a h (decLt a (pass .classes)) }
-    where
-      m : pass .classes ≡ classesOf s
-      m = classes-are s ok pass same
+  -- a line lies in the field
+  pub pass-room : (l : ℕ) → l < pass .lines → l * pass .columns + pass .columns ≤ pass .cells
+  pass-room l inside =
+      rw (columns-are s ok pass same, cells-are s ok pass same) (line-room s l (omega (arith, lines-are s ok pass same)))
 
-      go : (a : ℕ) → a < maxClasses → Dec (a < pass .classes)
-          → getD after a 0 ≡ syndrome (layoutOf s) (tagsOf (layoutOf s)) f a
-      go a h (yes l) =
-          own a l
-          ∙ ap (λ (k : ℕ). folded k a (length t) t) m
-          ∙ taken a (omega (arith, m))
-      go a h (no l) =
-          others a (omega arith)
-          ∙ zeros .at a h
-          ∙ sym (syndrome-empty (layoutOf s) (tagsOf (layoutOf s)) f a (cellsOf s)
-          (λ i k c o. omega (arith, m, class-below s ok (cellAt s i))))
+  pub pass-wide : (l : ℕ) (line : Line) (e : List ℕ) → AtLine s l line e → line .start + pass .columns ≤ length e
+  pass-wide l line e at = omega (arith, columns-are s ok pass same, at-room s ok l line e at)
 
-  module _ (l n : ℕ) (first : n ≡ l * pass .columns) where
-    columns : pass .columns ≡ s .columns
-    columns = columns-are s ok pass same
+  -- to the next line of a slice, and behind the last
+  module _ (j : ℕ) (f : Field) (l : ℕ) (line : Line) (e t : List ℕ) (held : TakenTo s j f l line e t) where
+    pub pass-next : l < pass .lines → (after : List ℕ) → Cells f (pass .cells)
+        → LineTaken f (line .start) (l * pass .columns) (pass .columns) e t after → length t ≡ length e
+        → length after ≡ length t → (next : Line) (e' : List ℕ)
+        → (l + pass .slices < pass .lines → AtLine s (l + pass .slices) next e') → TakenTo s j f (l + pass .slices) next e' after
+    pass-next inside after cells added long kept next e' at =
+        rw (slices-are s ok pass same)
+        (taken-next s ok j f l line e t held (omega (arith, lines-are s ok pass same)) after
+        (rw (cells-are s ok pass same) at cells) (rw (columns-are s ok pass same) at added) long kept next e'
+        (rw (slices-are s ok pass same, lines-are s ok pass same) at at))
 
-    begins : n ≡ l * s .columns
-    begins = first ∙ ap (λ (w : ℕ). l * w) columns
-
-    module _ (inside : l < pass .lines) where
-      pub pass-room : n + pass .columns ≤ pass .cells
-      pass-room =
-          let all : l < s .rows * s .planes = omega (arith, lines-are s ok pass same) in
-          omega (arith, begins, columns, cells-are s ok pass same, line-room s l all)
-
-      module _ (line : Line) (e : List ℕ) (at : AtLine s l line e) where
-        pub pass-wide : line .start + pass .columns ≤ length e
-        pass-wide = omega (arith, columns, at-room s ok l line e at)
-
-        pub pass-taken : (f : Field) (before after : List ℕ) → Cells f (pass .cells)
-            → LineTaken f (line .start) n (pass .columns) e before after → length before ≡ length e → length after ≡ length before
-            → Taken (layoutOf s) (classesOf s) f before n → Taken (layoutOf s) (classesOf s) f after (n + pass .columns)
-        pass-taken f before after cells taken long kept held =
-            let more : (l + 1) * s .columns ≡ n + pass .columns = omega (arith, begins, columns) in
-            subst (λ (k : ℕ). Taken (layoutOf s) (classesOf s) f after k) more
-            (line-taken s ok l line e at f before after (rw (begins, columns) at taken) (omega
-            (arith, long, at-room s ok l line e at)) kept
-            (λ x h. cell-most _ (cells (l * s .columns + x) (omega (arith, pass-room, begins, columns))))
-            (rw begins at held))
-
-    -- behind the last line
-    pub pass-all : pass .lines ≤ l → l ≤ pass .lines → n ≡ cellsOf s
-    pass-all p q =
-        let all : l ≡ s .rows * s .planes = omega (arith, lines-are s ok pass same) in
-        begins ∙ ap (λ (k : ℕ). k * s .columns) all ∙ omega arith
+    pub pass-over : pass .lines ≤ l → Taken (layoutOf s) (pass .period) (j * pass .period) f t (cellsOf s)
+    pass-over last = rw (period-is s ok pass same) (held .over (omega (arith, lines-are s ok pass same)))

@@ -1,11 +1,10 @@
 -- What was written comes back after cells are erased, and examples: the terms of the theorems.
-use Prim.Native.Nat.{ℕ, _<_}
+use Prim.Native.Nat.{ℕ}
 use mathlib.Core.Bool.{Bool, cond}
 use mathlib.Core.List.{List}
-use mathlib.Core.Logic.{_⊎_, inl, inr}
-use mathlib.Core.Path.{_≡_, refl, sym, _∙_, ap}
+use mathlib.Core.Path.{refl, sym, _∙_, ap}
 use Rattle.lattice.specs.Range.{inRange}
-use Rattle.lattice.specs.Shape.{maxStrength, sizeOk, strengthOk, shapeNumber, cellsOf}
+use Rattle.lattice.specs.Shape.{isNone, maxStrength, sizeOk, strengthOk, windowOk, shapeNumber, cellsOf}
 use Rattle.lattice.specs.Settings.{oddSettings, evenSettings, flatSettings, settingsFor}
 use Rattle.lattice.specs.Cell.{cellAt}
 use Rattle.lattice.specs.Class.{minusMod, classWith, classesOf, classOf, layoutOf}
@@ -20,10 +19,10 @@ use Rattle.codec.specs.Plan.{planCapacity, planBytes, planCells}
 use Rattle.codec.specs.Encode.{encodedField}
 use Rattle.codec.specs.Decode.{fieldNumber, correctedCount, decodeNumber, decodeCount, decodeLeaves}
 use Rattle.codec.specs.Correct.{correctNumber, correctCount, correctLeaves}
-use Rattle.codec.specs.Damage.{erasedAt, erasedField, TwoInEachClass}
+use Rattle.codec.specs.Damage.{erasedAt, erasedField}
 use Rattle.codec.specs.Code.{tagsAt}
 use Rattle.codec.specs.theorems.Erasures.{RefillByClass, Refill, ErasureExamples}
-use Rattle.codec.proofs.theory.ClusterCells.{one-of-cluster}
+use Rattle.codec.proofs.theory.ClusterCells.{one-of-cluster, two-each}
 use Rattle.codec.proofs.theory.Differences.{differences-same}
 use Rattle.codec.proofs.theory.EncodedField.{encoded-cells, encoded-lawful}
 use Rattle.codec.proofs.theory.ErasedSelection.{erased-received, erased-few, erased-nearest, erased-count}
@@ -72,34 +71,15 @@ refillByClass s accepted p long bytes selected two buffer fits = (
 -- Theorem. Of three selected cells of two clusters of at most t cells two lie in one cluster, and so in different classes.
 pub refill : Refill
 refill s accepted p long bytes S T s-cluster s-small t-cluster t-small selected inside buffer fits =
-    refillByClass s accepted p long bytes selected two buffer fits
-  where
-    -- two cells of one class in one cluster are one
-    in-s : (i j : ℕ) → i < cellsOf s → j < cellsOf s → S (cellAt s i) → S (cellAt s j)
-        → layoutOf s .class i ≡ layoutOf s .class j → i ≡ j
-    in-s = one-of-cluster s accepted S s-cluster s-small
-
-    in-t : (i j : ℕ) → i < cellsOf s → j < cellsOf s → T (cellAt s i) → T (cellAt s j)
-        → layoutOf s .class i ≡ layoutOf s .class j → i ≡ j
-    in-t = one-of-cluster s accepted T t-cluster t-small
-
-    two : TwoInEachClass (layoutOf s) (λ i. selected (cellAt s i))
-    two i j k hi hj hk si sj sk c d =
-        go (inside (cellAt s i) si) (inside (cellAt s j) sj) (inside (cellAt s k) sk)
-      where
-        go : S (cellAt s i) ⊎ T (cellAt s i) → S (cellAt s j) ⊎ T (cellAt s j) → S (cellAt s k) ⊎ T (cellAt s k)
-            → (i ≡ j) ⊎ (j ≡ k) ⊎ (i ≡ k)
-        go (inl x) (inl y) z = inl (in-s i j hi hj x y c)
-        go (inr x) (inr y) z = inl (in-t i j hi hj x y c)
-        go (inl x) (inr y) (inl z) = inr (inr (in-s i k hi hk x z (c ∙ d)))
-        go (inl x) (inr y) (inr z) = inr (inl (in-t j k hj hk y z d))
-        go (inr x) (inl y) (inl z) = inr (inl (in-s j k hj hk y z d))
-        go (inr x) (inl y) (inr z) = inr (inr (in-t i k hi hk x z (c ∙ d)))
+    refillByClass s accepted p long bytes selected
+    (two-each s selected S T (one-of-cluster s accepted S s-cluster s-small) (one-of-cluster s accepted T t-cluster t-small)
+    inside)
+    buffer fits
 
 -- Theorem. The examples hold, by computation of the definitions.
 pub erasureExamples : ErasureExamples
 unfolding
-    inRange maxStrength sizeOk strengthOk shapeNumber oddSettings evenSettings flatSettings settingsFor
+    inRange maxStrength sizeOk strengthOk windowOk isNone shapeNumber oddSettings evenSettings flatSettings settingsFor
     cellAt minusMod classWith classesOf classOf sizeTo position isPower isCheck holdsData capacity
     isCell isReceived cellsOk having differences tagsOf flipped erasuresTo erasedSum filled corrected
     fewErasures inReach allInReach payloadBytes rank payloadBit padding dataValue dataField encoded paddingOk heldPayload

@@ -1,6 +1,6 @@
 -- The examples of document 01 that are marked to be proved, by computation of the definitions.
 use mathlib.Core.Path.{refl}
-use Rattle.lattice.specs.Shape.{maxStrength, sizeOk, strengthOk, shapeNumber}
+use Rattle.lattice.specs.Shape.{isNone, maxStrength, sizeOk, strengthOk, windowOk, shapeNumber}
 use Rattle.lattice.specs.Range.{inRange}
 use Rattle.lattice.specs.Settings.{oddSettings, evenSettings, flatSettings, settingsFor}
 use Rattle.lattice.specs.Cell.{cellAt}
@@ -22,7 +22,7 @@ use Rattle.codec.specs.theorems.Examples.{PaperExamples, paperExamples}
 pub paperExamplesHold : PaperExamples
 unfolding
     paperExamples
-    inRange maxStrength sizeOk strengthOk shapeNumber
+    inRange maxStrength sizeOk strengthOk windowOk isNone shapeNumber
     oddSettings evenSettings flatSettings settingsFor cellAt minusMod classWith classesOf classOf
     sizeTo position isPower isCheck checks holdsData capacity
     order failsAt outcome testStrengthOk testSettingsOk testNumber verdict foundTriple triplesTried

@@ -5,6 +5,7 @@ use Rattle.lattice.specs.Check.{capacity}
 use Rattle.lattice.specs.Class.{layoutOf}
 use Rattle.lattice.proofs.theory.Answers.{beside-zero}
 use Rattle.lattice.proofs.theorems.Labels.{boundAttained}
+use Rattle.lattice.proofs.theorems.Windows.{windowBoundAttained}
 use Rattle.codec.specs.Plan.{planNumber, planCapacity, planBytes}
 use Rattle.codec.specs.theorems.Plan.{PlanMeaning}
 use Rattle.codec.proofs.theory.Accepted.{plan-cells, plan-classes}
@@ -18,5 +19,6 @@ planMeaning =
       capacity = λ s a. beside-zero (planNumber s) (capacity (layoutOf s)) 0 a;
       bytes = λ s a. ap (λ (k : ℕ). k / 8) (beside-zero (planNumber s) (capacity (layoutOf s)) 0 a);
       cells = plan-cells;
-      attained = λ s a flat wide high. boundAttained s a flat wide high ∙ sym (plan-classes s a);
+      attained = λ s a flat some wide high. boundAttained s a flat some wide high ∙ sym (plan-classes s a);
+      window-attained = λ s a z high wide. windowBoundAttained s a z high wide ∙ sym (plan-classes s a);
     }

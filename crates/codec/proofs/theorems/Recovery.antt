@@ -1,23 +1,21 @@
 -- Demand 3: the terms of the theorems.
-use Prim.Native.Nat.{ℕ, zero, suc, _≤_}
+use Prim.Native.Nat.{ℕ}
 use mathlib.Core.Bool.{Bool, cond}
 use mathlib.Core.List.{List}
-use mathlib.Core.Path.{_≡_, refl, sym, _∙_, ap}
-use native.Mathlib.Nat.{le-trans, le-refl}
-use native.Mathlib.Omega.{arith}
+use mathlib.Core.Path.{refl, sym, _∙_, ap}
+use native.Mathlib.Nat.{le-trans}
 use Rattle.lattice.specs.Shape.{cellsOf}
 use Rattle.lattice.specs.Cell.{cellAt}
-use Rattle.lattice.specs.Class.{layoutOf, classesOf}
-use Rattle.lattice.specs.Refusal.{figure}
+use Rattle.lattice.specs.Class.{layoutOf}
 use Rattle.lattice.proofs.theorems.Labels.{labelsNeeded}
 use Rattle.codec.specs.Field.{Field, fieldOf, flip, Same}
 use Rattle.codec.specs.Payload.{encoded}
-use Rattle.codec.specs.Plan.{planNumber, planClasses}
 use Rattle.codec.specs.Encode.{encodedField}
 use Rattle.codec.specs.Damage.{damaged, damagedField}
 use Rattle.codec.specs.Code.{tagsAt}
 use Rattle.codec.specs.theorems.Recovery.{RecoveryByClass, Recovery, ClassesNeeded}
-use Rattle.codec.proofs.theory.ClusterCells.{one-of-cluster}
+use Rattle.codec.proofs.theory.Accepted.{plan-classes-most}
+use Rattle.codec.proofs.theory.ClusterCells.{one-of-cluster, one-each}
 use Rattle.codec.proofs.theory.Damage.{damaged-cells, damaged-nearest}
 use Rattle.codec.proofs.theory.EncodedField.{encoded-cells, encoded-lawful}
 use Rattle.codec.proofs.theory.FieldLists.{length-listOf, getD-listOf, cells-same}
@@ -58,17 +56,10 @@ recoveryByClass s accepted p long bytes selected one buffer fits =
 pub recovery : Recovery
 recovery s accepted p long bytes S cluster small selected inside buffer fits =
     recoveryByClass s accepted p long bytes selected
-    (λ i j hi hj si sj. one-of-cluster s accepted S cluster small i j hi hj (inside (cellAt s i) si) (inside (cellAt s j) sj))
-    buffer fits
-
--- a figure is at most itself
-figure-most : (n x : ℕ) → figure n x ≤ x
-figure-most zero x = le-refl x
-figure-most (suc n) x = omega arith
+    (one-each s selected S (one-of-cluster s accepted S cluster small) inside) buffer fits
 
 -- Theorem (demand 3). Every labelling in which no cluster of at most t cells has one label twice has at least as many labels as
 -- the plan gives classes.
 pub classesNeeded : ClassesNeeded
-unfolding planClasses
 classesNeeded s flat some wide high L separates =
-    le-trans (figure-most (planNumber s) (classesOf s)) (labelsNeeded s flat some wide high L separates)
+    le-trans (plan-classes-most s) (labelsNeeded s flat some wide high L separates)

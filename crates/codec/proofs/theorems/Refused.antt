@@ -15,11 +15,11 @@ use Rattle.codec.specs.Correct.{correctNumber, correctCount, correctLeav
 use Rattle.codec.specs.theorems.Refused.{PlanRefused, EncodeRefused, DecodeRefused, CorrectRefused, RefusalsChangeNothing}
 use Rattle.codec.proofs.theory.FieldTests.{equal-decides, field-due}
 
--- Theorem. The plan's number is settled by its conditions in the listed order: 1, 2.
+-- Theorem. The plan's number is settled by its conditions in the listed order: 1, 2, 11.
 pub planRefused : PlanRefused
 planRefused = shapeRefused
 
--- Theorem. Encoding's number is settled by its conditions in the listed order: 1, 2, 3, 4.
+-- Theorem. Encoding's number is settled by its conditions in the listed order: 1, 2, 11, 3, 4.
 pub encodeRefused : EncodeRefused
 unfolding encodeNumber
 encodeRefused s payload field =
@@ -28,7 +28,7 @@ encodeRefused s payload field =
     (λ _. due-test 2 _ (equal-decides (length payload) (planBytes s))
     (λ _. due-test 3 _ (equal-decides (length field) (planCells s)) (λ _. due-none))))
 
--- Theorem. Decoding's number is settled by its conditions in the listed order: 1, 2, 3, 4, 5, 10, 6, 7.
+-- Theorem. Decoding's number is settled by its conditions in the listed order: 1, 2, 11, 3, 4, 5, 10, 6, 7.
 pub decodeRefused : DecodeRefused
 unfolding decodeNumber
 decodeRefused s payload field =
@@ -36,7 +36,7 @@ decodeRefused s payload field =
     (due-append (shapeRefusals s) _ _ _ (shape-due s)
     (λ a. due-test 2 _ (equal-decides (length payload) (planBytes s)) (λ _. field-due s field a)))
 
--- Theorem. Correcting's number is settled by its conditions in the listed order: 1, 2, 4, 5, 10, 6, 7.
+-- Theorem. Correcting's number is settled by its conditions in the listed order: 1, 2, 11, 4, 5, 10, 6, 7.
 pub correctRefused : CorrectRefused
 unfolding correctNumber
 correctRefused s field =

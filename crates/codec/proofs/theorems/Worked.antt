@@ -1,10 +1,10 @@
 -- Our own examples of coding: the term of the theorem, by computation of the definitions.
 use mathlib.Core.Path.{refl}
 use Rattle.lattice.specs.Range.{inRange}
-use Rattle.lattice.specs.Shape.{maxStrength, sizeOk, strengthOk, shapeNumber}
+use Rattle.lattice.specs.Shape.{isNone, maxStrength, sizeOk, strengthOk, windowOk, shapeNumber}
 use Rattle.lattice.specs.Settings.{oddSettings, evenSettings, flatSettings, stackTable, stackSettings, settingsFor}
 use Rattle.lattice.specs.Cell.{cellAt}
-use Rattle.lattice.specs.Class.{minusMod, classWith, classesOf, classOf}
+use Rattle.lattice.specs.Class.{minusMod, classWith, windowClass, classesOf, classOf}
 use Rattle.lattice.specs.Position.{sizeTo, position}
 use Rattle.lattice.specs.Check.{isPower, isCheck, holdsData, capacity}
 use Rattle.codec.specs.Field.{isCell, isReceived, cellsOk, having, differences}
@@ -20,9 +20,9 @@ use Rattle.codec.specs.theorems.Worked.{CodingExamples}
 -- Theorem. The examples hold.
 pub codingExamples : CodingExamples
 unfolding
-    inRange maxStrength sizeOk strengthOk shapeNumber
+    inRange maxStrength sizeOk strengthOk windowOk isNone shapeNumber
     oddSettings evenSettings flatSettings stackTable stackSettings settingsFor
-    cellAt minusMod classWith classesOf classOf sizeTo position isPower isCheck holdsData capacity
+    cellAt minusMod classWith windowClass classesOf classOf sizeTo position isPower isCheck holdsData capacity
     isCell isReceived cellsOk having differences tagsOf flipped erasuresTo erasedSum filled corrected
     fewErasures inReach allInReach
     payloadBytes rank payloadBit padding dataValue dataField encoded paddingOk
@@ -35,7 +35,7 @@ codingExamples =
       six = refl;
       seven = refl;
       none = refl;
-      one-then-three = (refl, refl, refl, refl, refl, refl, refl);
+      one-then-three = (refl, refl, refl, refl, refl, refl, refl, refl, refl, refl);
       then-four = (refl, refl, refl, refl, refl, refl);
       then-five = (refl, refl, refl, refl);
       differ = refl;

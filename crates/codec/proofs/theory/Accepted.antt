@@ -1,10 +1,14 @@
--- An accepted shape: the plan's figures, and the numbers of the operations on buffers of the plan's lengths.
-use Prim.Native.Nat.{ℕ, _/_, _<_}
+-- The plan's figures: at most the shape's, and of an accepted shape these; and the numbers of the operations on buffers of the
+-- plan's lengths.
+use Prim.Native.Nat.{ℕ, zero, suc, _/_, _<_, _≤_}
 use mathlib.Core.List.{List}
 use mathlib.Core.Path.{_≡_, sym, _∙_, ap}
+use native.Mathlib.Nat.{le-refl}
+use native.Mathlib.Omega.{arith}
 use borrow.Author.Tests.{eq-eqb}
 use lib.ListN.{length}
 use Rattle.lattice.specs.declared.shape.Shape.{Shape}
+use Rattle.lattice.specs.Refusal.{figure}
 use Rattle.lattice.specs.Shape.{Accepted, cellsOf}
 use Rattle.lattice.specs.Cell.{cellAt}
 use Rattle.lattice.specs.Class.{classesOf, classAt, layoutOf}
@@ -16,6 +20,15 @@ use Rattle.codec.specs.Encode.{encodeNumber}
 use Rattle.codec.specs.Decode.{decodeNumber, fieldNumber}
 use Rattle.codec.specs.Correct.{correctNumber}
 use Rattle.codec.specs.Field.{fieldOf}
+
+-- a figure beside a number is at most itself
+figure-most : (n x : ℕ) → figure n x ≤ x
+figure-most zero x = le-refl x
+figure-most (suc n) x = omega arith
+
+pub plan-classes-most : (s : Shape) → planClasses s ≤ classesOf s
+unfolding planClasses
+plan-classes-most s = figure-most (planNumber s) (classesOf s)
 
 module _ (s : Shape) (accepted : Accepted s) where
   -- the plan's figures are those of the shape

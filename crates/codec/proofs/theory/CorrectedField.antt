@@ -12,7 +12,7 @@ use Rattle.lattice.specs.Shape.{maxClasses, shapeNumber, Accepted, cellsOf}
 use Rattle.lattice.specs.Class.{classesOf, layoutOf}
 use Rattle.lattice.specs.Position.{Layout}
 use Rattle.lattice.proofs.theory.Answers.{beside-zero}
-use Rattle.lattice.proofs.theory.ClassBelow.{classes-limit}
+use Rattle.lattice.proofs.theory.Placements.{classes-limit}
 use Rattle.codec.specs.Field.{Field, fieldOf, Cells, Same, having}
 use Rattle.codec.specs.Decode.{correctedField}
 use Rattle.codec.specs.Payload.{payloadBytes, rank, heldByte, heldPayload}

@@ -12,7 +12,7 @@ use Rattle.lattice.specs.Listing.{noCell, CellsAt}
 use Rattle.lattice.proofs.theory.Counting.{bit, count-sum, sum-same, sum-add}
 use Rattle.lattice.proofs.theory.Limits.{legal}
 use Rattle.lattice.proofs.theory.Positions.{sum-classes}
-use Rattle.lattice.proofs.theory.ClassBelow.{classes-limit}
+use Rattle.lattice.proofs.theory.Placements.{classes-limit}
 use Rattle.codec.specs.Field.{fieldOf, Cells, Received, erased, having, differences}
 use Rattle.codec.specs.Hamming.{syndrome}
 use Rattle.codec.specs.Erasure.{isErased, erasuresTo, erasures, erasedSum}

@@ -6,7 +6,7 @@ use mathlib.Core.Logic.{_⊎_}
 use mathlib.Core.Path.{_≡_}
 use lib.ListN.{length}
 use Rattle.lattice.specs.declared.shape.Shape.{Shape}
-use Rattle.lattice.specs.Shape.{Accepted, cellsOf}
+use Rattle.lattice.specs.Shape.{noWindow, Accepted, cellsOf}
 use Rattle.lattice.specs.Cell.{Cell, cellAt}
 use Rattle.lattice.specs.Cluster.{Cluster, AtMost}
 use Rattle.lattice.specs.Class.{layoutOf}
@@ -46,7 +46,7 @@ Refill =
 
 -- two classes by turns: 10 by 1 of strength 2
 abbrev pub turns : Shape
-turns = record { columns = 10; rows = 1; planes = 1; strength = 2 }
+turns = record { columns = 10; rows = 1; planes = 1; strength = 2; window = noWindow }
 
 -- from a field of 12 by 1 the payload a5 and the field written from it come back, with a count
 abbrev pub Refilled : List ℕ → ℕ → Type 0

@@ -3,6 +3,7 @@ use mathlib.Core.Bool.{true, false}
 use mathlib.Core.List.{List, [], _∷_}
 use mathlib.Core.Path.{_≡_}
 use lib.IntN.{pos, negsuc}
+use Rattle.lattice.specs.Shape.{noWindow}
 use Rattle.lattice.specs.declared.shape.Shape.{Shape}
 use Rattle.lattice.specs.Settings.{flatSettings}
 use Rattle.lattice.specs.Cell.{cell}
@@ -15,10 +16,10 @@ use Rattle.codec.specs.Decode.{decodeNumber, decodeCount, decodeLeaves}
 
 -- 5 by 5 of strength 3, and 2 by 1 of strength 1
 abbrev pub five : Shape
-five = record { columns = 5; rows = 5; planes = 1; strength = 3 }
+five = record { columns = 5; rows = 5; planes = 1; strength = 3; window = noWindow }
 
 abbrev pub pair : Shape
-pair = record { columns = 2; rows = 1; planes = 1; strength = 1 }
+pair = record { columns = 2; rows = 1; planes = 1; strength = 1; window = noWindow }
 
 -- all of a list of statements
 abbrev pub All : List (Type 0) → Type 0

@@ -12,21 +12,21 @@ use Rattle.codec.specs.Decode.{decodeNumber, decodeCount, decodeLeaves}
 use Rattle.codec.specs.Correct.{correctNumber, correctCount, correctLeaves}
 use Rattle.codec.specs.Conditions.{encodeRefusals, decodeRefusals, correctRefusals}
 
--- Theorem (demand 1). The plan's number is settled by its conditions in the listed order: 1, 2.
+-- Theorem (demand 1). The plan's number is settled by its conditions in the listed order: 1, 2, 11.
 abbrev pub PlanRefused : Type 0
 PlanRefused = (s : Shape) → Settled (shapeRefusals s) (planNumber s)
 
--- Theorem (demand 1). Encoding's number is: 1, 2, 3, 4.
+-- Theorem (demand 1). Encoding's number is: 1, 2, 11, 3, 4.
 abbrev pub EncodeRefused : Type 0
 EncodeRefused =
     (s : Shape) (payload field : List ℕ) → Settled (encodeRefusals s payload field) (encodeNumber s payload field)
 
--- Theorem (demand 1). Decoding's number is: 1, 2, 3, 4, 5, 10, 6, 7.
+-- Theorem (demand 1). Decoding's number is: 1, 2, 11, 3, 4, 5, 10, 6, 7.
 abbrev pub DecodeRefused : Type 0
 DecodeRefused =
     (s : Shape) (payload field : List ℕ) → Settled (decodeRefusals s payload field) (decodeNumber s payload field)
 
--- Theorem (demand 1). Correcting's number is: 1, 2, 4, 5, 10, 6, 7.
+-- Theorem (demand 1). Correcting's number is: 1, 2, 11, 4, 5, 10, 6, 7.
 abbrev pub CorrectRefused : Type 0
 CorrectRefused = (s : Shape) (field : List ℕ) → Settled (correctRefusals s field) (correctNumber s field)
 

@@ -3,6 +3,8 @@
 use Prim.Native.Nat.{ℕ}
 use mathlib.Core.List.{List, [], _∷_}
 use mathlib.Core.Path.{_≡_}
+use Rattle.lattice.specs.Shape.{noWindow}
+use Rattle.lattice.specs.theorems.Windows.{windowed}
 use Rattle.lattice.specs.declared.shape.Shape.{Shape}
 use Rattle.codec.specs.Field.{fieldOf, differences}
 use Rattle.codec.specs.Plan.{planClasses, planCapacity, planBytes, planCells}
@@ -11,7 +13,7 @@ use Rattle.codec.specs.Decode.{decodeNumber}
 use Rattle.codec.specs.Correct.{correctNumber}
 
 abbrev pub stack : Shape
-stack = record { columns = 7; rows = 5; planes = 2; strength = 3 }
+stack = record { columns = 7; rows = 5; planes = 2; strength = 3; window = noWindow }
 
 -- the payload 0b 3c 71 e6 4a
 abbrev pub bytes : List ℕ
@@ -33,7 +35,7 @@ cells =
 
 -- one class of n cells: n by 1 of strength 1
 abbrev pub strip : ℕ → Shape
-strip n = record { columns = n; rows = 1; planes = 1; strength = 1 }
+strip n = record { columns = n; rows = 1; planes = 1; strength = 1; window = noWindow }
 
 -- Theorem. The examples hold.
 pub record CodingExamples : Type 0 where
@@ -52,6 +54,9 @@ pub record CodingExamples : Type 0 where
   pub one-then-three : (encodeNumber (strip 0) (0 ∷ []) (2 ∷ []) ≡ 1)
       × (decodeNumber (strip 0) (0 ∷ []) (2 ∷ []) ≡ 1)
       × (correctNumber (strip 0) (2 ∷ []) ≡ 1)
+      × (encodeNumber (windowed 5 5 0 1) [] [] ≡ 11)
+      × (decodeNumber (windowed 5 5 0 1) (0 ∷ []) [] ≡ 11)
+      × (correctNumber (windowed 5 5 0 1) [] ≡ 11)
       × (encodeNumber stack [] (2 ∷ []) ≡ 3)
       × (encodeNumber (strip 5) (0 ∷ []) (2 ∷ []) ≡ 3)
       × (decodeNumber stack [] (2 ∷ []) ≡ 3)

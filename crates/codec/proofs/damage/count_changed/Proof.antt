@@ -5,7 +5,7 @@ use native.Mathlib.Omega.{arith}
 use borrow.Author.Needs.{needs}
 use Rattle.lattice.specs.Class.{classesOf}
 use Rattle.lattice.specs.Counting.{count}
-use Rattle.lattice.proofs.theory.ClassBelow.{classes-limit}
+use Rattle.lattice.proofs.theory.Placements.{classes-limit}
 use Rattle.lattice.proofs.theory.Counting.{count-most}
 use Rattle.codec.specs.Working.{names}
 use Rattle.codec.proofs.theory.CorrectedField.{classes-given, classes-few}

@@ -23,8 +23,8 @@ line-syndromes-requires c κs =
     let e = c .before .before .before .before .before in
     let p = e .pre .0 .0 in
     let low = some (p .shape) (p .accepted) _ (p .same) in (
-      (p, omega (arith, low, c .before .if1 .left), e .pre .0 .1, omega arith),
-      e .pre .1,
+      (p, omega (arith, low, c .before .if1 .left)),
+      ((e .pre .0 .1, omega arith), e .pre .1),
     )
 
 same-length : tie.Need-same-length

@@ -1,5 +1,6 @@
 -- `fold` meets its contract. The loop's invariant: a is y mod m, and the first y entries are folded.
-use Prim.Native.Nat.{ℕ, _-_, _%_, _<_, _≤_, zero-le}
+use Prim.Native.Nat.{ℕ, _+_, _-_, _%_, _<_, _≤_, zero-le}
+use mathlib.Core.Logic.{_⊎_, ⊎-elim}
 use mathlib.Core.Path.{_≡_, refl, sym, ap, _∙_}
 use native.Mathlib.Nat.{mod-lt, zero-mod}
 use native.Mathlib.Omega.{arith}
@@ -13,13 +14,13 @@ use Rattle.codec.proofs.syndromes.fold.Statement.{statement}
 use Rattle.codec.proofs.syndromes.fold.Tie as tie
 
 abbrev Inv-loop : tie.InvT-loop
-Inv-loop t m syndromes₀ a₀ y₀ syndromes a y =
+Inv-loop t m first syndromes₀ a₀ y₀ syndromes a y =
     (y ≤ length t) × (length syndromes ≡ length syndromes₀) × (a ≡ y % m)
-    × ((b : ℕ) → b < m → getD syndromes b 0 ≡ folded m b y t)
-    × ((b : ℕ) → m ≤ b → getD syndromes b 0 ≡ getD syndromes₀ b 0)
+    × ((b : ℕ) → b < m → getD syndromes (first + b) 0 ≡ folded m b y t)
+    × ((b : ℕ) → (b < first) ⊎ (first + m ≤ b) → getD syndromes b 0 ≡ getD syndromes₀ b 0)
 
 abbrev μ-loop : tie.MeasureT-loop
-μ-loop t m syndromes₀ a₀ y₀ syndromes a y = length t - y
+μ-loop t m first syndromes₀ a₀ y₀ syndromes a y = length t - y
 
 -- the place of a turn
 place : (c : tie.In-loop Inv-loop μ-loop) → c .before .loop .a < c .before .before .before .before .args .m
@@ -37,6 +38,9 @@ loop-holds c =
       (λ b l. refl),
     )
 
+add-syndromes : tie.Need-add-syndromes Inv-loop μ-loop
+add-syndromes c = omega (arith, place c)
+
 mul-syndromes : tie.Need-mul-syndromes Inv-loop μ-loop
 mul-syndromes c = omega (arith, place c)
 
@@ -51,6 +55,9 @@ shared-slice-read-syndromes c = search needs
 
 cast-syndromes : tie.Need-cast-syndromes Inv-loop μ-loop
 cast-syndromes c = omega (arith, c .shared-slice-known2 .given (c .before .before .before .loop .y))
+
+add-syndromes-2 : tie.Need-add-syndromes-2 Inv-loop μ-loop
+add-syndromes-2 c = omega (arith, place (c .before .before))
 
 mul-syndromes-3 : tie.Need-mul-syndromes-3 Inv-loop μ-loop
 mul-syndromes-3 c = omega (arith, place (c .before .before))
@@ -71,12 +78,16 @@ loop-again : tie.Need-loop-again Inv-loop μ-loop
 loop-again c =
     let e = c .before .before .before .before .before .before .before in
     let turn = c .before .before .before .before .loop in
+    let first = e .args .first in
     let own = place (c .before .before .before) in (
       omega arith,
       simp length-set (turn .inv .1),
       place-next _ (turn .y) _ _ (turn .inv .2) (c .next-place .ensures own),
-      fold-more _ _ (e .args .t .now) (turn .syndromes) _ _ (turn .inv .2) (omega (arith, own)) refl (turn .inv .3),
-      (λ b l. getD-set-other (turn .syndromes) (turn .a) b _ 0 (λ (z : b ≡ turn .a). omega (arith, own)) ∙ turn .inv .4 b l),
+      fold-more _ first _ (e .args .t .now) (turn .syndromes) _ _ (turn .inv .2) (omega (arith, own)) refl (turn .inv .3),
+      (λ b outside.
+          let other : b ≡ first + turn .a → ⊥ = λ z.
+          ⊎-elim (λ (l : b < first). omega arith) (λ (l : first + e .args .m ≤ b). omega (arith, own)) outside in
+          getD-set-other (turn .syndromes) (first + turn .a) b _ 0 other ∙ turn .inv .4 b outside),
     )
 
 same-length : tie.Need-same-length Inv-loop μ-loop
@@ -97,11 +108,13 @@ fold-spec =
     Inv-loop
     μ-loop
     loop-holds
+    add-syndromes
     mul-syndromes
     slice-read-syndromes
     mul-syndromes-2
     shared-slice-read-syndromes
     cast-syndromes
+    add-syndromes-2
     mul-syndromes-3
     slice-write-syndromes
     next-place-requires

@@ -2,8 +2,8 @@
 use mathlib.Core.Path.{sym, _∙_}
 use native.Mathlib.Omega.{arith}
 use borrow.Author.Needs.{needs}
-use Rattle.lattice.proofs.theory.SizesByLines.{some, most}
-use Rattle.codec.proofs.syndromes.LinesTaken.{pass-folded}
+use Rattle.lattice.proofs.theory.SizesByLines.{period-least, period-most}
+use Rattle.codec.proofs.syndromes.SlicesTaken.{slice-folded, slice-most}
 use Rattle.codec.proofs.syndromes.listed_syndromes.Statement.{statement}
 use Rattle.codec.proofs.syndromes.listed_syndromes.Tie as tie
 
@@ -15,25 +15,43 @@ take-lines-requires c κs =
     let listed = c .before .before .before .before .before .before .before .before .before .before in
     let e = listed .before .before .before .before .before .before .before .before .before .before in
     let p = e .pre .0 .0 in
-    let room = e .pre .1 .1 .0 in
+    let room = e .pre .1 .1 .1 .0 in
     let first = listed .first-line in
     let long = first .kept .1 .0 in (
-      (p, e .pre .0 .1, e .pre .0 .2, room .1 ∙ sym long),
+      e .pre .0,
       (
-        rw long (first .ensures (p .shape) (p .accepted) (p .same) (room .0) .1),
-        ((λ s ok same. first .ensures s ok same (room .0) .0), e .pre .1 .1 .1),
+        (e .pre .1 .0 .0, room .1 ∙ sym long),
+        (
+          rw long (first .ensures (p .shape) (p .accepted) (p .same) (room .0) .1),
+          (
+            (λ s ok same. first .ensures s ok same (room .0) .0 _ (e .pre .0 .2) (e .pre .0 .3)),
+            e .pre .1 .1 .1 .1,
+          ),
+        ),
       ),
     )
 
-fold-requires : tie.Need-fold-requires
-fold-requires c κs =
+mul-fold : tie.Need-mul-fold
+mul-fold c =
     let taken = c .before .before .before .before .before .before in
     let listed = taken .before .before .before .before .before .before .before .before .before .before .before in
     let e = listed .before .before .before .before .before .before .before .before .before .before in
     let p = e .pre .0 .0 in
-    let high = most (p .shape) (p .accepted) _ (p .same) in (
-      (some (p .shape) (p .accepted) _ (p .same), high, omega (arith, high)),
-      (λ a l. e .pre .1 .0 .at a (omega (arith, high))),
+    omega (arith, slice-most (p .shape) (p .accepted) _ (p .same) _ (e .pre .0 .2))
+
+fold-requires : tie.Need-fold-requires
+fold-requires c κs =
+    let taken = c .before .before .before .before .before .before .before in
+    let listed = taken .before .before .before .before .before .before .before .before .before .before .before in
+    let e = listed .before .before .before .before .before .before .before .before .before .before in
+    let p = e .pre .0 .0 in
+    let high = slice-most (p .shape) (p .accepted) _ (p .same) _ (e .pre .0 .2) in (
+      (
+        period-least (p .shape) (p .accepted) _ (p .same),
+        period-most (p .shape) (p .accepted) _ (p .same),
+        omega (arith, high, e .pre .1 .0 .1),
+      ),
+      e .pre .1 .1 .0,
     )
 
 same-length : tie.Need-same-length
@@ -53,13 +71,13 @@ same-length-5 c = search needs
 
 returns : tie.Need-returns
 returns c =
-    let lines = c .before .before .before .before .before .before .before .before .before in
+    let lines = c .before .before .before .before .before .before .before .before .before .before in
     let listed = lines .before .before .before .before .before .before .before .before .before .before .before in
     let e = listed .before .before .before .before .before .before .before .before .before .before in
     let taken = lines .take-lines in
     let fold = c .before .before .fold in
-    λ s ok same. pass-folded s ok _ same _ (taken .last .1 .1 .1 .1 .1 .1 .1 .0) (e .args .syndromes .now)
-    (fold .last .1 .1 .0) (taken .ensures s ok same) (e .pre .1 .0) (fold .ensures .0) (fold .ensures .1)
+    slice-folded _ _ _ (taken .last .1 .1 .1 .1 .1 .1 .1 .1 .0) (e .args .syndromes .now) (fold .last .1 .1 .1 .0)
+    (taken .ensures) (fold .ensures .0) (fold .ensures .1)
 
 pub listed-syndromes-spec : {M : Type 1} → statement M
 listed-syndromes-spec =
@@ -67,6 +85,7 @@ listed-syndromes-spec =
     (tie.spec
     first-line-requires
     take-lines-requires
+    mul-fold
     fold-requires
     same-length
     same-length-2
