@@ -1,2 +1,2 @@
 -- What reading and printing the header uses alone.
-mod Lines
+mod Parts

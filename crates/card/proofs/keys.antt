@@ -1,2 +1,3 @@
 -- What the table of keys uses alone.
 mod Parts
+mod ByIndex

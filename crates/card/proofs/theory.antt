@@ -9,26 +9,30 @@ pub mod DecimalText
 pub mod NumberText
 pub mod LineText
 pub mod LinesText
+pub mod WindowText
 pub mod HexText
 pub mod PayloadText
 pub mod CellDigits
 pub mod RowText
 pub mod RowsRead
 pub mod FieldText
+pub mod FirstByte
 -- the header, and what follows it
 pub mod HeaderText
 pub mod HeaderRest
+mod WindowLimits
 pub mod CardLimits
-pub mod BodyText
+mod BodyText
 mod ParsedInput
 mod CardRead
+pub mod CutInput
 -- the program
 pub mod CardPlan
 pub mod ProgramParts
 mod RefusalConditions
 pub mod ProgramTests
 mod TakenInput
-mod AnswerLength
+pub mod AnswerLength
 pub mod Forms
 pub mod PrintedRows
 -- buffers that are filled

@@ -4,9 +4,13 @@ use mathlib.Core.List.{List, [], _∷_, _++_}
 use mathlib.Core.Path.{_≡_}
 use lib.ListN.{length}
 use Rattle.lattice.specs.declared.shape.Shape.{Shape}
-use Rattle.lattice.specs.Shape.{Accepted, shapeFrom, cellsOf}
+use Rattle.lattice.specs.declared.shape.ShapeNumbers.{ShapeNumbers}
+use Rattle.lattice.specs.declared.shape.Window.{Window}
+use Rattle.lattice.specs.Shape.{Accepted, shapeFrom, noWindow, cellsOf}
 use Rattle.codec.specs.Field.{fieldOf, Received}
 use Rattle.card.specs.declared.header.Header.{Header}
+use Rattle.card.specs.declared.header.WindowLines.{WindowLines}
+use Rattle.card.specs.declared.header.WindowLines.the-variants as sides
 use Rattle.card.specs.Text.{NumberLine, headerLines, headerText, payloadText, fieldText}
 
 -- the limits: 65,536 bytes of input and 16,384 cells
@@ -20,13 +24,28 @@ maxCardCells = 16384
 abbrev pub maxCardBytes : ℕ
 maxCardBytes = 2048
 
--- the longest answer, that of 4 columns, 256 rows and 16 planes at strength 8
+-- the longest answer, that of 4 columns, 256 rows and 16 planes at strength 8 with the window's lines given
 abbrev pub maxAnswer : ℕ
-maxAnswer = 36915
+maxAnswer = 36946
 
--- the shape that a header names
+-- the window that its lines give: with none of them both sides are 0
+abbrev pub windowOf : WindowLines → Window
+windowOf sides.Absent = noWindow
+windowOf (sides.Given w) = w
+
+-- the numbers that a header gives, and the shape that it names
+abbrev pub shapeNumbers : Header → ShapeNumbers
+shapeNumbers h =
+    record {
+      columns = h .columns;
+      rows = h .rows;
+      planes = h .planes;
+      strength = h .strength;
+      window = windowOf (h .window);
+    }
+
 abbrev pub shapeOf : Header → Shape
-shapeOf h = shapeFrom (h .numbers)
+shapeOf h = shapeFrom (shapeNumbers h)
 
 -- the numbers of lines have at most five digits
 abbrev pub FewDigitsEach : List NumberLine → Type 0

@@ -13,16 +13,26 @@ use Rattle.codec.specs.Plan.{planBytes}
 use Rattle.codec.specs.Conditions.{WrongPayloadLength, ManyErasures, NoneInReach}
 use Rattle.codec.specs.Reach.{WrongInReach}
 use Rattle.card.specs.declared.header.Header.{Header}
-use Rattle.card.specs.Text.{headerText, payloadText, fieldText, refusalText}
+use Rattle.card.specs.declared.header.WindowLines.the-variants as sides
+use Rattle.card.specs.Text.{windowRowsKey, windowColumnsKey, headerText, payloadText, fieldText, refusalText}
 use Rattle.card.specs.Card.{maxInput, maxCardCells, shapeOf, FewDigits, CardHeader, FieldCells, payloadCard, fieldCard}
 use Rattle.card.specs.Program.{programNumber, writtenText, readText, answer}
 
--- the input is the text of a header, followed by anything
+-- a text begins with a key
+abbrev pub BeginsWith : List ℕ → List ℕ → Type 0
+BeginsWith key s = (tail : List ℕ) × (s ≡ key ++ tail)
+
+-- it begins with no line of a window
+abbrev pub NoWindowLine : List ℕ → Type 0
+NoWindowLine s = (¬ BeginsWith windowRowsKey s) × (¬ BeginsWith windowColumnsKey s)
+
+-- the input is the text of a header, followed by anything but a line of the window that the header leaves out
 pub record HeaderFirst (s : List ℕ) : Type 0 where
   pub header : Header
   pub rest : List ℕ
   pub small : FewDigits header
   pub text : s ≡ headerText header ++ rest
+  pub whole : header .window ≡ sides.Absent → NoWindowLine rest
 
 -- the rest is the text of one payload, or of the rows that the header asks for
 pub data Body (h : Header) (rest : List ℕ) : Type 0 where

@@ -1,7 +1,7 @@
 -- How a card text is read: what stands at a position of the input. `getD s i 0` is byte i, and 0, which no card text has, past
 -- the end.
 use Prim.Native.Nat.{ℕ, zero, suc, _+_, _-_, _*_, _/_, _%_}
-use mathlib.Core.Bool.{Bool, cond, not, _&&_, _||_}
+use mathlib.Core.Bool.{Bool, false, cond, not, _&&_, _||_}
 use mathlib.Core.List.{List, [], _∷_, _++_}
 use lib.Dec.{leb, ltb, eqb}
 use lib.ListN.{length, getD}
@@ -12,7 +12,7 @@ use Rattle.card.specs.declared.line.Line.{Line}
 use Rattle.card.specs.declared.line.Line.the-variants as line
 use Rattle.card.specs.declared.header.HeaderAnswer.{HeaderAnswer}
 use Rattle.card.specs.declared.header.HeaderAnswer.the-variants as head
-use Rattle.card.specs.Text.{headerKeys, headerFrom, payloadKey, rowKey, feed}
+use Rattle.card.specs.Text.{headerKeys, windowKeys, headerFrom, payloadKey, rowKey, feed}
 
 -- the bytes of a key stand at position `at`
 unfoldable pub keyAt : List ℕ → List ℕ → ℕ → Bool
@@ -66,13 +66,27 @@ abbrev pub linesAt : List (List ℕ) → List ℕ → ℕ → LinesRead
 linesAt [] s at = read [] at
 linesAt (key ∷ keys) s at = afterLine (linesAt keys s) (lineAt key s at)
 
+-- one of these keys stands at `at`
+abbrev pub anyKeyAt : List (List ℕ) → List ℕ → ℕ → Bool
+anyKeyAt [] s at = false
+anyKeyAt (key ∷ keys) s at = keyAt key s at || anyKeyAt keys s at
+
+-- lines that may be left out: where one of their keys stands at `at`, all of them are read there, and else none is
+unfoldable pub optionalAt : List (List ℕ) → List ℕ → ℕ → LinesRead
+optionalAt keys s at = cond (anyKeyAt keys s at) (linesAt keys s at) (read [] at)
+
+-- some lines, then others from where they end
+abbrev pub afterLines : (ℕ → LinesRead) → LinesRead → LinesRead
+afterLines others (read ns next) = before ns (others next)
+afterLines others fault = fault
+
 -- the first lines: the header, and where the rest starts
 abbrev pub headerRead : LinesRead → HeaderAnswer
 headerRead (read ns next) = head.Found (headerFrom ns) next
 headerRead fault = head.Fault
 
 unfoldable pub headerOf : List ℕ → HeaderAnswer
-headerOf s = headerRead (linesAt headerKeys s 0)
+headerOf s = headerRead (afterLines (optionalAt windowKeys s) (linesAt headerKeys s 0))
 
 -- a lower-case hexadecimal digit, and its value
 unfoldable pub isHex : ℕ → Bool

@@ -28,10 +28,10 @@ abbrev pub isPayload : List ℕ → ℕ → Bool
 isPayload s next = keyAt payloadKey s next
 
 abbrev pub rowsFit : List ℕ → Header → ℕ → Bool
-rowsFit s h next = rowsOk s next (h .numbers .columns) (h .numbers .planes * h .numbers .rows)
+rowsFit s h next = rowsOk s next (h .columns) (h .planes * h .rows)
 
 abbrev pub cellsIn : List ℕ → Header → ℕ → List ℕ
-cellsIn s h next = cellsOfRows s next (h .numbers .columns) (cellsOf (shapeOf h))
+cellsIn s h next = cellsOfRows s next (h .columns) (cellsOf (shapeOf h))
 
 -- the form of the lines after the header is right
 unfoldable pub bodyOk : List ℕ → Header → ℕ → Bool

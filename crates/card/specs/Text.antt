@@ -7,13 +7,15 @@ use mathlib.Core.List.{List, [], _∷_, _++_, map}
 use lib.Dec.{ltb}
 use lib.ListN.{getD, take, drop}
 use Rattle.card.specs.declared.header.Header.{Header}
+use Rattle.card.specs.declared.header.WindowLines.{WindowLines}
+use Rattle.card.specs.declared.header.WindowLines.the-variants as sides
 
 -- the codes of a text's characters
 abbrev pub ascii : String → List ℕ
 ascii []ˢ = []
 ascii (c ∷ˢ s) = code c ∷ ascii s
 
--- the keys of the first lines, and their order
+-- the keys of the first lines
 abbrev pub columnsKey : List ℕ
 columnsKey = ascii "columns="
 
@@ -26,8 +28,18 @@ planesKey = ascii "planes="
 abbrev pub strengthKey : List ℕ
 strengthKey = ascii "strength="
 
+abbrev pub windowRowsKey : List ℕ
+windowRowsKey = ascii "window_rows="
+
+abbrev pub windowColumnsKey : List ℕ
+windowColumnsKey = ascii "window_columns="
+
+-- those of the lines that every header has, and those of the window's lines, which are both there or both left out; in this order
 abbrev pub headerKeys : List (List ℕ)
 headerKeys = columnsKey ∷ rowsKey ∷ planesKey ∷ strengthKey ∷ []
+
+abbrev pub windowKeys : List (List ℕ)
+windowKeys = windowRowsKey ∷ windowColumnsKey ∷ []
 
 -- the keys of the other lines
 abbrev pub payloadKey : List ℕ
@@ -83,25 +95,38 @@ linesOf [] ns = []
 linesOf (key ∷ keys) [] = []
 linesOf (key ∷ keys) (n ∷ ns) = line key n ∷ linesOf keys ns
 
--- the numbers of a header in the order of its lines, and the header of such numbers
-abbrev pub headerNumbers : Header → List ℕ
-headerNumbers h = let n = h .numbers in n .columns ∷ n .rows ∷ n .planes ∷ n .strength ∷ []
-
-abbrev pub headerFrom : List ℕ → Header
-headerFrom ns =
-    record { numbers = record { columns = getD ns 0 0; rows = getD ns 1 0; planes = getD ns 2 0; strength = getD ns 3 0 } }
+-- the lines of the window
+abbrev pub windowLines : WindowLines → List NumberLine
+windowLines sides.Absent = []
+windowLines (sides.Given w) = line windowRowsKey (w .rows) ∷ line windowColumnsKey (w .columns) ∷ []
 
 -- the first lines, and their text
 abbrev pub headerLines : Header → List NumberLine
 headerLines h =
-    line columnsKey (h .numbers .columns)
-    ∷ line rowsKey (h .numbers .rows)
-    ∷ line planesKey (h .numbers .planes)
-    ∷ line strengthKey (h .numbers .strength)
-    ∷ []
+    (line columnsKey (h .columns)
+    ∷ line rowsKey (h .rows)
+    ∷ line planesKey (h .planes)
+    ∷ line strengthKey (h .strength)
+    ∷ [])
+    ++ windowLines (h .window)
 
 unfoldable pub headerText : Header → List ℕ
 headerText h = linesText (headerLines h)
+
+-- the header of numbers in the order of its lines: those of the window are given where there are more than four
+abbrev pub windowFrom : List ℕ → WindowLines
+windowFrom [] = sides.Absent
+windowFrom (p ∷ ns) = sides.Given (record { rows = p; columns = getD ns 0 0 })
+
+abbrev pub headerFrom : List ℕ → Header
+headerFrom ns =
+    record {
+      columns = getD ns 0 0;
+      rows = getD ns 1 0;
+      planes = getD ns 2 0;
+      strength = getD ns 3 0;
+      window = windowFrom (drop 4 ns);
+    }
 
 -- lower-case hexadecimal, two digits a byte
 unfoldable pub hexDigit : ℕ → ℕ
@@ -129,7 +154,7 @@ rowsText w (suc k) cells = rowText (take w cells) ++ rowsText w k (drop w cells)
 
 -- the rows of a field
 unfoldable pub fieldText : Header → List ℕ → List ℕ
-fieldText h cells = rowsText (h .numbers .columns) (h .numbers .planes * h .numbers .rows) cells
+fieldText h cells = rowsText (h .columns) (h .planes * h .rows) cells
 
 -- a refusal, alone
 unfoldable pub refusalText : ℕ → List ℕ

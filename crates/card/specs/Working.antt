@@ -1,25 +1,46 @@
 -- What the work buffers of the program hold. Only contracts of functions that are private to the crate cite this file; no promise
 -- to a caller rests on it.
 use Prim.Native.Nat.{ℕ, _+_, _<_, _≤_}
+use mathlib.Core.Bool.{cond}
 use mathlib.Core.List.{List, [], _∷_, _++_}
 use mathlib.Core.Path.{_≡_}
 use lib.ListN.{length, take, drop}
 use Rattle.lattice.specs.declared.shape.Shape.{Shape}
 use Rattle.lattice.specs.Refusal.{beside}
 use Rattle.lattice.specs.Shape.{maxSide, maxCells}
+use Rattle.codec.specs.Field.{fieldOf, listOf}
 use Rattle.codec.specs.Encode.{encodeNumber}
 use Rattle.codec.specs.Decode.{decodeNumber}
 use Rattle.card.specs.declared.header.Header.{Header}
 use Rattle.card.specs.declared.header.HeaderAnswer.the-variants as head
-use Rattle.card.specs.Text.{numberLine, headerText, refusalText}
+use Rattle.card.specs.declared.header.WindowAnswer.{WindowAnswer}
+use Rattle.card.specs.declared.header.WindowAnswer.the-variants as found
+use Rattle.card.specs.declared.keys.Lines.{Lines}
+use Rattle.card.specs.Text.{headerKeys, windowKeys, numberLine, windowFrom, headerText, refusalText}
 use Rattle.card.specs.Card.{maxInput, shapeOf, CardHeader}
-use Rattle.card.specs.Parse.{headerOf}
+use Rattle.card.specs.Parse.{LinesRead, read, fault, headerOf}
 use Rattle.card.specs.Program.{blankField, blankPayload, writtenText, readText, outputLeaves}
+
+-- the keys of all first lines, and so many of them from a first one on
+abbrev pub allKeys : List (List ℕ)
+allKeys = headerKeys ++ windowKeys
+
+unfoldable pub keysFrom : ℕ → ℕ → List (List ℕ)
+keysFrom first count = take count (drop first allKeys)
 
 -- keys end to end
 abbrev pub joined : List (List ℕ) → List ℕ
 joined [] = []
 joined (key ∷ keys) = key ++ joined keys
+
+-- what an answer says of so many lines
+unfoldable pub readLines : ℕ → Lines → LinesRead
+readLines count r = cond (r .found) (read (listOf (fieldOf (r .numbers)) count) (r .next)) fault
+
+-- the lines of the window from what is read of them
+abbrev pub windowRead : LinesRead → WindowAnswer
+windowRead (read ns next) = found.Found (windowFrom ns) next
+windowRead fault = found.Fault
 
 -- rows of w digits from `at` are to be stored in a field
 pub record CellsFit (s : List ℕ) (at w : ℕ) (field : List ℕ) : Type 0 where

@@ -52,8 +52,8 @@ pub(crate) fn reply_field(header: Header, classes: usize, cells: &[u8], output: 
     ensures { λ r. ⌜ Answered (headText header classesKey classes ++ fieldText header (now (cells .entry)))
         (now (output .entry)) (now (output .exit)) r ⌝ }
 {
-    let width = header.numbers.columns;
-    let lines = header.numbers.planes * header.numbers.rows;
+    let width = header.columns;
+    let lines = header.planes * header.rows;
     let length = head_length(header, b"classes=", classes) + lines * (width + 5);
     if output.len() < length {
         return length;

@@ -35,7 +35,7 @@ const MAX_INPUT: usize = 65536;
 pub const MAX_READ: usize = 65537;
 
 // The longest answer.
-pub const MAX_ANSWER: usize = 36915;
+pub const MAX_ANSWER: usize = 36946;
 
 // The most cells of a card, and the most bytes of a payload that they hold.
 const MAX_CELLS: usize = 16384;
@@ -144,7 +144,7 @@ fn answer_header(input: &[u8], header: Header, next: usize, output: &mut [u8]) -
     requires { ⌜ HeaderRead (now input) header next ⌝ }
     ensures { λ r. ⌜ Answered (answer (now (input .entry))) (now (output .entry)) (now (output .exit)) r ⌝ }
 {
-    match Shape::new(header.numbers) {
+    match Shape::new(header.shape_numbers()) {
         NewShape::Refused(why) => refuse(why, output),
         NewShape::Accepted(shape) => {
             if shape.cells() > MAX_CELLS {

@@ -23,7 +23,7 @@ use Rattle.codec.specs.Decode.{decodeNumber, decodeCount, decodeLeaves}
 use Rattle.codec.proofs.theory.Accepted.{encode-number}
 use Rattle.card.specs.declared.header.Header.{Header}
 use Rattle.card.specs.Text.{numberLine, headerText, payloadText, fieldText, refusalText, classesKey, mendedKey}
-use Rattle.card.specs.Card.{maxCardCells, maxCardBytes, shapeOf, FieldCells}
+use Rattle.card.specs.Card.{maxCardCells, maxCardBytes, shapeNumbers, shapeOf, FieldCells}
 use Rattle.card.specs.Parse.{rowsOk, cellsOfRows}
 use Rattle.card.specs.Program.{blankField, blankPayload, rowsFit, cellsIn, writtenText, readText}
 use Rattle.card.specs.Working.{CardShape, headText, encodedText, decodedText}
@@ -34,7 +34,7 @@ use Rattle.card.proofs.theory.ProgramParts.{blank-field, blank-payload}
 use Rattle.card.proofs.theory.ProgramTests.{encoded-long}
 
 -- the constructor's answer to a header
-module _ (h : Header) (r : NewShape) (x : IsNewShape (h .numbers) r) where
+module _ (h : Header) (r : NewShape) (x : IsNewShape (shapeNumbers h) r) where
   module _ (s : Shape) (e : r ≡ new.Accepted s) where
     cells-given : (n : ℕ) → n ≡ figure (shapeNumber s) (cellsOf s) → n ≡ cellsOf (shapeOf h)
     cells-given n p =

@@ -1,134 +1,26 @@
 -- What was cut: the term of the theorem.
-use Prim.Native.Nat.{ℕ, zero, suc, _+_, _*_, _<_}
-use mathlib.Core.Bool.{Bool, true, false}
-use mathlib.Core.List.{List, [], _∷_, _++_, append-assoc, append-nil}
+use Prim.Native.Nat.{ℕ, _+_}
+use mathlib.Core.List.{List, [], _++_, append-assoc, append-nil}
 use mathlib.Core.Logic.{_≢_}
-use mathlib.Core.Path.{_≡_, refl, sym, ap, _∙_, subst}
+use mathlib.Core.Path.{_≡_, refl, sym, ap, _∙_}
 use native.Mathlib.Omega.{arith}
-use borrow.Author.Tests.{le-leb}
-use lib.Dec.{leb}
-use lib.ListN.{length, getD, drop, length-append}
-use Rattle.lattice.specs.Shape.{cellsOf}
-use Rattle.lattice.specs.Refusal.{unless}
 use Rattle.codec.specs.Plan.{planClasses}
 use Rattle.codec.specs.Encode.{encodedField}
 use Rattle.codec.specs.Decode.{decodeCount, decodeLeaves}
-use Rattle.codec.proofs.theorems.Writing.{encodeMeaning}
 use Rattle.card.specs.declared.header.Header.{Header}
-use Rattle.card.specs.declared.header.HeaderAnswer.{HeaderAnswer}
-use Rattle.card.specs.declared.header.HeaderAnswer.the-variants as head
-use Rattle.card.specs.Text.{numberLine, headerText, payloadText, rowText, rowsText, fieldText, refusalText, classesKey}
-use Rattle.card.specs.Text.{mendedKey, refusalKey}
-use Rattle.card.specs.Card.{maxInput, maxCardCells, shapeOf, CardHeader}
-use Rattle.card.specs.Parse.{headerOf}
-use Rattle.card.specs.Program.{bodyOk, numberAfter, programNumber, writtenText, readText, answer, blankPayload}
-use Rattle.card.specs.Form.{HeaderFirst, Body, CardText, OneOfThree}
+use Rattle.card.specs.Text.{numberLine, headerText, payloadText, fieldText, refusalText, classesKey, mendedKey, refusalKey}
+use Rattle.card.specs.Card.{shapeOf, CardHeader}
+use Rattle.card.specs.Program.{programNumber, writtenText, readText, answer, blankPayload}
+use Rattle.card.specs.Form.{OneOfThree}
 use Rattle.card.specs.theorems.Cut.{CutIsRefused}
-use Rattle.card.proofs.theory.CardLimits.{card-small, rows-some}
-use Rattle.card.proofs.theory.HeaderRest.{header-same, header-found, ReadFrom}
-use Rattle.card.proofs.theory.BodyText.{ok-body}
-use Rattle.card.proofs.theory.FieldText.{length-field}
 use Rattle.card.proofs.theory.Feeds.{after-line, after-payload}
+use Rattle.card.proofs.theory.AnswerLength.{writtenLength, written-length}
+use Rattle.card.proofs.theory.FirstByte.{first}
+use Rattle.card.proofs.theory.WindowText.{other-byte}
+use Rattle.card.proofs.theory.HeaderRest.{header-same}
+use Rattle.card.proofs.theory.CardLimits.{card-small}
+use Rattle.card.proofs.theory.CutInput.{nothing-cut, cut-card, cut-refused}
 use Rattle.card.proofs.theorems.Outputs.{outputForms}
-
--- texts of one length: nothing was cut
-empty-length : (l : List ℕ) → length l ≡ 0 → l ≡ []
-empty-length [] e = refl
-empty-length (x ∷ l) e = absurd (omega (arith, e))
-
-nothing-cut : (a b cut : List ℕ) → a ≡ b ++ cut → length a ≡ length b → cut ≡ []
-nothing-cut a b cut e long = empty-length cut (omega (arith, long, ap length e, length-append b cut))
-
--- the first byte of a text
-abbrev first : List ℕ → ℕ
-first l = getD l 0 0
-
-first-payload : (p x : List ℕ) → first (payloadText p ++ x) ≡ 112
-unfolding payloadText
-first-payload p x = refl
-
-first-rows : (h : Header) (cells x : List ℕ) → 0 < h .numbers .planes * h .numbers .rows → first (fieldText h cells ++ x) ≡ 114
-unfolding fieldText rowText
-first-rows h cells x some = go (h .numbers .planes * h .numbers .rows) some
-  where
-    go : (k : ℕ) → 0 < k → first (rowsText (h .numbers .columns) k cells ++ x) ≡ 114
-    go zero none = absurd (omega (arith, none))
-    go (suc k) l = refl
-
--- what follows a card's header cannot be cut
-bodies : (h : Header) → CardHeader h → (r cut : List ℕ) → Body h (r ++ cut) → Body h r → cut ≡ []
-bodies h card r cut (Body.payload p _ e) (Body.payload q _ f) =
-    sym (after-payload p q [] cut (append-nil (payloadText p) ∙ sym e ∙ ap (λ (l : List ℕ). l ++ cut) f))
-bodies h card r cut (Body.rows a x e) (Body.rows b y f) =
-    nothing-cut (fieldText h a) (fieldText h b) cut (sym e ∙ ap (λ (l : List ℕ). l ++ cut) f)
-    (length-field h a (x .long) ∙ sym (length-field h b (y .long)))
-bodies h card r cut (Body.payload p _ e) (Body.rows b y f) =
-    let same = ap first (append-nil (payloadText p) ∙ sym e ∙ ap (λ (l : List ℕ). l ++ cut) f) in
-    absurd (omega (arith, same, first-payload p [], first-rows h b cut (rows-some h card)))
-bodies h card r cut (Body.rows a x e) (Body.payload q _ f) =
-    let same = ap first (append-nil (fieldText h a) ∙ sym e ∙ ap (λ (l : List ℕ). l ++ cut) f) in
-    absurd (omega (arith, same, first-payload q cut, first-rows h a [] (rows-some h card)))
-
--- a text that begins as a card text does has its header
-same-first : (s cut : List ℕ) (whole : HeaderFirst (s ++ cut)) (part : HeaderFirst s)
-    → (whole .header ≡ part .header) × (whole .rest ≡ part .rest ++ cut)
-same-first s cut whole part =
-    header-same (whole .header) (part .header) (whole .rest) (part .rest ++ cut)
-    (sym (whole .text) ∙ ap (λ (l : List ℕ). l ++ cut) (part .text) ∙ append-assoc (headerText (part .header)) (part .rest) cut)
-    (whole .small) (part .small)
-
-cut-card : (s cut : List ℕ) → cut ≢ [] → CardText (s ++ cut) → ¬ CardText s
-cut-card s cut other whole part =
-    let same = same-first s cut (whole .first) (part .first) in
-    other
-    (bodies (part .first .header) (part .card) (part .first .rest) cut
-    (subst (λ (l : List ℕ). Body (part .first .header) l) (same .1)
-    (subst (λ (h : Header). Body h (whole .first .rest)) (same .0) (whole .body)))
-    (part .body))
-
--- an input that is a part of a card text and has a header: it is the card's, and what follows it is of no form
-module _ (s cut : List ℕ) (other : cut ≢ []) (whole : CardText (s ++ cut)) (h : Header) (next : ℕ)
-    (found : headerOf s ≡ head.Found h next) where
-  read : ReadFrom s h next
-  read = header-found s h next found
-
-  start : HeaderFirst s
-  start = record { header = h; rest = drop next s; small = read .small; text = read .text }
-
-  card : CardHeader h
-  unfolding start
-  card = subst (λ (k : Header). CardHeader k) (same-first s cut (whole .first) start .0) (whole .card)
-
-  formless : (b : Bool) → bodyOk s h next ≡ b → bodyOk s h next ≡ false
-  unfolding start
-  formless true e =
-      absurd
-      (cut-card s cut other whole
-      (record {
-        first = start;
-        card = card;
-        body =
-            ok-body (headerText h) h (drop next s)
-            (ap (λ (l : List ℕ). bodyOk l h (length (headerText h))) (sym (read .text))
-            ∙ ap (bodyOk s h) (sym (read .next-line))
-            ∙ e);
-      }))
-  formless false e = e
-
-  after-header : numberAfter s (head.Found h next) ≡ 8
-  unfolding numberAfter
-  after-header =
-      rw (card .accepted, le-leb (cellsOf (shapeOf h)) maxCardCells (card .cells), formless (bodyOk s h next) refl)
-
--- so it is refused with 8
-cut-refused : (s cut : List ℕ) → cut ≢ [] → CardText (s ++ cut) → programNumber s ≡ 8
-unfolding programNumber numberAfter
-cut-refused s cut other whole = go (leb (length s) maxInput) (headerOf s) refl
-  where
-    go : (b : Bool) (a : HeaderAnswer) → headerOf s ≡ a → unless b 8 (numberAfter s a) ≡ 8
-    go false a e = refl
-    go true head.Fault e = refl
-    go true (head.Found h next) e = after-header s cut other whole h next e
 
 -- the parts of an answer behind its header
 abbrev count : Header → List ℕ → ℕ
@@ -143,24 +35,19 @@ classesLine h = numberLine classesKey (planClasses (shapeOf h))
 abbrev rows : Header → List ℕ → List ℕ
 rows h p = fieldText h (encodedField (shapeOf h) p)
 
--- the length of the text of a field written, by its header alone
-abbrev writtenLength : Header → ℕ
-writtenLength h =
-    length (headerText h) + (length (classesLine h) + h .numbers .planes * h .numbers .rows * (h .numbers .columns + 5))
-
-written-long : (h : Header) (p : List ℕ) → length (writtenText h p) ≡ writtenLength h
-unfolding writtenText
-written-long h p =
-    length-append (headerText h) (classesLine h ++ rows h p)
-    ∙ ap (λ (n : ℕ). length (headerText h) + n) (length-append (classesLine h) (rows h p)
-    ∙ ap (λ (n : ℕ). length (classesLine h) + n)
-    (length-field h (encodedField (shapeOf h) p) (encodeMeaning .long (shapeOf h) p)))
-
 -- headers with what follows them, one of them cut
-heads : (h k : Header) → CardHeader h → CardHeader k → (x y cut : List ℕ)
+heads : (h k : Header) → CardHeader h → CardHeader k → (x y cut : List ℕ) → first x ≢ 119 → first (y ++ cut) ≢ 119
     → headerText k ++ x ≡ (headerText h ++ y) ++ cut → (k ≡ h) × (x ≡ y ++ cut)
-heads h k ch ck x y cut e =
-    header-same k h x (y ++ cut) (e ∙ append-assoc (headerText h) y cut) (card-small k ck) (card-small h ch)
+heads h k ch ck x y cut p q e =
+    header-same (headerText k ++ x)
+    (record { header = k; rest = x; small = card-small k ck; text = refl; whole = λ _. other-byte x p })
+    (record {
+      header = h;
+      rest = y ++ cut;
+      small = card-small h ch;
+      text = e ∙ append-assoc (headerText h) y cut;
+      whole = λ _. other-byte (y ++ cut) q;
+    })
 
 first-header : (h : Header) (x : List ℕ) → first (headerText h ++ x) ≡ 99
 unfolding headerText numberLine
@@ -176,19 +63,21 @@ first-line n x = (refl, refl, refl)
 -- answers with a header, one of them cut: of one form, and of two
 module _ (h k : Header) (ch : CardHeader h) (ck : CardHeader k) (cut : List ℕ) where
   cut-written : (p q : List ℕ) → writtenText k q ≡ writtenText h p ++ cut → cut ≡ []
-  unfolding writtenText
+  unfolding writtenText numberLine
   cut-written p q e =
-      let same = heads h k ch ck (classesLine k ++ rows k q) (classesLine h ++ rows h p) cut e .0 in
+      let x = classesLine k ++ rows k q in
+      let y = classesLine h ++ rows h p in
+      let same = heads h k ch ck x y cut (λ z. omega arith) (λ z. omega arith) e .0 in
       nothing-cut (writtenText k q) (writtenText h p) cut e
-      (written-long k q ∙ ap writtenLength same ∙ sym (written-long h p))
+      (written-length k q ∙ ap writtenLength same ∙ sym (written-length h p))
 
   cut-read : (a b : List ℕ) → readText k b ≡ readText h a ++ cut → cut ≡ []
-  unfolding readText
+  unfolding readText numberLine
   cut-read a b e =
       let x = numberLine mendedKey (count k b) ++ payloadText (held k b) in
       let y = numberLine mendedKey (count h a) ++ payloadText (held h a) in
       let lines =
-      heads h k ch ck x y cut e .1
+      heads h k ch ck x y cut (λ z. omega arith) (λ z. omega arith) e .1
       ∙ append-assoc (numberLine mendedKey (count h a)) (payloadText (held h a)) cut in
       let payloads =
       after-line mendedKey refl (count k b) (count h a) (payloadText (held k b)) (payloadText (held h a) ++ cut)
@@ -196,10 +85,12 @@ module _ (h k : Header) (ch : CardHeader h) (ck : CardHeader k) (cut : List ℕ)
       sym (after-payload (held k b) (held h a) [] cut (append-nil (payloadText (held k b)) ∙ payloads))
 
   read-written : (p b : List ℕ) → readText k b ≢ writtenText h p ++ cut
-  unfolding writtenText readText
+  unfolding writtenText readText numberLine
   read-written p b e =
       let x = numberLine mendedKey (count k b) ++ payloadText (held k b) in
-      let lines = heads h k ch ck x (classesLine h ++ rows h p) cut e .1 ∙ append-assoc (classesLine h) (rows h p) cut in
+      let lines =
+      heads h k ch ck x (classesLine h ++ rows h p) cut (λ z. omega arith) (λ z. omega arith) e .1
+      ∙ append-assoc (classesLine h) (rows h p) cut in
       omega (
         arith,
         ap first lines,
@@ -208,10 +99,11 @@ module _ (h k : Header) (ch : CardHeader h) (ck : CardHeader k) (cut : List ℕ)
       )
 
   written-read : (q a : List ℕ) → writtenText k q ≢ readText h a ++ cut
-  unfolding writtenText readText
+  unfolding writtenText readText numberLine
   written-read q a e =
       let y = numberLine mendedKey (count h a) ++ payloadText (held h a) in
-      let lines = heads h k ch ck (classesLine k ++ rows k q) y cut e .1
+      let lines =
+      heads h k ch ck (classesLine k ++ rows k q) y cut (λ z. omega arith) (λ z. omega arith) e .1
       ∙ append-assoc (numberLine mendedKey (count h a)) (payloadText (held h a)) cut in
       omega (
         arith,
@@ -265,7 +157,7 @@ cut-answer s t cut (OneOfThree.refused _ b) (OneOfThree.read k d ck _ _ _ a) e =
     let alike = begin-alike (readText k d) (refusalText (programNumber s)) cut (sym a ∙ e ∙ ap (λ (l : List ℕ). l ++ cut) b) in
     absurd (omega (arith, alike, first-read k d [], first-refusal (programNumber s) cut))
 
--- Theorem. A card text whose end was cut off is refused with 8, and an answer whose end was cut off is no answer.
+-- Theorem. A card text whose end was cut off is refused, and an answer whose end was cut off is no answer.
 pub cutIsRefused : CutIsRefused
 cutIsRefused =
     record {

@@ -2,9 +2,10 @@
 use mathlib.Core.Path.{refl}
 use Rattle.codec.proofs.theorems.Recovery.{recovery}
 use Rattle.codec.proofs.theorems.Erasures.{refill}
+use Rattle.codec.proofs.theorems.Windows.{windowRecovery, windowRefill}
 use Rattle.card.specs.Card.{shapeOf}
 use Rattle.card.specs.Program.{blankPayload}
-use Rattle.card.specs.theorems.RoundTrip.{PrintedIsRead, ErasedIsRead}
+use Rattle.card.specs.theorems.RoundTrip.{PrintedIsRead, ErasedIsRead, WindowIsRead}
 use Rattle.card.proofs.theory.ProgramParts.{blank-payload}
 use Rattle.card.proofs.theory.PrintedRows.{read-recovered, read-back}
 
@@ -26,3 +27,18 @@ erasedIsRead h card p long bytes S T s-cluster s-small t-cluster t-small selecte
     refill (shapeOf h) (card .accepted) p long bytes S T s-cluster s-small t-cluster t-small selected inside (blankPayload h)
     (blank-payload h) in
     read-recovered h card p _ _ _ (back .0) (back .1)
+
+-- Theorem. So it is by window, with cells inside one window turned over or inside two printed as 2.
+pub windowIsRead : WindowIsRead
+windowIsRead =
+    record {
+      damaged = λ h card z p long bytes r c selected inside.
+          read-recovered h card p _ _ _
+          (windowRecovery (shapeOf h) (card .accepted) z p long bytes r c selected inside (blankPayload h) (blank-payload h))
+          refl;
+      erased = λ h card z p long bytes r c u v selected inside.
+          let back =
+          windowRefill (shapeOf h) (card .accepted) z p long bytes r c u v selected inside (blankPayload h)
+          (blank-payload h) in
+          read-recovered h card p _ _ _ (back .0) (back .1);
+    }

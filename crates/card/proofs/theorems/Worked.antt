@@ -8,11 +8,11 @@ use borrow.Author.Tests.{lt-leb, le-leb, ne-eqb}
 use lib.Dec.{lit≤, eqb}
 use lib.ListN.{length}
 use Rattle.lattice.specs.declared.shape.Shape.{Shape}
-use Rattle.lattice.specs.Shape.{maxStrength, sizeOk, strengthOk, shapeNumber, Accepted, cellsOf}
+use Rattle.lattice.specs.Shape.{isNone, maxStrength, sizeOk, strengthOk, windowOk, shapeNumber, Accepted, cellsOf}
 use Rattle.lattice.specs.Range.{inRange}
 use Rattle.lattice.specs.Settings.{oddSettings, evenSettings, flatSettings, stackTable, stackSettings, settingsFor}
 use Rattle.lattice.specs.Cell.{cellAt}
-use Rattle.lattice.specs.Class.{minusMod, classWith, classesOf, classOf, layoutOf}
+use Rattle.lattice.specs.Class.{minusMod, classWith, windowClass, classesOf, classOf, layoutOf}
 use Rattle.lattice.specs.Position.{sizeTo, position}
 use Rattle.lattice.specs.Check.{isPower, isCheck, checks, holdsData, capacity}
 use Rattle.lattice.specs.Counting.{count}
@@ -27,8 +27,8 @@ use Rattle.codec.specs.Decode.{fieldNumber, correctedCount, decodeNumber, decod
 use Rattle.codec.proofs.theorems.Plan.{planMeaning}
 use Rattle.card.specs.Text.{ascii, digitCount, decimal, numberLine, headerText, hexDigit, payloadText, cellsText, rowText}
 use Rattle.card.specs.Text.{fieldText, refusalText}
-use Rattle.card.specs.Parse.{keyAt, numberEnds, numberAt, lineAt, headerOf, isHex, hexValue, payloadOk, payloadOf}
-use Rattle.card.specs.Parse.{isCellDigit, rowOk, rowsOk, cellsOfRows}
+use Rattle.card.specs.Parse.{keyAt, numberEnds, numberAt, lineAt, optionalAt, headerOf, isHex, hexValue, payloadOk}
+use Rattle.card.specs.Parse.{payloadOf, isCellDigit, rowOk, rowsOk, cellsOfRows}
 use Rattle.card.specs.Program.{bodyOk, operationNumber, numberAfter, programNumber, writtenText, readText, successText}
 use Rattle.card.specs.Program.{answer, blankField}
 use Rattle.card.specs.Card.{maxInput, shapeOf}
@@ -65,19 +65,19 @@ full = ascii "columns=128\nrows=128\nplanes=1\nstrength=3\npayload=\n"
 full-number : programNumber full ≡ encodeNumber (shapeOf (flat 128 128)) [] (blankField (flat 128 128))
 unfolding
     full
-    inRange maxStrength sizeOk strengthOk shapeNumber
-    keyAt numberEnds numberAt lineAt headerOf isHex hexValue payloadOk payloadOf
+    inRange maxStrength sizeOk strengthOk windowOk isNone shapeNumber
+    keyAt numberEnds numberAt lineAt optionalAt headerOf isHex hexValue payloadOk payloadOf
     bodyOk operationNumber numberAfter programNumber
 full-number = refl
 
 first-cells : 8 ≤ count (holdsData (layoutOf (shapeOf (flat 128 128)))) 32
 unfolding
-    oddSettings evenSettings flatSettings settingsFor cellAt minusMod classWith classesOf classOf
+    oddSettings evenSettings flatSettings settingsFor cellAt minusMod classWith windowClass classesOf classOf
     sizeTo position isPower isCheck holdsData
 first-cells = lit≤ tt
 
 full-accepted : Accepted (shapeOf (flat 128 128))
-unfolding inRange maxStrength sizeOk strengthOk shapeNumber
+unfolding inRange maxStrength sizeOk strengthOk windowOk isNone shapeNumber
 full-accepted = refl
 
 full-three : programNumber full ≡ 3
@@ -93,8 +93,9 @@ cells-taken = answer-refused full (λ e. omega (arith, e, full-three)) ∙ ap re
 -- Theorem. The examples hold.
 pub programExamples : ProgramExamples
 unfolding
-    inRange maxStrength sizeOk strengthOk shapeNumber
-    oddSettings evenSettings flatSettings stackTable stackSettings settingsFor cellAt minusMod classWith classesOf classOf
+    inRange maxStrength sizeOk strengthOk windowOk isNone shapeNumber
+    oddSettings evenSettings flatSettings stackTable stackSettings settingsFor cellAt minusMod classWith windowClass
+    classesOf classOf
     sizeTo position isPower isCheck checks holdsData capacity
     isCell isReceived cellsOk having differences tagsOf flipped
     erasuresTo fewErasures erasedSum filled corrected inReach allInReach
@@ -103,12 +104,14 @@ unfolding
     encodeNumber encodedField
     fieldNumber correctedCount decodeNumber decodeCount decodeLeaves
     digitCount decimal numberLine headerText hexDigit payloadText cellsText rowText fieldText refusalText
-    keyAt numberEnds numberAt lineAt headerOf isHex hexValue payloadOk payloadOf isCellDigit rowOk rowsOk cellsOfRows
+    keyAt numberEnds numberAt lineAt optionalAt headerOf isHex hexValue payloadOk payloadOf isCellDigit rowOk rowsOk cellsOfRows
     bodyOk operationNumber numberAfter programNumber writtenText readText successText answer
 programExamples =
     record {
       written = refl;
       read = refl;
+      window-written = refl;
+      window-read = refl;
       input = refl;
       cells = refl;
       too-long = too-long;
@@ -119,6 +122,7 @@ programExamples =
       cells-taken = cells-taken;
       cells-refused = refl;
       strength-first = refl;
+      window-first = refl;
       decimal-digits = (refl, refl);
       hex-digits = refl;
     }

@@ -12,7 +12,7 @@ use Rattle.card.specs.Form.{Body}
 use Rattle.card.proofs.theory.PayloadText.{payload-back, payload-key, payload-text}
 use Rattle.card.proofs.theory.FieldText.{field-back, field-key, field-text}
 
-pub body-ok : (before : List ℕ) (h : Header) (rest : List ℕ) → 0 < h .numbers .planes * h .numbers .rows → Body h rest
+pub body-ok : (before : List ℕ) (h : Header) (rest : List ℕ) → 0 < h .planes * h .rows → Body h rest
     → bodyOk (before ++ rest) h (length before) ≡ true
 unfolding bodyOk
 body-ok before h rest some (Body.payload p bytes e) =

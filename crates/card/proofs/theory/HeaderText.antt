@@ -1,12 +1,13 @@
--- The first lines of a card text: their length, and the header of their numbers.
-use Prim.Native.Nat.{ℕ, _≤_}
-use mathlib.Core.List.{List, [], _∷_}
-use mathlib.Core.Path.{_≡_, refl}
+-- The first lines of a card text: their length.
+use Prim.Native.Nat.{_+_, _≤_}
+use mathlib.Core.Path.{_≡_}
 use native.Mathlib.Omega.{arith}
 use lib.ListN.{length}
 use Rattle.card.specs.declared.header.Header.{Header}
-use Rattle.card.specs.Text.{headerKeys, headerNumbers, headerFrom, headerLines, headerText}
-use Rattle.card.proofs.theory.LinesText.{linesLength, length-lines, linesMost, lines-most}
+use Rattle.card.specs.Text.{headerKeys, windowKeys, headerLines, headerText}
+use Rattle.card.proofs.theory.DecimalText.{digit-count-range}
+use Rattle.card.proofs.theory.LinesText.{linesLength, length-lines, linesMost}
+use Rattle.card.proofs.theory.WindowText.{window-lines-most}
 
 -- the length of the header, by the widths of its numbers
 pub length-header : (h : Header) → length (headerText h) ≡ linesLength (headerLines h)
@@ -14,14 +15,14 @@ unfolding headerText
 length-header h = length-lines (headerLines h)
 
 -- the most that it takes
-pub header-most : (h : Header) → length (headerText h) ≤ linesMost headerKeys
-header-most h = rw (length-header h) (lines-most (headerLines h))
-
--- the numbers of the header of as many numbers as there are keys
-pub numbers-from : (ns : List ℕ) → length ns ≡ length headerKeys → headerNumbers (headerFrom ns) ≡ ns
-numbers-from [] e = absurd (omega arith)
-numbers-from (a ∷ []) e = absurd (omega arith)
-numbers-from (a ∷ b ∷ []) e = absurd (omega arith)
-numbers-from (a ∷ b ∷ c ∷ []) e = absurd (omega arith)
-numbers-from (a ∷ b ∷ c ∷ d ∷ []) e = refl
-numbers-from (a ∷ b ∷ c ∷ d ∷ f ∷ ns) e = absurd (omega arith)
+pub header-most : (h : Header) → length (headerText h) ≤ linesMost headerKeys + linesMost windowKeys
+header-most h =
+    omega (
+      arith,
+      length-header h,
+      digit-count-range (h .columns),
+      digit-count-range (h .rows),
+      digit-count-range (h .planes),
+      digit-count-range (h .strength),
+      window-lines-most (h .window),
+    )

@@ -49,8 +49,21 @@ lines-append (l ∷ a) b =
     ap (λ (t : List ℕ). numberLine (l .key) (l .number) ++ t) (lines-append a b)
     ∙ sym (append-assoc (numberLine (l .key) (l .number)) (linesText a) (linesText b))
 
+-- lines put end to end have few digits each where both parts have
+pub few-first : (a b : List NumberLine) → FewDigitsEach (a ++ b) → FewDigitsEach a
+few-first [] b p = tt
+few-first (l ∷ a) b p = (p .0, few-first a b (p .1))
+
+pub few-rest : (a b : List NumberLine) → FewDigitsEach (a ++ b) → FewDigitsEach b
+few-rest [] b p = p
+few-rest (l ∷ a) b p = few-rest a b (p .1)
+
+pub few-both : (a b : List NumberLine) → FewDigitsEach a → FewDigitsEach b → FewDigitsEach (a ++ b)
+few-both [] b p q = q
+few-both (l ∷ a) b p q = (p .0, few-both a b (p .1) q)
+
 -- what a text goes on with stands there
-drop-stands : (text s rest : List ℕ) (at : ℕ) → drop at s ≡ text ++ rest → StandsAt text s at
+pub drop-stands : (text s rest : List ℕ) (at : ℕ) → drop at s ≡ text ++ rest → StandsAt text s at
 drop-stands text s rest at e j l =
     sym (getD-drop at s j 0) ∙ ap (λ (t : List ℕ). getD t j 0) e ∙ List·getD-append text rest 0 j l
 

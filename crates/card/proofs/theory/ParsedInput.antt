@@ -28,7 +28,7 @@ module _ (s : List ℕ) (h : Header) (next : ℕ) (found : headerOf s ≡ head.F
   unfoldable pub first : HeaderFirst s
   first =
       let r = header-found s h next found in
-      record { header = h; rest = drop next s; small = r .small; text = r .text }
+      record { header = h; rest = drop next s; small = r .small; text = r .text; whole = r .whole }
 
   -- no other header's text starts it
   pub same-header : (x : HeaderFirst s) → x .header ≡ h

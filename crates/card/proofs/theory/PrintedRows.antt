@@ -47,7 +47,7 @@ written-cells h card p long bytes =
 
 module _ (h : Header) (card : CardHeader h) where
   -- a payload's card is answered with the field written
-  printed : (p : List ℕ) → length p ≡ planBytes (shapeOf h) → Bytes p → answer (payloadCard h p) ≡ writtenText h p
+  pub printed : (p : List ℕ) → length p ≡ planBytes (shapeOf h) → Bytes p → answer (payloadCard h p) ≡ writtenText h p
   printed p long bytes =
       let s = payloadCard h p in
       let next = length (headerText h) in

@@ -8,7 +8,7 @@ use lib.ListN.{length, length-append}
 use borrow.Author.Tests.{le-leb, lt-leb}
 use Rattle.codec.specs.Field.{fieldOf, Received}
 use Rattle.card.specs.declared.header.Header.{Header}
-use Rattle.card.specs.Text.{headerKeys, numberLine, headerText}
+use Rattle.card.specs.Text.{headerKeys, windowKeys, numberLine, headerText}
 use Rattle.card.specs.Card.{FieldCells, CardHeader}
 use Rattle.card.specs.Program.{outputLeaves}
 use Rattle.card.specs.Working.{HasRoom, Printed, Answered, headText}
@@ -72,7 +72,8 @@ length-head h key n = length-append (headerText h) (numberLine key n)
 
 -- the head is short
 module _ (h : Header) where
-  pub head-most : (key : List ℕ) (n : ℕ) → length (headText h key n) ≤ linesMost headerKeys + (length key + 6)
+  pub head-most : (key : List ℕ) (n : ℕ)
+      → length (headText h key n) ≤ linesMost headerKeys + linesMost windowKeys + (length key + 6)
   head-most key n = omega (arith, length-head h key n, header-most h, length-line key n, digit-count-range n)
 
 -- a success: the head and the rest
@@ -90,14 +91,14 @@ module _ (h : Header) (key : List ℕ) (n : ℕ) (rest : List ℕ) where
 
 -- the rows of a field
 module _ (h : Header) (cells : List ℕ) (f : FieldCells h cells) where
-  pub field-long : length cells ≡ h .numbers .planes * h .numbers .rows * h .numbers .columns
+  pub field-long : length cells ≡ h .planes * h .rows * h .columns
   field-long = f .long ∙ omega arith
 
   pub field-each : Received (fieldOf cells) (length cells)
   field-each = rw (f .long) (f .each)
 
 -- its length fits
-pub rows-far : (h : Header) → CardHeader h → h .numbers .planes * h .numbers .rows * (h .numbers .columns + 5) ≤ 1069056
+pub rows-far : (h : Header) → CardHeader h → h .planes * h .rows * (h .columns + 5) ≤ 1069056
 rows-far h card =
-    let wide : h .numbers .columns + 5 ≤ 261 = omega (arith, limits h card .width-high) in
+    let wide : h .columns + 5 ≤ 261 = omega (arith, limits h card .width-high) in
     mul-le-mul (rows-most h card) wide

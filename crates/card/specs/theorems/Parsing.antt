@@ -9,11 +9,12 @@ use Rattle.codec.specs.Payload.{Bytes}
 use Rattle.codec.specs.Plan.{planBytes}
 use Rattle.card.specs.declared.header.Header.{Header}
 use Rattle.card.specs.declared.header.HeaderAnswer.the-variants as head
+use Rattle.card.specs.declared.header.WindowLines.the-variants as sides
 use Rattle.card.specs.Text.{headerText, payloadText, fieldText}
 use Rattle.card.specs.Card.{maxInput, shapeOf, CardHeader, FieldCells, payloadCard, fieldCard, FewDigits}
 use Rattle.card.specs.Parse.{headerOf, payloadOk, payloadOf}
 use Rattle.card.specs.Program.{isPayload, rowsFit, cellsIn}
-use Rattle.card.specs.Form.{HeaderFirst}
+use Rattle.card.specs.Form.{NoWindowLine, HeaderFirst}
 
 -- Theorem. For every card's header, every payload of the plan's length and every field of cells and erasures: its text has fewer
 -- than 65,536 bytes and parses back to it.
@@ -38,10 +39,13 @@ pub record TextParses : Type 0 where
       × (cellsIn (fieldCard h cells) h (length (headerText h)) ≡ cells)
 
 -- Theorem. Where a header is found, and a payload or rows of the right form behind it, the input is exactly the text of what is
--- read from it.
+-- read from it; and no line of a window follows a header that is read without its lines.
 pub record ParsedIsText : Type 0 where
   pub header : (s : List ℕ) (h : Header) (next : ℕ) → headerOf s ≡ head.Found h next
-      → FewDigits h × (next ≡ length (headerText h)) × (s ≡ headerText h ++ drop next s)
+      → FewDigits h
+      × (next ≡ length (headerText h))
+      × (s ≡ headerText h ++ drop next s)
+      × (h .window ≡ sides.Absent → NoWindowLine (drop next s))
   pub payload : (s : List ℕ) (h : Header) (next : ℕ) → headerOf s ≡ head.Found h next → payloadOk s next ≡ true
       → Bytes (payloadOf s next) × (s ≡ payloadCard h (payloadOf s next))
   pub rows : (s : List ℕ) (h : Header) (next : ℕ) → headerOf s ≡ head.Found h next → rowsFit s h next ≡ true

@@ -4,10 +4,12 @@ use mathlib.Core.Bool.{Bool, true}
 use mathlib.Core.List.{List, _++_}
 use mathlib.Core.Logic.{_⊎_}
 use mathlib.Core.Path.{_≡_}
+use lib.IntN.{ℤ}
 use lib.ListN.{length}
 use Rattle.lattice.specs.Shape.{cellsOf}
 use Rattle.lattice.specs.Cell.{Cell}
 use Rattle.lattice.specs.Cluster.{Cluster, AtMost}
+use Rattle.lattice.specs.Window.{InWindow}
 use Rattle.codec.specs.Field.{fieldOf, differences}
 use Rattle.codec.specs.Payload.{Bytes}
 use Rattle.codec.specs.Plan.{planClasses, planBytes}
@@ -15,7 +17,7 @@ use Rattle.codec.specs.Encode.{encodedField}
 use Rattle.codec.specs.Damage.{damagedField, erasedField, selectedCells}
 use Rattle.card.specs.declared.header.Header.{Header}
 use Rattle.card.specs.Text.{headerText, numberLine, payloadText, classesKey, mendedKey}
-use Rattle.card.specs.Card.{shapeOf, CardHeader, payloadCard, fieldCard}
+use Rattle.card.specs.Card.{windowOf, shapeOf, CardHeader, payloadCard, fieldCard}
 use Rattle.card.specs.Program.{answer}
 
 -- what is printed for a payload is the header, the line `classes` and a rest; with that line taken out it is the card text of the
@@ -31,7 +33,7 @@ pub record ReadBack (h : Header) (p : List ℕ) : Type 0 where
 pub record PrintedIsRead : Type 1 where
   pub whole : (h : Header) → CardHeader h → (p : List ℕ) → length p ≡ planBytes (shapeOf h) → Bytes p → ReadBack h p
   pub damaged : (h : Header) → CardHeader h → (p : List ℕ) → length p ≡ planBytes (shapeOf h) → Bytes p
-      → (S : Cell → Type 0) → Cluster (shapeOf h) S → AtMost (h .numbers .strength) S
+      → (S : Cell → Type 0) → Cluster (shapeOf h) S → AtMost (h .strength) S
       → (selected : Cell → Bool) → ((x : Cell) → selected x ≡ true → S x)
       → answer (fieldCard h (damagedField (shapeOf h) p selected))
       ≡ headerText h
@@ -44,8 +46,24 @@ pub record PrintedIsRead : Type 1 where
 abbrev pub ErasedIsRead : Type 1
 ErasedIsRead =
     (h : Header) → CardHeader h → (p : List ℕ) → length p ≡ planBytes (shapeOf h) → Bytes p
-    → (S T : Cell → Type 0) → Cluster (shapeOf h) S → AtMost (h .numbers .strength) S
-    → Cluster (shapeOf h) T → AtMost (h .numbers .strength) T
+    → (S T : Cell → Type 0) → Cluster (shapeOf h) S → AtMost (h .strength) S
+    → Cluster (shapeOf h) T → AtMost (h .strength) T
     → (selected : Cell → Bool) → ((x : Cell) → selected x ≡ true → S x ⊎ T x)
     → answer (fieldCard h (erasedField (shapeOf h) p selected))
     ≡ headerText h ++ (numberLine mendedKey (selectedCells (shapeOf h) selected) ++ payloadText p)
+
+-- Theorem. By window it is read back with any cells inside one window turned over in the rows, and with any cells inside two
+-- windows printed as 2; each may hang over any edge.
+pub record WindowIsRead : Type 0 where
+  pub damaged : (h : Header) → CardHeader h → h .strength ≡ 0 → (p : List ℕ) → length p ≡ planBytes (shapeOf h) → Bytes p
+      → (r c : ℤ) (selected : Cell → Bool) → ((x : Cell) → selected x ≡ true → InWindow (windowOf (h .window)) r c x)
+      → answer (fieldCard h (damagedField (shapeOf h) p selected))
+      ≡ headerText h
+      ++ (numberLine mendedKey
+      (differences (fieldOf (encodedField (shapeOf h) p)) (fieldOf (damagedField (shapeOf h) p selected)) (cellsOf (shapeOf h)))
+      ++ payloadText p)
+  pub erased : (h : Header) → CardHeader h → h .strength ≡ 0 → (p : List ℕ) → length p ≡ planBytes (shapeOf h) → Bytes p
+      → (r c u v : ℤ) (selected : Cell → Bool)
+      → ((x : Cell) → selected x ≡ true → InWindow (windowOf (h .window)) r c x ⊎ InWindow (windowOf (h .window)) u v x)
+      → answer (fieldCard h (erasedField (shapeOf h) p selected))
+      ≡ headerText h ++ (numberLine mendedKey (selectedCells (shapeOf h) selected) ++ payloadText p)

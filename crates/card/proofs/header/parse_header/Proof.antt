@@ -1,87 +1,64 @@
--- `parse_header` meets its contract: before each line, those before it have been read.
+-- `parse_header` meets its contract: the lines that every header has are read, and behind them those of the window.
 use borrow.Author.Needs.{needs}
-use Prim.Native.Nat.{_-_}
-use mathlib.Core.Path.{refl, sym, ap, _∙_}
-use native.Mathlib.Omega.{arith}
-use lib.ListN.{length}
-use Rattle.card.specs.declared.header.Header.{Header}
-use Rattle.card.specs.declared.header.HeaderAnswer.the-variants as head
-use Rattle.card.specs.Text.{headerKeys}
-use Rattle.card.specs.Parse.{headerRead, headerOf}
-use Rattle.card.proofs.header.Lines.{Reading, reading-none, reading-more, reading-fault, reading-all}
+use borrow.Author.Tests.{not-true, not-false}
+use Rattle.card.proofs.header.Parts.{lines-fault, lines-inside, header-fault, header-made}
 use Rattle.card.proofs.header.parse_header.Statement.{statement}
 use Rattle.card.proofs.header.parse_header.Tie as tie
 
-abbrev Inv-loop : tie.InvT-loop
-Inv-loop text numbers₀ next₀ k₀ numbers next k = Reading headerKeys text numbers next k
+lines-at-requires : tie.Need-lines-at-requires
+lines-at-requires c κs = search needs
 
-abbrev μ-loop : tie.MeasureT-loop
-μ-loop text numbers₀ next₀ k₀ numbers next k = length headerKeys - k
+returns : tie.Need-returns
+returns c = lines-fault _ _ (c .before .before .lines-at .ensures) (not-true _ (c .if1 .taken))
 
-loop-holds : tie.Need-loop-holds Inv-loop μ-loop
-loop-holds c = reading-none headerKeys _ _ refl
+window-at-requires : tie.Need-window-at-requires
+window-at-requires c κs = lines-inside _ _ (c .before .before .lines-at .ensures) (not-false _ (c .if1 .left))
 
-line-of-requires : tie.Need-line-of-requires Inv-loop μ-loop
-line-of-requires c κs = (c .loop-test .taken, c .before .loop .inv .inside)
+enum-known-window : tie.Need-enum-known-window
+enum-known-window c = search needs
 
-enum-known-n : tie.Need-enum-known-n Inv-loop μ-loop
-enum-known-n c = search needs
-
-enum-told : tie.Need-enum-told Inv-loop μ-loop
+enum-told : tie.Need-enum-told
 enum-told c = search needs
 
-returns : tie.Need-returns Inv-loop μ-loop
-unfolding headerOf
-returns c =
-    let test = c .before .before .before in
-    ap headerRead
-    (reading-fault headerKeys _ _ _ _ (test .before .loop .inv) (test .loop-test .taken)
-    (sym (c .before .before .line-of .ensures) ∙ c .enum-told .given .1))
-
-mul-numbers : tie.Need-mul-numbers Inv-loop μ-loop
-mul-numbers c = omega arith
-
-array-write-numbers : tie.Need-array-write-numbers Inv-loop μ-loop
-array-write-numbers c = omega arith
-
-add-k : tie.Need-add-k Inv-loop μ-loop
-add-k c = omega arith
-
-loop-less : tie.Need-loop-less Inv-loop μ-loop
-loop-less c = omega arith
-
-loop-again : tie.Need-loop-again Inv-loop μ-loop
-loop-again c =
-    let line = c .before .before .before in
-    let test = line .before in
-    reading-more headerKeys _ _ _ _ (test .before .loop .inv) (test .loop-test .taken) _ _
-    (sym (line .line-of .ensures) ∙ c .before .n .given .1)
-
-header-from-requires : tie.Need-header-from-requires Inv-loop μ-loop
-header-from-requires c κs = search needs
-
-returns-2 : tie.Need-returns-2 Inv-loop μ-loop
-unfolding headerOf
+returns-2 : tie.Need-returns-2
 returns-2 c =
-    let b = c .before .before in
-    ap (λ (h : Header). head.Found h (b .loop .next)) (c .header-from .ensures)
-    ∙ ap headerRead (reading-all headerKeys _ _ _ _ (b .loop .inv) (c .before .loop-test .left))
+    let window = c .before .before in
+    let lines = window .before .before .before in
+    header-fault _ _ (lines .lines-at .ensures) (not-false _ (window .before .if1 .left)) _ (window .window-at .ensures)
+    (c .enum-told .given .1)
+
+array-read-t11 : tie.Need-array-read-t11
+array-read-t11 c = search needs
+
+array-read-t14 : tie.Need-array-read-t14
+array-read-t14 c = search needs
+
+array-read-t17 : tie.Need-array-read-t17
+array-read-t17 c = search needs
+
+array-read-t20 : tie.Need-array-read-t20
+array-read-t20 c = search needs
+
+returns-3 : tie.Need-returns-3
+returns-3 c =
+    let told = c .before .before in
+    let window = told .before .before in
+    let lines = window .before .before .before in
+    header-made _ _ (lines .lines-at .ensures) (not-false _ (window .before .if1 .left)) _ (window .window-at .ensures) _ _
+    (told .window .given .1)
 
 pub parse-header-spec : {M : Type 1} → statement M
 parse-header-spec =
     tie.close
     (tie.spec
-    Inv-loop
-    μ-loop
-    loop-holds
-    line-of-requires
-    enum-known-n
-    enum-told
+    lines-at-requires
     returns
-    mul-numbers
-    array-write-numbers
-    add-k
-    loop-less
-    loop-again
-    header-from-requires
-    returns-2)
+    window-at-requires
+    enum-known-window
+    enum-told
+    returns-2
+    array-read-t11
+    array-read-t14
+    array-read-t17
+    array-read-t20
+    returns-3)

@@ -1,6 +1,6 @@
 -- `key_of` meets its contract: the key of an index lies between its start and the next.
 use borrow.Author.Needs.{needs}
-use Rattle.card.specs.Text.{headerKeys}
+use Rattle.card.specs.Working.{allKeys}
 use Rattle.card.proofs.keys.Parts.{key-order, key-end, key-part}
 use Rattle.card.proofs.keys.key_of.Statement.{statement}
 use Rattle.card.proofs.keys.key_of.Tie as tie
@@ -21,16 +21,16 @@ array-read-end : tie.Need-array-read-end
 array-read-end c = search needs
 
 sub-result : tie.Need-sub-result
-sub-result c = key-order headerKeys _ (c .pre .0)
+sub-result c = key-order allKeys _ (c .pre .0)
 
 part-result-start : tie.Need-part-result-start
-part-result-start c = key-order headerKeys _ (c .pre .0)
+part-result-start c = key-order allKeys _ (c .pre .0)
 
 part-result-end : tie.Need-part-result-end
-part-result-end c = key-end headerKeys _ (c .pre .0) _ (c .pre .1)
+part-result-end c = key-end allKeys _ (c .pre .0) _ (c .pre .1)
 
 returns : tie.Need-returns
-returns c = key-part headerKeys _ (c .before .pre .0) _ (c .before .pre .1)
+returns c = key-part allKeys _ (c .before .pre .0) _ (c .before .pre .1)
 
 pub key-of-spec : {M : Type 1} → statement M
 key-of-spec =

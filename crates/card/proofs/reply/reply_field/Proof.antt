@@ -17,7 +17,7 @@ use Rattle.card.proofs.reply.reply_field.Tie as tie
 
 total : (c : tie.After-head-length)
     → let a = c .before .before .before .before .before .args in
-    let n = a .header .numbers in
+    let n = a .header in
     c .head-length .result + n .planes * n .rows * (n .columns + 5)
     ≡ length (headText (a .header) classesKey (a .classes) ++ fieldText (a .header) (a .cells .now))
 total c =
