@@ -5,3 +5,5 @@ pub(crate) mod fields;
 pub(crate) mod numbers;
 pub(crate) mod random;
 pub(crate) mod shapes;
+pub(crate) mod tears;
+pub(crate) mod windows;

@@ -10,25 +10,39 @@ use second::answer::Buffer;
 
 // The figures: the numbers of a shape.
 pub(crate) fn of_numbers(n: ShapeNumbers) -> Answer {
-    answer::of(0, [n.columns, n.rows, n.planes, n.strength, 0])
+    let window = n.window;
+    answer::of(
+        0,
+        [
+            n.columns,
+            n.rows,
+            n.planes,
+            n.strength,
+            window.rows,
+            window.columns,
+        ],
+    )
 }
 
 pub(crate) fn shape(numbers: ShapeNumbers) -> Answer {
     match Shape::new(numbers) {
         NewShape::Accepted(s) => of_numbers(s.numbers()),
-        NewShape::Refused(why) => answer::of(why.number(), [0; 5]),
+        NewShape::Refused(why) => answer::of(why.number(), [0; 6]),
     }
 }
 
 pub(crate) fn plan(shape: Shape) -> Answer {
     let given = codec::plan::plan(shape);
     let p = given.figures();
-    answer::of(given.number(), [p.classes, p.capacity, p.bytes, p.cells, 0])
+    answer::of(
+        given.number(),
+        [p.classes, p.capacity, p.bytes, p.cells, 0, 0],
+    )
 }
 
 pub(crate) fn class(shape: Shape, row: usize, plane: usize, column: usize) -> Answer {
     let given = shape.class_of(row, plane, column);
-    answer::of(given.number(), [given.class(), 0, 0, 0, 0])
+    answer::of(given.number(), [given.class(), 0, 0, 0, 0, 0])
 }
 
 // The first `bytes` of a payload are written into the first `cells` of a field.
@@ -60,7 +74,7 @@ pub(crate) fn decode(
     let given = codec::decode::decode(shape, &mut lent[..bytes], &field[..cells]);
     Answer {
         number: given.number(),
-        figures: [given.count(), 0, 0, 0, 0],
+        figures: [given.count(), 0, 0, 0, 0, 0],
         buffer: lent,
     }
 }
@@ -73,7 +87,7 @@ pub(crate) fn correct(shape: Shape, field: Buffer, cells: usize) -> Answer
     let given = codec::correct::correct(shape, &mut lent[..cells]);
     Answer {
         number: given.number(),
-        figures: [given.count(), 0, 0, 0, 0],
+        figures: [given.count(), 0, 0, 0, 0, 0],
         buffer: lent,
     }
 }
@@ -133,6 +147,7 @@ pub(crate) fn gauge(m: usize, b: usize, c: usize, t: usize) -> Answer {
             shifted(x.plane),
             shifted(x.column),
             given.tried() as usize,
+            0,
         ],
     )
 }

@@ -1,4 +1,4 @@
-// Runs the worked examples of document 01, and compares the library with a second implementation.
+// Runs worked examples of documents 01 and 02, and compares the library with a second implementation.
 mod cases;
 mod given;
 mod print;
@@ -7,6 +7,6 @@ mod worked;
 
 fn main() {
     worked::run();
-    let counts = cases::numbers::all([0; tally::ENTRIES]);
+    let counts = cases::numbers::with_windows(cases::numbers::all([0; tally::ENTRIES]));
     tally::lines(cases::fields::all(counts));
 }

@@ -58,10 +58,20 @@ pub(crate) const LAST_CLASS: usize = 31;
 
 pub(crate) const BYTE_ORDER: usize = 32;
 
+pub(crate) const WINDOW: usize = 33;
+
+pub(crate) const WRITTEN_BY_WINDOW: usize = 34;
+
+pub(crate) const TORN_CORNERS: usize = 35;
+
+pub(crate) const TORN_EDGE: usize = 36;
+
+pub(crate) const TWO_WINDOWS: usize = 37;
+
 // A letter of a form, or number k. Gives which number is next.
 fn letter(letter: u8, numbers: Figures, k: usize) -> usize
-    requires { ⌜ k < 5 ⌝ }
-    ensures { λ r. ⌜ r < 5 ⌝ }
+    requires { ⌜ k < 6 ⌝ }
+    ensures { λ r. ⌜ r < 6 ⌝ }
 {
     let n = numbers[k] as u64;
     if letter == b'#' {
@@ -93,7 +103,7 @@ fn one_of(forms: &[u8], form: usize, numbers: Figures) {
 pub(crate) fn say(form: usize, numbers: Figures) {
     one_of(
         b"shape|plan|class|write|read|mend|gauge|: # compared|, # gave #|, # differ\n|\
-        : # and not #, case #, part #; figures|\x20# # # # #|\n|\
+        : # and not #, case #, part #; figures|\x20# # # # # #|\n|\
         # by # in #, strength #|: |accepted, classes #, capacity #, bytes #, cells #|refusal #|\
         , row #, plane #, column #: |class #|count #|payload a5 on a card: written| |#|\
         , payload %; mended |, rows|that card: read |\
@@ -103,7 +113,11 @@ pub(crate) fn say(form: usize, numbers: Figures) {
         that card with its first row unread alone: read |\
         that card with cells 2 and 4 of class 0 turned over: read |\
         that card with cells 2 and 4 of class 4 turned over: read |\
-        a card with cells 1, 2 and 3 of class 0 alone: read ",
+        a card with cells 1, 2 and 3 of class 0 alone: read |\
+        , window # by #|payload a5 on a card with a window of 2 by 3: written|\
+        that card with three cells aslant turned over: read |\
+        that card with its last two cells turned over: read |\
+        that card with cells of two windows unread: read ",
         form,
         numbers,
     );

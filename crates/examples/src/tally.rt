@@ -23,12 +23,12 @@ pub(crate) const MEND: usize = 5;
 
 pub(crate) const GAUGE: usize = 6;
 
-// Of each operation: how often it was compared, how often it gave each number from 0 to 10, and how often it differed.
-const ROW: usize = 13;
+// Of each operation: how often it was compared, how often it gave each number from 0 to 11, and how often it differed.
+const ROW: usize = 14;
 
-const NUMBERS: usize = 11;
+const NUMBERS: usize = 12;
 
-const DIFFERENCES: usize = 12;
+const DIFFERENCES: usize = 13;
 
 pub(crate) const ENTRIES: usize = 7 * ROW;
 
@@ -36,7 +36,7 @@ pub(crate) type Tally = [usize; ENTRIES];
 
 // Where a number is counted: one that no operation may give is a difference.
 fn of_number(number: usize) -> usize
-    ensures { λ r. ⌜ r < 13 ⌝ }
+    ensures { λ r. ⌜ r < 14 ⌝ }
 {
     if number < NUMBERS {
         1 + number
@@ -46,7 +46,7 @@ fn of_number(number: usize) -> usize
 }
 
 fn add(tally: Tally, operation: usize, entry: usize) -> Tally
-    requires { ⌜ (operation < 7) × (entry < 13) ⌝ }
+    requires { ⌜ (operation < 7) × (entry < 14) ⌝ }
 {
     let mut counts = tally;
     let at = operation * ROW + entry;
@@ -99,7 +99,7 @@ fn differ(operation: usize, given: Answer, expected: Answer, case: usize, part: 
     say(operation, figures);
     say(
         print::DIFFERENCE,
-        [given.number, expected.number, case, part, 0],
+        [given.number, expected.number, case, part, 0, 0],
     );
     say(print::ALL_FIGURES, figures);
     say(print::ALL_FIGURES, others);
@@ -128,16 +128,16 @@ pub(crate) fn compare(
 // An entry of an operation's row.
 fn entry(operation: usize, entry: usize, n: usize) {
     if entry == 0 {
-        say(operation, [0; 5]);
-        say(print::COMPARED, [n, 0, 0, 0, 0]);
+        say(operation, [0; 6]);
+        say(print::COMPARED, [n, 0, 0, 0, 0, 0]);
         return;
     }
     if entry == DIFFERENCES {
-        say(print::DIFFER, [n, 0, 0, 0, 0]);
+        say(print::DIFFER, [n, 0, 0, 0, 0, 0]);
         return;
     }
     if n != 0 {
-        say(print::GAVE, [n, entry - 1, 0, 0, 0]);
+        say(print::GAVE, [n, entry - 1, 0, 0, 0, 0]);
     }
 }
 

@@ -1,12 +1,15 @@
-// The worked examples of document 01 that are not proved, a case for each error that it lists, and the cards of document 02 that
-// have unread cells. A line each.
+// The worked examples of document 01 that are not proved, a case for each error that it lists, and cards of document 02: with
+// unread cells, and with a window. A line each.
 use crate::cases::damage::erased;
 use crate::cases::damage::turned;
 use crate::cases::shapes::shape_of;
+use crate::cases::windows::ruled;
+use crate::cases::windows::with_window;
 use crate::given;
 use crate::print;
 use crate::print::say;
 use lattice::shape::Shape;
+use lattice::shape::Window;
 use second::answer::Answer;
 use second::answer::Buffer;
 use second::answer::CELLS;
@@ -15,28 +18,38 @@ use second::answer::CELLS;
 fn show(form: usize, a: Answer) {
     let figures = a.figures;
     if a.number != 0 {
-        say(print::REFUSAL, [a.number, 0, 0, 0, 0]);
+        say(print::REFUSAL, [a.number, 0, 0, 0, 0, 0]);
     } else {
         say(form, figures);
     }
 }
 
+// The sides and the strength, and the window where it is not 0 by 0.
 fn sizes(s: Shape) {
-    show(print::SHAPE, given::of_numbers(s.numbers()));
+    let numbers = s.numbers();
+    let window = numbers.window;
+    show(print::SHAPE, given::of_numbers(numbers));
+    if (window.rows | window.columns) != 0 {
+        say(print::WINDOW, [window.rows, window.columns, 0, 0, 0, 0]);
+    }
 }
 
 // A shape at the edge: whether it is made, and its plan.
 fn edge(columns: u16, rows: u16, planes: u16, strength: u16) {
-    let shape = shape_of(columns, rows, planes, strength);
+    planned(shape_of(columns, rows, planes, strength));
+}
+
+// A shape: whether it is made, and its plan.
+fn planned(shape: Shape) {
     sizes(shape);
-    say(print::COLON, [0; 5]);
+    say(print::COLON, [0; 6]);
     let made = given::shape(shape.numbers());
     if made.number != 0 {
         show(print::PLAN, made);
     } else {
         show(print::PLAN, given::plan(shape));
     }
-    say(print::END_LINE, [0; 5]);
+    say(print::END_LINE, [0; 6]);
 }
 
 // The card of document 01: 5 by 5, flat, at strength 3.
@@ -49,6 +62,10 @@ const CARD_SHAPE: Shape = Shape {
     rows: 5,
     planes: 1,
     strength: 3,
+    window: Window {
+        rows: 0,
+        columns: 0,
+    },
 };
 
 // The rows of a card, each after a space.
@@ -56,37 +73,41 @@ fn show_rows(card: Buffer) {
     let mut i = 0;
     while i < CARD {
         if i % SIDE == 0 {
-            say(print::SPACE, [0; 5]);
+            say(print::SPACE, [0; 6]);
         }
-        say(print::DIGIT, [card[i] as usize, 0, 0, 0, 0]);
+        say(print::DIGIT, [card[i] as usize, 0, 0, 0, 0, 0]);
         i += 1;
     }
-    say(print::END_LINE, [0; 5]);
+    say(print::END_LINE, [0; 6]);
 }
 
 // A card is read, into a payload buffer that holds 77.
-fn read(card: Buffer) {
-    let read = given::decode(CARD_SHAPE, [0x77; CELLS], 1, card, CARD);
+fn read(shape: Shape, card: Buffer) {
+    let read = given::decode(shape, [0x77; CELLS], 1, card, CARD);
     show(print::COUNT, read);
-    say(print::PAYLOAD, [read.buffer[0] as usize, 0, 0, 0, 0]);
+    say(print::PAYLOAD, [read.buffer[0] as usize, 0, 0, 0, 0, 0]);
 }
 
 // And then it is mended.
-fn read_and_mend(name: usize, card: Buffer) {
-    say(name, [0; 5]);
-    read(card);
-    let mended = given::correct(CARD_SHAPE, card, CARD);
+fn read_and_mend_by(shape: Shape, name: usize, card: Buffer) {
+    say(name, [0; 6]);
+    read(shape, card);
+    let mended = given::correct(shape, card, CARD);
     show(print::COUNT, mended);
-    say(print::ROWS, [0; 5]);
+    say(print::ROWS, [0; 6]);
     let rows = mended.buffer;
     show_rows(rows);
 }
 
+fn read_and_mend(name: usize, card: Buffer) {
+    read_and_mend_by(CARD_SHAPE, name, card);
+}
+
 fn class(s: Shape, row: usize, plane: usize, column: usize) {
     sizes(s);
-    say(print::CELL, [row, plane, column, 0, 0]);
+    say(print::CELL, [row, plane, column, 0, 0, 0]);
     show(print::CLASS, given::class(s, row, plane, column));
-    say(print::END_LINE, [0; 5]);
+    say(print::END_LINE, [0; 6]);
 }
 
 pub(crate) fn run() {
@@ -100,7 +121,7 @@ pub(crate) fn run() {
     edge(256, 16, 16, 9);
     // The card of the payload a5, as encode writes it, whole and with three cells turned over.
     let card = given::encode(CARD_SHAPE, [0xa5; CELLS], 1, [0; CELLS], CARD).buffer;
-    say(print::WRITTEN, [0; 5]);
+    say(print::WRITTEN, [0; 6]);
     show_rows(card);
     read_and_mend(print::WHOLE_CARD, card);
     read_and_mend(
@@ -109,6 +130,7 @@ pub(crate) fn run() {
     );
     erasures(card);
     errors(card);
+    windows();
 }
 
 // The first row of a card erased.
@@ -144,4 +166,33 @@ fn errors(card: Buffer) {
         print::BYTE_ORDER,
         turned(turned(turned([0; CELLS], 0), 8), 11),
     );
+}
+
+// A card of the same size that a window of 2 rows by 3 columns rules: written, with three cells aslant turned over, with cells
+// turned over in a window that hangs over the last corner, and with two windows erased.
+fn torn() {
+    let shape = ruled(5, 5, 2, 3);
+    let card = given::encode(shape, [0xa5; CELLS], 1, [0; CELLS], CARD).buffer;
+    say(print::WRITTEN_BY_WINDOW, [0; 6]);
+    show_rows(card);
+    let aslant = turned(turned(turned(card, 6), 12), 8);
+    read_and_mend_by(shape, print::TORN_CORNERS, aslant);
+    read_and_mend_by(shape, print::TORN_EDGE, turned(turned(card, 23), 24));
+    let one = erased(erased(erased(card, 0), 6), 2);
+    let two = erased(erased(erased(one, 17), 23), 19);
+    read_and_mend_by(shape, print::TWO_WINDOWS, two);
+}
+
+// Windows at the edge: their plans.
+fn windows() {
+    planned(ruled(256, 256, 8, 8));
+    planned(ruled(256, 256, 22, 22));
+    planned(ruled(256, 256, 23, 23));
+    planned(ruled(5, 5, 512, 1));
+    planned(ruled(5, 5, 1, 513));
+    planned(ruled(5, 5, 0, 3));
+    planned(with_window(shape_of(5, 5, 2, 0), 2, 2));
+    planned(with_window(shape_of(5, 5, 1, 3), 2, 2));
+    class(ruled(5, 5, 2, 3), 3, 0, 4);
+    torn();
 }

@@ -3,7 +3,7 @@ ghost use mathlib.Core.Path.{_≡_};
 ghost use lib.ListN.{getD};
 
 // The most figures that an operation gives.
-pub const FIGURES: usize = 5;
+pub const FIGURES: usize = 6;
 
 pub type Figures = [usize; FIGURES];
 

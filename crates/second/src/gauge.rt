@@ -68,7 +68,7 @@ fn verdict(holds: usize, x: usize, tried: usize) -> Answer
     requires { ⌜ (holds ≤ 1) × (x < 42875) ⌝ }
     ensures { λ r. ⌜ (r .number ≡ 0) × (getD (r .figures) 0 0 ≤ 1) ⌝ }
 {
-    answer::of(0, [holds, row(x), plane(x), x % SIDE, tried])
+    answer::of(0, [holds, row(x), plane(x), x % SIDE, tried, 0])
 }
 
 fn search(s: Settings, t: usize) -> Answer
@@ -93,7 +93,7 @@ fn search(s: Settings, t: usize) -> Answer
 fn declined(number: usize) -> Answer
     ensures { λ r. ⌜ (r .number ≡ number) × (getD (r .figures) 0 0 ≡ 0) ⌝ }
 {
-    answer::of(number, [0, ZERO, ZERO, ZERO, 0])
+    answer::of(number, [0, ZERO, ZERO, ZERO, 0, 0])
 }
 
 // Whether settings hold at a strength. Any numbers are taken: what is outside the limits is declined.

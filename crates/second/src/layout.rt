@@ -3,7 +3,6 @@ ghost use Prim.Native.Nat.{_<_, _≤_};
 use crate::answer::CELLS;
 use crate::settings;
 use crate::settings::CLASSES;
-use crate::settings::Settings;
 use lattice::shape::Shape;
 
 // The entry of a cell: its class, with CHECK added where it holds a check.
@@ -15,8 +14,7 @@ pub(crate) const CHECK: u16 = 1024;
 pub(crate) const NO_CELL: u16 = 512;
 
 // The class of the cell that is byte i of a field.
-fn class_of_byte(shape: Shape, s: Settings, i: usize) -> usize
-    requires { ⌜ s .m ≤ 512 ⌝ }
+fn class_of_byte(shape: Shape, i: usize) -> usize
     ensures { λ r. ⌜ r < 512 ⌝ }
 {
     let columns = shape.columns as usize;
@@ -27,7 +25,7 @@ fn class_of_byte(shape: Shape, s: Settings, i: usize) -> usize
     if rows == 0 {
         return 0;
     }
-    settings::class(s, i / columns % rows, i / columns / rows, i % columns)
+    settings::class(shape, i / columns % rows, i / columns / rows, i % columns)
 }
 
 // The entry of the next cell of class a, which is counted. A check stands at the positions 1, 2, 4 and so on of a class.
@@ -53,13 +51,12 @@ pub(crate) fn lay_out(shape: Shape) -> Laid
     ensures { λ r. ⌜ r .capacity ≤ 65536 ⌝ }
 {
     let mut layout = [NO_CELL; CELLS];
-    let s = settings::settings_of(shape);
     let cells = settings::cells(shape);
     let mut sizes = [0u32; CLASSES];
     let mut capacity = 0;
     let mut i = 0;
     while i < cells {
-        let e = entry(&mut sizes, class_of_byte(shape, s, i));
+        let e = entry(&mut sizes, class_of_byte(shape, i));
         if e < NO_CELL {
             capacity += 1;
         }

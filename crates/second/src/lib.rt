@@ -1,4 +1,4 @@
-// The second implementation: plan, class, write, read, mend and gauge, written from document 01 alone and naively, by search.
+// The second implementation: plan, class, write, read, mend and gauge, written from the papers alone and naively, by search.
 pub mod answer;
 pub mod gauge;
 mod lawful;
@@ -6,4 +6,5 @@ mod layout;
 pub mod placing;
 pub mod read;
 mod settings;
+mod window;
 pub mod write;

@@ -9,27 +9,27 @@ use lattice::shape::Shape;
 
 // The number with which a shape is declined, 0 where it is accepted.
 pub fn shape(shape: Shape) -> usize
-    ensures { λ r. ⌜ r ≤ 2 ⌝ }
+    ensures { λ r. ⌜ r ≤ 11 ⌝ }
 {
     settings::refusal(shape)
 }
 
 // The figures: m, K, payload bytes and cells.
 pub fn plan(shape: Shape) -> Answer
-    ensures { λ r. ⌜ (r .number ≤ 2) × (getD (r .figures) 0 0 ≤ 512) ⌝ }
+    ensures { λ r. ⌜ (r .number ≤ 11) × (getD (r .figures) 0 0 ≤ 512) ⌝ }
 {
     let number = settings::refusal(shape);
     if number != 0 {
-        return answer::of(number, [0; 5]);
+        return answer::of(number, [0; 6]);
     }
     let s = settings::settings_of(shape);
     let k = lay_out(shape).capacity;
-    answer::of(0, [s.m as usize, k, k / 8, settings::cells(shape), 0])
+    answer::of(0, [s.m as usize, k, k / 8, settings::cells(shape), 0, 0])
 }
 
 // The number with which the class of a cell is declined, 0 where the cell lies in an accepted shape.
 fn refusal(shape: Shape, row: usize, plane: usize, column: usize) -> usize
-    ensures { λ r. ⌜ r ≤ 4 ⌝ }
+    ensures { λ r. ⌜ r ≤ 11 ⌝ }
 {
     let number = settings::refusal(shape);
     if number != 0 {
@@ -49,12 +49,12 @@ fn refusal(shape: Shape, row: usize, plane: usize, column: usize) -> usize
 
 // The figure: the class.
 pub fn class(shape: Shape, row: usize, plane: usize, column: usize) -> Answer
-    ensures { λ r. ⌜ (r .number ≤ 4) × (getD (r .figures) 0 0 < 512) ⌝ }
+    ensures { λ r. ⌜ (r .number ≤ 11) × (getD (r .figures) 0 0 < 512) ⌝ }
 {
     let number = refusal(shape, row, plane, column);
     if number != 0 {
-        return answer::of(number, [0; 5]);
+        return answer::of(number, [0; 6]);
     }
-    let a = settings::class(settings::settings_of(shape), row, plane, column);
-    answer::of(0, [a, 0, 0, 0, 0])
+    let a = settings::class(shape, row, plane, column);
+    answer::of(0, [a, 0, 0, 0, 0, 0])
 }

@@ -172,7 +172,7 @@ fn mend_classes(layout: Layout, m: u16, before: Buffer) -> Answer
     }
     Answer {
         number: 0,
-        figures: [differences(before, field), 0, 0, 0, 0],
+        figures: [differences(before, field), 0, 0, 0, 0, 0],
         buffer: field,
     }
 }
@@ -196,7 +196,7 @@ fn spelt(layout: Layout, field: Buffer) -> Buffer {
 
 // Mends the first `cells` of a field; there is no payload, and none is asked for. The figure: the count.
 pub fn mend(shape: Shape, field: Buffer, cells: usize) -> Answer
-    ensures { λ r. ⌜ (r .number ≤ 10) × (getD (r .figures) 0 0 ≤ 512) ⌝ }
+    ensures { λ r. ⌜ (r .number ≤ 11) × (getD (r .figures) 0 0 ≤ 512) ⌝ }
 {
     let number = write::refusal(shape, 0, 0, cells);
     if number != 0 {
@@ -235,7 +235,7 @@ fn joined(start: Buffer, length: usize, rest: Buffer) -> Buffer {
 
 // Reads the first `cells` of a field into the first `bytes` of a payload. The figure: the count.
 pub fn read(shape: Shape, payload: Buffer, bytes: usize, field: Buffer, cells: usize) -> Answer
-    ensures { λ r. ⌜ r .number ≤ 10 ⌝ }
+    ensures { λ r. ⌜ r .number ≤ 11 ⌝ }
 {
     let laid = lay_out(shape);
     let number = write::refusal(shape, laid.capacity / 8, bytes, cells);

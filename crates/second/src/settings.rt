@@ -1,8 +1,9 @@
 // The limits of a shape, its settings, and the class of a cell.
 ghost use Prim.Native.Nat.{_<_, _≤_};
+use crate::window;
 use lattice::shape::Shape;
 
-// A cell is of class (column − b × row − c × plane) mod m.
+// A cell is of class (column − b × row − c × plane) mod m. At strength 0 a window of m cells rules, and b and c say nothing.
 pub(crate) struct Settings {
     pub(crate) m: u16,
     pub(crate) b: u16,
@@ -38,9 +39,30 @@ fn outside(high: usize, x: usize) -> bool {
     high < x
 }
 
+// The number with which the strength and the window of a shape are declined, where its sides are accepted.
+fn strength_refusal(shape: Shape) -> usize
+    ensures { λ r. ⌜ r ≤ 11 ⌝ }
+{
+    let most = if shape.planes == 1 { 32 } else { 8 };
+    let window = shape.window;
+    if most < shape.strength {
+        return 2;
+    }
+    if shape.strength != 0 {
+        return if window::is_none(window) { 0 } else { 11 };
+    }
+    if window::is_none(window) {
+        return 2;
+    }
+    if shape.planes != 1 {
+        return 11;
+    }
+    if window::classes(window) == 0 { 11 } else { 0 }
+}
+
 // The number with which a shape is declined, 0 where it is accepted.
 pub(crate) fn refusal(shape: Shape) -> usize
-    ensures { λ r. ⌜ r ≤ 2 ⌝ }
+    ensures { λ r. ⌜ r ≤ 11 ⌝ }
 {
     if outside(256, shape.columns as usize) {
         return 1;
@@ -54,11 +76,7 @@ pub(crate) fn refusal(shape: Shape) -> usize
     if cells(shape) == 0 {
         return 1;
     }
-    let most = if shape.planes == 1 { 32 } else { 8 };
-    if outside(most, shape.strength as usize) {
-        return 2;
-    }
-    0
+    strength_refusal(shape)
 }
 
 fn stack(t: u16) -> Settings
@@ -95,6 +113,14 @@ pub(crate) fn settings_of(shape: Shape) -> Settings
     ensures { λ r. ⌜ r .m ≤ 512 ⌝ }
 {
     let t = shape.strength;
+    let window = shape.window;
+    if t == 0 {
+        return Settings {
+            m: window::classes(window) as u16,
+            b: 0,
+            c: 0,
+        };
+    }
     if shape.planes == 1 {
         if t <= 32 {
             return flat(t);
@@ -110,9 +136,9 @@ pub(crate) fn steps(s: Settings, row: usize, plane: usize) -> usize
     times(s.b, row) + times(s.c, plane)
 }
 
-// The class of a cell, by search: the first a of 0 to m − 1 of which a + b × row + c × plane and the column have the same
-// remainder.
-pub(crate) fn class(s: Settings, row: usize, plane: usize, column: usize) -> usize
+// The class of a cell by settings, by search: the first a of 0 to m − 1 of which a + b × row + c × plane and the column have the
+// same remainder.
+fn class_by(s: Settings, row: usize, plane: usize, column: usize) -> usize
     requires { ⌜ s .m ≤ 512 ⌝ }
     ensures { λ r. ⌜ r < 512 ⌝ }
 {
@@ -126,4 +152,15 @@ pub(crate) fn class(s: Settings, row: usize, plane: usize, column: usize) -> usi
         a += 1;
     }
     0
+}
+
+// The class of a cell of an accepted shape.
+pub(crate) fn class(shape: Shape, row: usize, plane: usize, column: usize) -> usize
+    ensures { λ r. ⌜ r < 512 ⌝ }
+{
+    let window = shape.window;
+    if shape.strength == 0 {
+        return window::class(window, row, column);
+    }
+    class_by(settings_of(shape), row, plane, column)
 }

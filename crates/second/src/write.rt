@@ -89,7 +89,7 @@ fn settle(layout: Layout, m: u16, before: Buffer) -> Buffer
 // The number with which a shape is declined, or a payload that has not the length asked for, or a field that has not the length
 // of the plan, 0 where all are accepted. A field that is longer than the buffer is declined with 4, whatever its plan.
 pub(crate) fn refusal(shape: Shape, asked: usize, bytes: usize, cells: usize) -> usize
-    ensures { λ r. ⌜ r ≤ 4 ⌝ }
+    ensures { λ r. ⌜ r ≤ 11 ⌝ }
 {
     let number = settings::refusal(shape);
     if number != 0 {
@@ -117,7 +117,7 @@ pub fn write(
     field: Buffer,
     cells: usize,
 ) -> Answer
-    ensures { λ r. ⌜ r .number ≤ 4 ⌝ }
+    ensures { λ r. ⌜ r .number ≤ 11 ⌝ }
 {
     let laid = lay_out(shape);
     let number = refusal(shape, laid.capacity / 8, bytes, cells);

@@ -90,13 +90,12 @@ fn in_class(
     mark_class(shape, cells, first, every, erasures, beside, before)
 }
 
-// Erases two clusters within the strength, one from cell i on, the other from cell j on.
+// Erases two holes that are each undone, one with cell i or near it, the other with cell j.
 fn two_clusters(shape: Shape, cells: usize, i: usize, j: usize, x: u64, before: Buffer) -> Buffer
     requires { ⌜ (i < cells) × (j < cells) × (cells ≤ 512) ⌝ }
 {
-    let t = shape.strength;
-    let one = damage::cluster_at(shape, cells, i, t, true, x, before);
-    damage::cluster_at(shape, cells, j, t, true, random::next(x), one)
+    let one = damage::within(shape, cells, i, true, x, before);
+    damage::within(shape, cells, j, true, random::next(x), one)
 }
 
 // Two clusters: mostly apart, by joined cells, or over one another.
@@ -132,14 +131,13 @@ fn at_the_end(cells: usize, x: u64, before: Buffer) -> Buffer
     last
 }
 
-// A cluster erased and another turned over, each within the strength.
+// A hole erased and another turned over, each of which would be undone.
 fn both(shape: Shape, cells: usize, x: u64, before: Buffer) -> Buffer
     requires { ⌜ (0 < cells) × (cells ≤ 512) ⌝ }
 {
-    let t = shape.strength;
     let y = random::next(x);
-    let turned = damage::cluster(shape, cells, t, x, before);
-    damage::cluster_at(shape, cells, random::below(y, cells), t, true, y, turned)
+    let turned = damage::hole(shape, cells, x, before);
+    damage::within(shape, cells, random::below(y, cells), true, y, turned)
 }
 
 // The erasures of a way: one or two in a class, or three for any way that is not listed; two clusters; the end of the field; one

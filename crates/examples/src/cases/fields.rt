@@ -152,7 +152,7 @@ fn cases(before: Tally, shape: Shape, cells: usize, bytes: usize, k: usize) -> T
 
 // Figure i of a plan, and at most the cells that are lent.
 pub(crate) fn length(plan: Answer, i: usize) -> usize
-    requires { ⌜ i < 5 ⌝ }
+    requires { ⌜ i < 6 ⌝ }
     ensures { λ r. ⌜ r ≤ 512 ⌝ }
 {
     let n = plan.figures[i];

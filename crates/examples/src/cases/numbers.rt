@@ -1,13 +1,15 @@
-// Cases for making a shape, the class of a cell far outside, and the gauge.
+// Cases for making a shape, with a window and without, the class of a cell far outside, and the gauge.
 ghost use Prim.Native.Nat.{_<_};
 use crate::cases::fields;
 use crate::cases::random;
 use crate::cases::shapes::shape_of;
+use crate::cases::windows;
 use crate::given;
 use crate::tally;
 use crate::tally::Tally;
 use lattice::shape::Shape;
 use lattice::shape::ShapeNumbers;
+use lattice::shape::Window;
 use second::answer;
 use second::answer::Answer;
 
@@ -42,14 +44,16 @@ fn narrow(x: usize) -> u16 {
 
 // The shape with the numbers that it is made of.
 fn expected(n: ShapeNumbers) -> Answer {
+    let window = n.window;
     let number = second::placing::shape(Shape {
         columns: narrow(n.columns),
         rows: narrow(n.rows),
         planes: narrow(n.planes),
         strength: narrow(n.strength),
+        window,
     });
     if number != 0 {
-        return answer::of(number, [0; 5]);
+        return answer::of(number, [0; 6]);
     }
     given::of_numbers(n)
 }
@@ -63,6 +67,10 @@ fn numbers(x: u64) -> ShapeNumbers {
         rows: edge(y),
         planes: edge(z),
         strength: edge(random::next(z)),
+        window: Window {
+            rows: 0,
+            columns: 0,
+        },
     }
 }
 
@@ -70,6 +78,57 @@ fn numbers(x: u64) -> ShapeNumbers {
 fn shape(tally: Tally, k: usize) -> Tally {
     let n = numbers(random::seed(k, 300));
     tally::compare(tally, tally::SHAPE, given::shape(n), expected(n), k, 300)
+}
+
+// Sides of a window near the limits.
+const SIDES: [usize; 16] = [
+    0,
+    1,
+    2,
+    21,
+    22,
+    23,
+    24,
+    255,
+    256,
+    257,
+    511,
+    512,
+    513,
+    4294967296,
+    9223372036854775808,
+    18446744073709551615,
+];
+
+// Making a shape with window k of 256, each side one of these.
+fn window(tally: Tally, planes: usize, strength: usize, k: usize) -> Tally {
+    let n = ShapeNumbers {
+        columns: 5,
+        rows: 9,
+        planes,
+        strength,
+        window: Window {
+            rows: SIDES[k % 16],
+            columns: SIDES[k / 16 % 16],
+        },
+    };
+    tally::compare(tally, tally::SHAPE, given::shape(n), expected(n), k, 600)
+}
+
+// Every such window at strength 0, in one plane and in two, and at strengths that have none or are outside the limits; and every
+// cell of a field that a window rules.
+pub(crate) fn with_windows(before: Tally) -> Tally {
+    let mut tally = before;
+    let mut k = 0;
+    while k < 256 {
+        let ruled = window(window(tally, 1, 0, k), 2, 0, k);
+        let refused = window(window(ruled, 1, 3, k), 1, 33, k);
+        let shape = windows::ruled(16, 16, 3, 5);
+        let placed = fields::class(refused, shape, k / 16, 0, k % 16, k);
+        tally = placed;
+        k += 1;
+    }
+    tally
 }
 
 // A cell far outside a shape.

@@ -9,6 +9,11 @@ pub(crate) fn next(x: u64) -> u64 {
     b ^ (b << 17)
 }
 
+// The third number after x, where x itself and the next ones are drawn from too.
+pub(crate) fn later(x: u64) -> u64 {
+    next(next(next(x)))
+}
+
 // The start of the numbers of a case.
 pub(crate) fn seed(case: usize, part: usize) -> u64 {
     let a = next(0x9e3779b97f4a7c15 ^ case as u64);

@@ -1,8 +1,10 @@
-// Flat shapes, stacks and refused shapes.
+// Flat shapes, stacks, refused shapes and, from their own module, shapes with a window.
 ghost use Prim.Native.Nat.{_<_, _≤_};
 use crate::cases::fields::length;
 use crate::cases::random;
+use crate::cases::windows;
 use lattice::shape::Shape;
+use lattice::shape::Window;
 
 pub(crate) fn shape_of(columns: u16, rows: u16, planes: u16, strength: u16) -> Shape {
     Shape {
@@ -10,6 +12,10 @@ pub(crate) fn shape_of(columns: u16, rows: u16, planes: u16, strength: u16) -> S
         rows,
         planes,
         strength,
+        window: Window {
+            rows: 0,
+            columns: 0,
+        },
     }
 }
 
@@ -24,7 +30,10 @@ const FLAT_EDGES: u16 = 192;
 
 const STACK_EDGES: u16 = 48;
 
-pub(crate) const SHAPES: u16 = FLAT + STACKS + ODD + FLAT_EDGES + STACK_EDGES;
+// How many have no window, and how many there are.
+const PLAIN: u16 = FLAT + STACKS + ODD + FLAT_EDGES + STACK_EDGES;
+
+pub(crate) const SHAPES: u16 = PLAIN + windows::SHAPES;
 
 // A flat shape of some sides from `low` on.
 fn small(low: u16, columns: usize, rows: usize, x: u64, t: u16) -> Shape
@@ -102,7 +111,7 @@ fn odd(k: u16) -> Shape {
 }
 
 // A side of about x cells.
-fn side(x: u16) -> u16
+pub(crate) fn side(x: u16) -> u16
     ensures { λ r. ⌜ (0 < r) × (r ≤ 256) ⌝ }
 {
     if x == 0 {
@@ -152,7 +161,7 @@ fn edge_case(k: u16) -> Shape {
     edge(j % 6, 2 + j % 2, j / 6 + 1)
 }
 
-// Shape k: the flat ones, the stacks, the odd ones, and those at the edges of the classes.
+// Shape k: the flat ones, the stacks, the odd ones, those at the edges of the classes, and those with a window.
 pub(crate) fn shape(k: u16) -> Shape {
     if k < FLAT {
         return flat(k);
@@ -163,5 +172,8 @@ pub(crate) fn shape(k: u16) -> Shape {
     if k < FLAT + STACKS + ODD {
         return odd(k - FLAT - STACKS);
     }
-    edge_case(k - FLAT - STACKS - ODD)
+    if k < PLAIN {
+        return edge_case(k - FLAT - STACKS - ODD);
+    }
+    windows::shape(k - PLAIN)
 }

@@ -7,7 +7,7 @@ use Rattle.examples.proofs.print.one_of.Statement.{statement}
 use Rattle.examples.proofs.print.one_of.Tie as tie
 
 abbrev Inv-loop : tie.InvT-loop
-Inv-loop forms form numbers at₀ k₀ i₀ at k i = (i ≤ length forms) × (at ≤ i) × (k < 5)
+Inv-loop forms form numbers at₀ k₀ i₀ at k i = (i ≤ length forms) × (at ≤ i) × (k < 6)
 
 abbrev μ-loop : tie.MeasureT-loop
 μ-loop forms form numbers at₀ k₀ i₀ at k i = length forms - i

@@ -5,10 +5,10 @@ use Rattle.examples.proofs.tally.same_figures.Statement.{statement}
 use Rattle.examples.proofs.tally.same_figures.Tie as tie
 
 abbrev Inv-loop : tie.InvT-loop
-Inv-loop a b i₀ i = i ≤ 5
+Inv-loop a b i₀ i = i ≤ 6
 
 abbrev μ-loop : tie.MeasureT-loop
-μ-loop a b i₀ i = 5 - i
+μ-loop a b i₀ i = 6 - i
 
 pub same-figures-spec : {M : Type 1} → statement M
 same-figures-spec =

@@ -6,15 +6,15 @@ use Rattle.second.proofs.layout.lay_out.Statement.{statement}
 use Rattle.second.proofs.layout.lay_out.Tie as tie
 
 abbrev Inv-loop : tie.InvT-loop
-Inv-loop shape layout₀ s cells sizes₀ capacity₀ i₀ layout sizes capacity i =
-    (i ≤ cells) × (capacity ≤ i) × (cells ≤ 65536) × (s .m ≤ 512)
+Inv-loop shape layout₀ cells sizes₀ capacity₀ i₀ layout sizes capacity i =
+    (i ≤ cells) × (capacity ≤ i) × (cells ≤ 65536)
 
 abbrev μ-loop : tie.MeasureT-loop
-μ-loop shape layout₀ s cells sizes₀ capacity₀ i₀ layout sizes capacity i = cells - i
+μ-loop shape layout₀ cells sizes₀ capacity₀ i₀ layout sizes capacity i = cells - i
 
 pub lay-out-spec : {M : Type 1} → statement M
 lay-out-spec =
     tie.close
-    (tie.spec Inv-loop μ-loop (λ c κs. search needs) (λ c κs. search needs) (λ c. search needs) (λ c κs. search needs)
+    (tie.spec Inv-loop μ-loop (λ c κs. search needs) (λ c. search needs) (λ c κs. search needs)
     (λ c κs. search needs) (λ c. search needs) (λ c. search needs) (λ c. search needs) (λ c. search needs)
     (λ c. search needs) (λ c. ⊎-elim (λ w. search needs) (λ w. search needs) (c .before .if1 .came)) (λ c. search needs))
