@@ -1,12 +1,18 @@
-/* Varmintfoil: a payload in a field of black and white cells that outlives any one hole of at most t connected cells.
+/* Varmintfoil: a payload in a field of black and white cells that outlives any one hole of at most t connected cells or, by another
+ * setting, any damage inside one window of p rows by q columns.
  *
  * For x86-64 with the System V calling convention. Link target/staticlib/libvarmintfoil.a, which `rt staticlib varmintfoil` writes
  * at the repository's root; it needs the C library's memset and nothing else. Header and archive must be of one version.
  *
- * A shape is four numbers: columns W and rows H from 1 to 256, planes D from 1 to 16, W * H * D at most 65,536, and the strength t, 1 to
- * 32 where D is 1 and 1 to 8 where D is above. A field is W * H * D bytes, one for each cell, 0 for white and 1 for black; a cell of a
- * field that is decoded or corrected may be erased, 2, a cell that was not read. The cell (row, plane, column) is byte
- * (plane * H + row) * W + column. A payload has the number of bytes that varmintfoil_plan gives.
+ * A shape is six numbers: columns W and rows H from 1 to 256, planes D from 1 to 16, W * H * D at most 65,536, the strength t, 1 to 32
+ * where D is 1 and 1 to 8 where D is above, and the rows p and columns q of a window, both 0. Or, for damage that tears across corners,
+ * the strength is 0 and the window rules: D is 1, p and q are at least 1, and p * q is at most 512; p may exceed H, and q W. Then any
+ * cells flipped inside one p by q window are undone, wherever it lies, also over the field's edge; a patch of t cells that touch by
+ * sides or corners lies in a window of t by t.
+ *
+ * A field is W * H * D bytes, one for each cell, 0 for white and 1 for black; a cell of a field that is decoded or corrected may be
+ * erased, 2, a cell that was not read. The cell (row, plane, column) is byte (plane * H + row) * W + column. A payload has the number of
+ * bytes that varmintfoil_plan gives.
  *
  * Every function takes any numbers at all. It answers the number VARMINTFOIL_OK for success, or the number of the first refusal that
  * applies, in the order in which they are listed with it. On a refusal every other figure of the answer is 0 and no byte of any lent
@@ -26,14 +32,14 @@
 #include <stdint.h>
 
 #define VARMINTFOIL_VERSION_MAJOR 0
-#define VARMINTFOIL_VERSION_MINOR 2
+#define VARMINTFOIL_VERSION_MINOR 3
 #define VARMINTFOIL_VERSION_PATCH 0
-#define VARMINTFOIL_VERSION "0.2.0"
+#define VARMINTFOIL_VERSION "0.3.0"
 
 /* The numbers that the functions give. The card program gives 8 besides, for a fault of form. */
 #define VARMINTFOIL_OK 0                 /* success */
 #define VARMINTFOIL_BAD_SIZE 1           /* W, H, D or their product outside the limits */
-#define VARMINTFOIL_BAD_STRENGTH 2       /* a strength outside the limits */
+#define VARMINTFOIL_BAD_STRENGTH 2       /* a strength outside the limits, or 0 where both sides of the window are 0 */
 #define VARMINTFOIL_PAYLOAD_LENGTH 3     /* a payload length that is not the plan's */
 #define VARMINTFOIL_FIELD_LENGTH 4       /* a field length that is not the plan's */
 #define VARMINTFOIL_OUTSIDE_SHAPE 4      /* a row, plane or column outside the shape, in varmintfoil_class */
@@ -42,6 +48,7 @@
 #define VARMINTFOIL_BAD_PADDING 7        /* padding, the cells after the payload's last bit, that is not 0 after correction */
 #define VARMINTFOIL_BAD_SETTINGS 9       /* settings of the distance test outside its limits */
 #define VARMINTFOIL_TOO_MANY_ERASURES 10 /* some class with three erased cells or more */
+#define VARMINTFOIL_BAD_WINDOW 11        /* strength 0 and p or q 0, p * q above 512 or D above 1; another strength and p or q not 0 */
 
 /* The value of an erased cell. */
 #define VARMINTFOIL_ERASED 2
@@ -73,16 +80,18 @@ extern "C" {
 
 /* The numbers of a shape, of any size. */
 typedef struct varmintfoil_shape {
-    size_t columns VARMINTFOIL_LEFT_OUT;  /* W */
-    size_t rows VARMINTFOIL_LEFT_OUT;     /* H */
-    size_t planes VARMINTFOIL_LEFT_OUT;   /* D */
-    size_t strength VARMINTFOIL_LEFT_OUT; /* t */
+    size_t columns VARMINTFOIL_LEFT_OUT;        /* W */
+    size_t rows VARMINTFOIL_LEFT_OUT;           /* H */
+    size_t planes VARMINTFOIL_LEFT_OUT;         /* D */
+    size_t strength VARMINTFOIL_LEFT_OUT;       /* t; 0 where a window rules */
+    size_t window_rows VARMINTFOIL_LEFT_OUT;    /* p */
+    size_t window_columns VARMINTFOIL_LEFT_OUT; /* q */
 } varmintfoil_shape_t;
 
-/* A shape by the names of its members, as VARMINTFOIL_SHAPE(.columns = 5, .rows = 5, .planes = 1, .strength = 3). A member left out
- * is 0; a later version may have more members, and at 0 they change nothing. In C++ it takes C++20 and the members in the order
- * above; before C++20 make a shape whose members are all 0, varmintfoil_shape_t shape = varmintfoil_shape_t(), and set them by
- * their names. */
+/* A shape by the names of its members, as VARMINTFOIL_SHAPE(.columns = 5, .rows = 5, .planes = 1, .strength = 3) or
+ * VARMINTFOIL_SHAPE(.columns = 5, .rows = 5, .planes = 1, .window_rows = 2, .window_columns = 3). A member left out is 0; a later
+ * version may have more members, and at 0 they change nothing. In C++ it takes C++20 and the members in the order above; before C++20
+ * make a shape whose members are all 0, varmintfoil_shape_t shape = varmintfoil_shape_t(), and set them by their names. */
 #ifndef __cplusplus
 #define VARMINTFOIL_SHAPE(...) ((varmintfoil_shape_t){__VA_ARGS__})
 #elif __cplusplus > 201703L
@@ -91,7 +100,7 @@ typedef struct varmintfoil_shape {
 
 typedef struct {
     size_t number;   /* 0, or the refusal */
-    size_t classes;  /* the number of interleaving classes, m */
+    size_t classes;  /* the number of interleaving classes, m; p * q where a window rules */
     size_t capacity; /* the number of cells that hold no check, K */
     size_t bytes;    /* the payload's length, K / 8 rounded down */
     size_t cells;    /* the field's length, W * H * D */
@@ -116,26 +125,26 @@ typedef struct {
     size_t tried;   /* the number of triples tried, the one found included */
 } varmintfoil_distance_t;
 
-/* What follows from a shape alone. Refusals: 1, 2. */
+/* What follows from a shape alone. Refusals: 1, 2, 11. */
 VARMINTFOIL_NODISCARD varmintfoil_plan_t varmintfoil_plan(varmintfoil_shape_t shape);
 
-/* The interleaving class of a cell: (column - b * row - c * plane) mod m, by the settings of the shape. Refusals: 1, 2, 4 (a row, plane
- * or column outside the shape). */
+/* The interleaving class of a cell: (column - b * row - c * plane) mod m, by the settings of the shape, or, where a window rules,
+ * (row mod p) * q + (column mod q). Refusals: 1, 2, 11, 4 (a row, plane or column outside the shape). */
 VARMINTFOIL_NODISCARD varmintfoil_class_t varmintfoil_class(varmintfoil_shape_t shape, size_t row, size_t plane, size_t column);
 
-/* Writes the field of a payload. What the field held before does not matter. Gives the number itself. Refusals: 1, 2, 3, 4. */
+/* Writes the field of a payload. What the field held before does not matter. Gives the number itself. Refusals: 1, 2, 11, 3, 4. */
 VARMINTFOIL_NODISCARD size_t varmintfoil_encode(varmintfoil_shape_t shape, const uint8_t *payload, size_t payload_len, uint8_t *field,
                                                 size_t field_len);
 
 /* Reads a field: fills the payload from the field of codewords that it stands for, and counts the cells where it differs from that. A
  * class with one or two cells erased stands for the one codeword that agrees with every cell that was read, and any other for the one
  * that differs in at most one cell. Where the damage took two or more cells of one class, that codeword need not be the one that was
- * written, save where all of them are erased. What the payload held before does not matter. Refusals: 1, 2, 3, 4, 5, 10, 6, 7. */
+ * written, save where all of them are erased. What the payload held before does not matter. Refusals: 1, 2, 11, 3, 4, 5, 10, 6, 7. */
 VARMINTFOIL_NODISCARD varmintfoil_count_t varmintfoil_decode(varmintfoil_shape_t shape, uint8_t *payload, size_t payload_len,
                                                              const uint8_t *field, size_t field_len);
 
 /* Corrects a field where it lies: leaves the field of codewords that it stands for, in which no cell is erased, and counts the cells
- * that it changed; of damage to two or more cells of one class the same holds. Refusals: 1, 2, 4, 5, 10, 6, 7. */
+ * that it changed; of damage to two or more cells of one class the same holds. Refusals: 1, 2, 11, 4, 5, 10, 6, 7. */
 VARMINTFOIL_NODISCARD varmintfoil_count_t varmintfoil_correct(varmintfoil_shape_t shape, uint8_t *field, size_t field_len);
 
 /* Are all different cells of one class, (column - b * row - c * plane) mod m, at least t apart in an endless stack? Tries the difference

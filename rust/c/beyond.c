@@ -5,39 +5,41 @@
 #include <stdio.h>
 #include <string.h>
 
-/* The greatest strength of any shape. */
-enum { MAX_STRENGTH = 32 };
-
 static size_t apart(size_t one, size_t other) {
     return one < other ? other - one : one - other;
 }
 
-/* The distance of two cells: the sum of the absolute differences of row, plane and column. */
-static size_t distance(varmintfoil_shape_t shape, size_t one, size_t other) {
+/* May two cells be of one hole of at most t connected cells or, where a window rules, of one window? Of one hole they are less than t
+ * apart: the sum of the absolute differences of row, plane and column. */
+static bool near_enough(varmintfoil_shape_t shape, size_t one, size_t other) {
     size_t columns = shape.columns, rows = shape.rows;
-    return apart(one / columns % rows, other / columns % rows) + apart(one / columns / rows, other / columns / rows)
-        + apart(one % columns, other % columns);
+    size_t down = apart(one / columns % rows, other / columns % rows), right = apart(one % columns, other % columns);
+    if (shape.strength == 0) {
+        return down < shape.window_rows && right < shape.window_columns;
+    }
+    return down + apart(one / columns / rows, other / columns / rows) + right < shape.strength;
 }
 
-/* May the damage have been one hole of at most t connected cells? The shape is one that was not refused, `before` the field as it was
- * read, `after` as varmintfoil_correct left it.
+/* May the damage have been one hole of at most t connected cells or, where a window rules, inside one window? The shape is one that was
+ * not refused, `before` the field as it was read, `after` as varmintfoil_correct left it.
  *
- * Where it was, the cells that varmintfoil_correct flips are at most t, and any two of them are less than t apart. Where they are not,
- * the damage was beyond the promise, and the payload may be another one.
+ * Where it was, the cells that varmintfoil_correct flips are at most t, or the window's, and any two of them are near enough. Where they
+ * are not, the damage was beyond the promise, and the payload may be another one.
  *
  * The test is for fields without erased cells. Each of these that is filled counts as flipped, so that two holes of them, which are
  * within the promise, are told as beyond it. */
 static bool within_promise(varmintfoil_shape_t shape, const uint8_t *before, const uint8_t *after) {
-    size_t flipped[MAX_STRENGTH], count = 0;
+    size_t flipped[VARMINTFOIL_MAX_CLASSES], count = 0;
+    size_t most = shape.strength == 0 ? shape.window_rows * shape.window_columns : shape.strength;
     for (size_t cell = 0; cell < shape.columns * shape.rows * shape.planes; cell++) {
         if (before[cell] == after[cell]) {
             continue;
         }
-        if (count == shape.strength) {
+        if (count == most) {
             return false;
         }
         for (size_t i = 0; i < count; i++) {
-            if (distance(shape, flipped[i], cell) >= shape.strength) {
+            if (!near_enough(shape, flipped[i], cell)) {
                 return false;
             }
         }

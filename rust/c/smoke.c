@@ -44,6 +44,17 @@ static void the_limits(void) {
     expect(plan.number == VARMINTFOIL_BAD_STRENGTH, "33 is a bad strength");
     plan = varmintfoil_plan(VARMINTFOIL_SHAPE(.columns = 5, .rows = 5, .planes = 1));
     expect(plan.number == VARMINTFOIL_BAD_STRENGTH, "a strength left out is 0, a bad one");
+    plan = varmintfoil_plan(VARMINTFOIL_SHAPE(.columns = 5, .rows = 5, .planes = 1, .strength = 3, .window_rows = 2));
+    expect(plan.number == VARMINTFOIL_BAD_WINDOW, "a window beside a strength");
+    plan = varmintfoil_plan(VARMINTFOIL_SHAPE(.columns = 5, .rows = 5, .planes = 1, .window_columns = 3));
+    expect(plan.number == VARMINTFOIL_BAD_WINDOW, "a window with no rows");
+    plan = varmintfoil_plan(VARMINTFOIL_SHAPE(.columns = 5, .rows = 5, .planes = 2, .window_rows = 2, .window_columns = 3));
+    expect(plan.number == VARMINTFOIL_BAD_WINDOW, "a window in two planes");
+    plan = varmintfoil_plan(VARMINTFOIL_SHAPE(.columns = 5, .rows = 5, .planes = 1, .window_rows = 23, .window_columns = 23));
+    expect(plan.number == VARMINTFOIL_BAD_WINDOW, "a window of 529 cells");
+    plan = varmintfoil_plan(
+        VARMINTFOIL_SHAPE(.columns = 5, .rows = 5, .planes = 1, .window_rows = SIZE_MAX, .window_columns = SIZE_MAX));
+    expect(plan.number == VARMINTFOIL_BAD_WINDOW && plan.cells == 0, "huge sides of a window");
 }
 
 static void the_classes(void) {
@@ -105,6 +116,30 @@ static void the_erased_cells(void) {
     expect(count.number == VARMINTFOIL_TOO_MANY_ERASURES && count.count == 0 && payload[0] == 0x3c, "three rows are too many");
 }
 
+static void the_window(void) {
+    varmintfoil_shape_t torn = VARMINTFOIL_SHAPE(.columns = 5, .rows = 5, .planes = 1, .window_rows = 2, .window_columns = 3);
+    varmintfoil_plan_t plan = varmintfoil_plan(torn);
+    varmintfoil_class_t last = varmintfoil_class(torn, 3, 0, 4);
+    uint8_t payload[1] = {0xa5};
+    uint8_t field[25], damaged[25];
+    varmintfoil_count_t count;
+
+    expect(plan.number == VARMINTFOIL_OK && plan.classes == 6 && plan.cells == 25, "plan of a window of 2 by 3");
+    expect(plan.capacity == 9 && plan.bytes == 1, "and its payload");
+    expect(last.number == VARMINTFOIL_OK && last.class_index == 4, "row 3 and column 4 are of class 4");
+    expect(varmintfoil_encode(torn, payload, 1, field, 25) == VARMINTFOIL_OK, "encode by a window");
+    memcpy(damaged, field, 25);
+    /* Rows 1 and 2, columns 1 to 3, across corners. */
+    damaged[6] ^= 1;
+    damaged[12] ^= 1;
+    damaged[8] ^= 1;
+    payload[0] = 0x3c;
+    count = varmintfoil_decode(torn, payload, 1, damaged, 25);
+    expect(count.number == VARMINTFOIL_OK && count.count == 3 && payload[0] == 0xa5, "torn corners are read with 3 mended");
+    count = varmintfoil_correct(torn, damaged, 25);
+    expect(count.number == VARMINTFOIL_OK && count.count == 3 && memcmp(damaged, field, 25) == 0, "and corrected");
+}
+
 static void the_padding(void) {
     varmintfoil_shape_t three = VARMINTFOIL_SHAPE(.columns = 3, .rows = 1, .planes = 1, .strength = 1);
     uint8_t cells[3] = {1, 1, 1};
@@ -140,6 +175,7 @@ int main(void) {
     the_classes();
     the_card();
     the_erased_cells();
+    the_window();
     the_padding();
     no_bytes();
     the_distance_test();

@@ -85,6 +85,9 @@ static const varmintfoil_shape_t shapes[] = {
     {.columns = 256, .rows = 256, .planes = 1, .strength = 32},
     {.columns = 256, .rows = 16, .planes = 16, .strength = 8},
     {.columns = 17, .rows = 241, .planes = 15, .strength = 6},
+    {.columns = 256, .rows = 256, .planes = 1, .window_rows = 22, .window_columns = 23},
+    {.columns = 256, .rows = 256, .planes = 1, .window_rows = 1, .window_columns = 512},
+    {.columns = 256, .rows = 256, .planes = 1, .window_rows = 512, .window_columns = 1},
 };
 
 int main(void) {

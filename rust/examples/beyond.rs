@@ -2,22 +2,30 @@
 
 use varmintfoil::{correct, decode, encode, Refusal, Shape};
 
-/// May the damage have been one hole of at most t connected cells? `before` is the field as it was read, `after` as `correct` left it.
+/// May the damage have been one hole of at most t connected cells or, where a window rules, inside one window? `before` is the field as
+/// it was read, `after` as `correct` left it.
 ///
-/// Where it was, the cells that `correct` flips are at most t, and any two of them are less than t apart: the sum of the absolute
-/// differences of row, plane and column. Where they are not, the damage was beyond the promise, and the payload may be another one.
+/// Where it was one hole, the cells that `correct` flips are at most t, and any two of them are less than t apart: the sum of the
+/// absolute differences of row, plane and column. Where it was inside a window, any two of them are fewer rows apart than the
+/// window has, and fewer columns. Where they are not, the damage was beyond the promise, and the payload may be another one.
 ///
 /// The test is for fields without erased cells. Each of these that is filled counts as flipped, so that two holes of them, which are
 /// within the promise, are told as beyond it.
 pub fn within_promise(shape: &Shape, before: &[u8], after: &[u8]) -> bool {
-    let (columns, rows, strength) = (shape.columns(), shape.rows(), shape.strength());
+    let (columns, rows, strength, window) = (shape.columns(), shape.rows(), shape.strength(), shape.window());
     let flipped: Vec<usize> = (0..shape.cells()).filter(|&cell| before[cell] != after[cell]).collect();
+    let most = if strength == 0 { window.rows * window.columns } else { strength };
     let place = |cell: usize| [cell / columns % rows, cell / columns / rows, cell % columns];
     let near = |one: usize, other: usize| {
-        let distance: usize = place(one).into_iter().zip(place(other)).map(|(a, b)| a.abs_diff(b)).sum();
-        distance < strength
+        let (one, other) = (place(one), place(other));
+        let apart = [0, 1, 2].map(|i| one[i].abs_diff(other[i]));
+        if strength == 0 {
+            apart[0] < window.rows && apart[2] < window.columns
+        } else {
+            apart.iter().sum::<usize>() < strength
+        }
     };
-    flipped.len() <= strength && flipped.iter().all(|&one| flipped.iter().all(|&other| near(one, other)))
+    flipped.len() <= most && flipped.iter().all(|&one| flipped.iter().all(|&other| near(one, other)))
 }
 
 /// Flips four cells in a square; the row and the column are those of the first.

@@ -1,4 +1,5 @@
-//! The reference implementation: document 01, sentence by sentence, and the erased (unread) cells of document 02, in plain Rust.
+//! The reference implementation: document 01, sentence by sentence, and the erased (unread) cells and the windows (oblong damage) of
+//! document 02, in plain Rust.
 //!
 //! It is written to be read and to be compared with, not to be fast. A class is corrected by search, not by its syndrome: the class
 //! as it is and with each one cell flipped is tried, and the codeword among them is taken. Where cells of a class are erased, both
@@ -33,16 +34,30 @@ pub struct Distance {
     pub tried: usize,
 }
 
-/// A shape within the limits: W columns, H rows, D planes and the strength t.
-#[derive(Clone, Copy, Debug, PartialEq, Eq)]
+/// The numbers of a shape, of any size: W columns, H rows, D planes, the strength t, and p rows and q columns of a window.
+#[derive(Clone, Copy, Debug, Default, PartialEq, Eq)]
 pub struct Shape {
     pub w: usize,
     pub h: usize,
     pub d: usize,
     pub t: usize,
+    pub p: usize,
+    pub q: usize,
 }
 
-/// The settings of a shape: the class of a cell is (column − b × row − c × plane) mod m.
+impl Shape {
+    /// A shape that has a strength, and no window.
+    pub fn of_strength(w: usize, h: usize, d: usize, t: usize) -> Shape {
+        Shape { w, h, d, t, p: 0, q: 0 }
+    }
+
+    /// A flat shape that a window of p rows by q columns rules.
+    pub fn of_window(w: usize, h: usize, p: usize, q: usize) -> Shape {
+        Shape { w, h, d: 1, t: 0, p, q }
+    }
+}
+
+/// The settings of a shape that has a strength: the class of a cell is (column − b × row − c × plane) mod m.
 #[derive(Clone, Copy, Debug, PartialEq, Eq)]
 pub struct Settings {
     pub m: i64,
@@ -61,27 +76,39 @@ fn sides_fit(w: usize, h: usize, d: usize) -> bool {
     (1..=256).contains(&w) && (1..=256).contains(&h) && (1..=16).contains(&d) && w * h * d <= 65_536
 }
 
-/// t from 1 to 32 for a flat field and from 1 to 8 for a stack.
-fn strength_fits(d: usize, t: usize) -> bool {
-    if d == 1 {
-        (1..=32).contains(&t)
-    } else {
-        (1..=8).contains(&t)
+/// t from 1 to 32 for a flat field and from 1 to 8 for a stack; or 0, where some side of the window is not 0.
+fn strength_fits(shape: &Shape) -> bool {
+    match shape.t {
+        0 => shape.p != 0 || shape.q != 0,
+        t => t <= if shape.d == 1 { 32 } else { 8 },
     }
 }
 
-/// The shape, or 1, or 2.
-pub fn shape(w: usize, h: usize, d: usize, t: usize) -> Result<Shape, Number> {
-    if !sides_fit(w, h, d) {
+/// With strength 0 two sides of at least 1, of at most 512 cells, and one plane; with another strength no side but 0.
+fn window_fits(shape: &Shape) -> bool {
+    let &Shape { d, t, p, q, .. } = shape;
+    if t == 0 {
+        d == 1 && p.checked_mul(q).is_some_and(|cells| (1..=512).contains(&cells))
+    } else {
+        p == 0 && q == 0
+    }
+}
+
+/// Is the shape within the limits? 1, 2, 11.
+pub fn test(shape: &Shape) -> Result<(), Number> {
+    if !sides_fit(shape.w, shape.h, shape.d) {
         return Err(1);
     }
-    if !strength_fits(d, t) {
+    if !strength_fits(shape) {
         return Err(2);
     }
-    Ok(Shape { w, h, d, t })
+    if !window_fits(shape) {
+        return Err(11);
+    }
+    Ok(())
 }
 
-/// The settings that belong to a shape.
+/// The settings that belong to a shape that has a strength.
 pub fn settings(shape: &Shape) -> Settings {
     let t = shape.t as i64;
     if shape.d == 1 {
@@ -96,8 +123,32 @@ pub fn settings(shape: &Shape) -> Settings {
     }
 }
 
+/// The number of classes, m.
+pub fn number_of_classes(shape: &Shape) -> usize {
+    if shape.t == 0 {
+        shape.p * shape.q
+    } else {
+        settings(shape).m as usize
+    }
+}
+
+/// The class of a cell where a window rules. The field is laid out with windows from its first cell on; in the window that has the cell
+/// its row and its column are found by taking away whole windows, and the cells of a window are numbered row by row.
+fn class_by_window(shape: &Shape, mut row: usize, mut column: usize) -> usize {
+    while row >= shape.p {
+        row -= shape.p;
+    }
+    while column >= shape.q {
+        column -= shape.q;
+    }
+    row * shape.q + column
+}
+
 /// The class of cell (row, plane, column).
 fn class_in(shape: &Shape, row: usize, plane: usize, column: usize) -> usize {
+    if shape.t == 0 {
+        return class_by_window(shape, row, column);
+    }
     let s = settings(shape);
     (column as i64 - s.b * row as i64 - s.c * plane as i64).rem_euclid(s.m) as usize
 }
@@ -114,7 +165,7 @@ pub fn cells(shape: &Shape) -> usize {
 
 /// For each class its cells in byte order; the cell at place i has position i + 1.
 pub fn classes(shape: &Shape) -> Vec<Vec<usize>> {
-    let mut classes = vec![Vec::new(); settings(shape).m as usize];
+    let mut classes = vec![Vec::new(); number_of_classes(shape)];
     for plane in 0..shape.d {
         for row in 0..shape.h {
             for column in 0..shape.w {
@@ -268,25 +319,25 @@ pub fn differences(one: &[u8], other: &[u8]) -> usize {
 
 // Operations
 
-/// Plan: m, K, payload bytes and cells; 1, 2.
-pub fn plan(w: usize, h: usize, d: usize, t: usize) -> Result<Plan, Number> {
-    let shape = shape(w, h, d, t)?;
-    let capacity = data_cells(&shape).len();
-    Ok(Plan { classes: settings(&shape).m as usize, capacity, bytes: capacity / 8, cells: cells(&shape) })
+/// Plan: m, K, payload bytes and cells; 1, 2, 11.
+pub fn plan(shape: &Shape) -> Result<Plan, Number> {
+    test(shape)?;
+    let capacity = data_cells(shape).len();
+    Ok(Plan { classes: number_of_classes(shape), capacity, bytes: capacity / 8, cells: cells(shape) })
 }
 
-/// Class of a cell: 1, 2, 4.
-pub fn class_of(w: usize, h: usize, d: usize, t: usize, row: usize, plane: usize, column: usize) -> Result<usize, Number> {
-    let shape = shape(w, h, d, t)?;
-    if row >= h || plane >= d || column >= w {
+/// Class of a cell: 1, 2, 11, 4.
+pub fn class_of(shape: &Shape, row: usize, plane: usize, column: usize) -> Result<usize, Number> {
+    test(shape)?;
+    if row >= shape.h || plane >= shape.d || column >= shape.w {
         return Err(4);
     }
-    Ok(class_in(&shape, row, plane, column))
+    Ok(class_in(shape, row, plane, column))
 }
 
-/// Encode (write): 1, 2, 3, 4.
-pub fn encode(w: usize, h: usize, d: usize, t: usize, payload: &[u8], field: &mut [u8]) -> Result<(), Number> {
-    let plan = plan(w, h, d, t)?;
+/// Encode (write): 1, 2, 11, 3, 4.
+pub fn encode(shape: &Shape, payload: &[u8], field: &mut [u8]) -> Result<(), Number> {
+    let plan = plan(shape)?;
     if payload.len() != plan.bytes {
         return Err(3);
     }
@@ -295,7 +346,7 @@ pub fn encode(w: usize, h: usize, d: usize, t: usize, payload: &[u8], field: &mu
     }
     let mut bits = bits_of(payload);
     bits.resize(plan.capacity, 0);
-    field.copy_from_slice(&field_of_bits(&Shape { w, h, d, t }, &bits));
+    field.copy_from_slice(&field_of_bits(shape, &bits));
     Ok(())
 }
 
@@ -318,27 +369,28 @@ fn restore(shape: &Shape, field: &[u8]) -> Result<(Vec<u8>, Vec<u8>), Number> {
     Ok((corrected, payload))
 }
 
-/// Decode (read): fills the payload and gives the count of cells where the corrected field differs; 1, 2, 3, 4, 5, 10, 6, 7.
-pub fn decode(w: usize, h: usize, d: usize, t: usize, payload: &mut [u8], field: &[u8]) -> Result<usize, Number> {
-    let plan = plan(w, h, d, t)?;
+/// Decode (read): fills the payload and gives the count of cells where the corrected field differs; 1, 2, 11, 3, 4, 5, 10, 6,
+/// 7.
+pub fn decode(shape: &Shape, payload: &mut [u8], field: &[u8]) -> Result<usize, Number> {
+    let plan = plan(shape)?;
     if payload.len() != plan.bytes {
         return Err(3);
     }
     if field.len() != plan.cells {
         return Err(4);
     }
-    let (corrected, bytes) = restore(&Shape { w, h, d, t }, field)?;
+    let (corrected, bytes) = restore(shape, field)?;
     payload.copy_from_slice(&bytes);
     Ok(differences(&corrected, field))
 }
 
-/// Correct (mend): leaves the corrected field in the lent one and gives the count of cells changed; 1, 2, 4, 5, 10, 6, 7.
-pub fn correct(w: usize, h: usize, d: usize, t: usize, field: &mut [u8]) -> Result<usize, Number> {
-    let plan = plan(w, h, d, t)?;
+/// Correct (mend): leaves the corrected field in the lent one and gives the count of cells changed; 1, 2, 11, 4, 5, 10, 6, 7.
+pub fn correct(shape: &Shape, field: &mut [u8]) -> Result<usize, Number> {
+    let plan = plan(shape)?;
     if field.len() != plan.cells {
         return Err(4);
     }
-    let (corrected, _) = restore(&Shape { w, h, d, t }, field)?;
+    let (corrected, _) = restore(shape, field)?;
     let count = differences(&corrected, field);
     field.copy_from_slice(&corrected);
     Ok(count)
@@ -375,7 +427,13 @@ pub fn distance_test(m: usize, b: usize, c: usize, t: usize) -> Result<Distance,
 
 // Card text
 
-/// What follows the first four lines.
+/// The first lines: the numbers of a shape, and whether the sides of its window were given.
+struct FirstLines {
+    shape: Shape,
+    sides_given: bool,
+}
+
+/// What follows the first lines.
 enum Rest {
     Payload(Vec<u8>),
     Rows(Vec<u8>),
@@ -415,13 +473,19 @@ fn row_cells(value: &[u8], w: usize) -> Option<Vec<u8>> {
     form.then(|| value.iter().map(|&digit| digit - b'0').collect())
 }
 
-/// The four numbers of the first four lines.
-fn first_lines(text: &mut &[u8]) -> Option<(usize, usize, usize, usize)> {
+/// The numbers of the first lines: four, and both sides of a window where either line of them follows.
+fn first_lines(text: &mut &[u8]) -> Option<FirstLines> {
     let w = number(take_line(text, "columns")?)?;
     let h = number(take_line(text, "rows")?)?;
     let d = number(take_line(text, "planes")?)?;
     let t = number(take_line(text, "strength")?)?;
-    Some((w, h, d, t))
+    let sides_given = text.starts_with(b"window_rows=") || text.starts_with(b"window_columns=");
+    let (mut p, mut q) = (0, 0);
+    if sides_given {
+        p = number(take_line(text, "window_rows")?)?;
+        q = number(take_line(text, "window_columns")?)?;
+    }
+    Some(FirstLines { shape: Shape { w, h, d, t, p, q }, sides_given })
 }
 
 /// Either one `payload` or D × H lines `row`; nothing follows.
@@ -438,9 +502,11 @@ fn later_lines(mut text: &[u8], shape: &Shape) -> Option<Rest> {
     text.is_empty().then_some(rest)
 }
 
-/// The four lines, as they are printed again.
-fn print_first_lines(shape: &Shape) -> String {
-    format!("columns={}\nrows={}\nplanes={}\nstrength={}\n", shape.w, shape.h, shape.d, shape.t)
+/// The first lines, as they are printed again.
+fn print_first_lines(lines: &FirstLines) -> String {
+    let &Shape { w, h, d, t, p, q } = &lines.shape;
+    let sides = if lines.sides_given { format!("window_rows={p}\nwindow_columns={q}\n") } else { String::new() };
+    format!("columns={w}\nrows={h}\nplanes={d}\nstrength={t}\n{sides}")
 }
 
 /// The rows of a field, plane after plane.
@@ -455,23 +521,23 @@ fn card_answer(input: &[u8]) -> Result<String, Number> {
         return Err(8);
     }
     let mut text = input;
-    let (w, h, d, t) = first_lines(&mut text).ok_or(8usize)?;
-    let plan = plan(w, h, d, t)?;
+    let first = first_lines(&mut text).ok_or(8usize)?;
+    let shape = &first.shape;
+    let plan = plan(shape)?;
     if plan.cells > 16_384 {
         return Err(8);
     }
-    let shape = Shape { w, h, d, t };
-    match later_lines(text, &shape).ok_or(8usize)? {
+    match later_lines(text, shape).ok_or(8usize)? {
         Rest::Payload(payload) => {
             let mut field = vec![0; plan.cells];
-            encode(w, h, d, t, &payload, &mut field)?;
-            Ok(format!("{}classes={}\n{}", print_first_lines(&shape), plan.classes, print_rows(&field, w)))
+            encode(shape, &payload, &mut field)?;
+            Ok(format!("{}classes={}\n{}", print_first_lines(&first), plan.classes, print_rows(&field, shape.w)))
         }
         Rest::Rows(field) => {
             let mut payload = vec![0; plan.bytes];
-            let count = decode(w, h, d, t, &mut payload, &field)?;
+            let count = decode(shape, &mut payload, &field)?;
             let digits: String = payload.iter().map(|byte| format!("{byte:02x}")).collect();
-            Ok(format!("{}mended={count}\npayload={digits}\n", print_first_lines(&shape)))
+            Ok(format!("{}mended={count}\npayload={digits}\n", print_first_lines(&first)))
         }
     }
 }

@@ -12,7 +12,7 @@
 
 include!(concat!(env!("OUT_DIR"), "/same.rs"));
 
-use lattice::shape::ShapeNumbers;
+pub use lattice::shape::{ShapeNumbers, Window};
 
 /// The number as a result.
 fn result<T>(number: usize, value: T) -> Result<T, usize> {
@@ -23,34 +23,20 @@ fn result<T>(number: usize, value: T) -> Result<T, usize> {
     }
 }
 
-/// Encode (write): 1, 2, 3, 4.
-pub fn encode(
-    columns: usize,
-    rows: usize,
-    planes: usize,
-    strength: usize,
-    payload: &[u8],
-    field: &mut [u8],
-) -> Result<(), usize> {
-    let answer = operations::encode_in(ShapeNumbers { columns, rows, planes, strength }, payload, field);
+/// Encode (write): 1, 2, 11, 3, 4.
+pub fn encode(shape: ShapeNumbers, payload: &[u8], field: &mut [u8]) -> Result<(), usize> {
+    let answer = operations::encode_in(shape, payload, field);
     result(answer.number(), ())
 }
 
-/// Decode (read): 1, 2, 3, 4, 5, 10, 6, 7. Gives the number of cells changed on the way.
-pub fn decode(
-    columns: usize,
-    rows: usize,
-    planes: usize,
-    strength: usize,
-    payload: &mut [u8],
-    field: &[u8],
-) -> Result<usize, usize> {
-    let answer = operations::decode_in(ShapeNumbers { columns, rows, planes, strength }, payload, field);
+/// Decode (read): 1, 2, 11, 3, 4, 5, 10, 6, 7. Gives the number of cells changed on the way.
+pub fn decode(shape: ShapeNumbers, payload: &mut [u8], field: &[u8]) -> Result<usize, usize> {
+    let answer = operations::decode_in(shape, payload, field);
     result(answer.number(), answer.count())
 }
 
-/// Correct (mend) a field where it lies: 1, 2, 4, 5, 10, 6, 7. Gives the number of cells changed.
-pub fn correct(columns: usize, rows: usize, planes: usize, strength: usize, field: &mut [u8]) -> Result<usize, usize> {
-    let answer = operations::correct_in(ShapeNumbers { columns, rows, planes, strength }, field);
+/// Correct (mend) a field where it lies: 1, 2, 11, 4, 5, 10, 6, 7. Gives the number of cells changed.
+pub fn correct(shape: ShapeNumbers, field: &mut [u8]) -> Result<usize, usize> {
+    let answer = operations::correct_in(shape, field);
     result(answer.number(), answer.count())
 }

@@ -4,6 +4,14 @@
 //! listed with it; then all figures are 0 and the slices keep their bytes. A slice is valid for its length and a mutable one overlaps no
 //! other, which is what the library cannot see for itself. `include/varmintfoil.h` is the same interface for C.
 
+/// A window of some rows and columns; both are 0 where a shape has none. In C its sides are two members of the shape.
+#[repr(C)]
+#[derive(Clone, Copy, Debug, Default, PartialEq, Eq, Hash)]
+pub struct Window {
+    pub rows: usize,
+    pub columns: usize,
+}
+
 /// The numbers of a shape, of any size. A number left out is 0: `ShapeNumbers { columns: 5, ..ShapeNumbers::default() }`.
 #[repr(C)]
 #[derive(Clone, Copy, Debug, Default, PartialEq, Eq, Hash)]
@@ -11,7 +19,9 @@ pub struct ShapeNumbers {
     pub columns: usize,
     pub rows: usize,
     pub planes: usize,
+    /// 0 where a window rules.
     pub strength: usize,
+    pub window: Window,
 }
 
 /// The answer of `plan`.
@@ -73,21 +83,21 @@ extern "C" {
     fn varmintfoil_distance_test(m: usize, b: usize, c: usize, t: usize) -> DistanceAnswer;
 }
 
-/// Classes, capacity, payload bytes and cells of a shape: 1, 2.
+/// Classes, capacity, payload bytes and cells of a shape: 1, 2, 11.
 #[must_use]
 pub fn plan(shape: ShapeNumbers) -> PlanAnswer {
     // SAFETY: only numbers pass.
     unsafe { varmintfoil_plan(shape) }
 }
 
-/// The class of a cell: 1, 2, 4.
+/// The class of a cell: 1, 2, 11, 4.
 #[must_use]
 pub fn class_of(shape: ShapeNumbers, row: usize, plane: usize, column: usize) -> ClassAnswer {
     // SAFETY: only numbers pass.
     unsafe { varmintfoil_class(shape, row, plane, column) }
 }
 
-/// Writes the field of a payload: 1, 2, 3, 4.
+/// Writes the field of a payload: 1, 2, 11, 3, 4.
 #[must_use]
 pub fn encode(shape: ShapeNumbers, payload: &[u8], field: &mut [u8]) -> usize {
     let (bytes, cells) = (payload.len(), field.len());
@@ -95,7 +105,7 @@ pub fn encode(shape: ShapeNumbers, payload: &[u8], field: &mut [u8]) -> usize {
     unsafe { varmintfoil_encode(shape, payload.as_ptr(), bytes, field.as_mut_ptr(), cells) }
 }
 
-/// Reads a field into a payload: 1, 2, 3, 4, 5, 10, 6, 7.
+/// Reads a field into a payload: 1, 2, 11, 3, 4, 5, 10, 6, 7.
 #[must_use]
 pub fn decode(shape: ShapeNumbers, payload: &mut [u8], field: &[u8]) -> CountAnswer {
     let (bytes, cells) = (payload.len(), field.len());
@@ -103,7 +113,7 @@ pub fn decode(shape: ShapeNumbers, payload: &mut [u8], field: &[u8]) -> CountAns
     unsafe { varmintfoil_decode(shape, payload.as_mut_ptr(), bytes, field.as_ptr(), cells) }
 }
 
-/// Corrects a field where it lies: 1, 2, 4, 5, 10, 6, 7.
+/// Corrects a field where it lies: 1, 2, 11, 4, 5, 10, 6, 7.
 #[must_use]
 pub fn correct(shape: ShapeNumbers, field: &mut [u8]) -> CountAnswer {
     // SAFETY: the slice is valid for its length.

@@ -1,4 +1,5 @@
-//! Varmintfoil: a payload in a field of black and white cells that outlives any one hole of at most t connected cells.
+//! Varmintfoil: a payload in a field of black and white cells that outlives any one hole of at most t connected cells or, by
+//! another setting, any damage inside one window of p by q cells.
 //!
 //! The codec itself is proved and lies in the static library that `rt staticlib varmintfoil` writes at the repository's root;
 //! this is a safe wrapper over it. Nothing handed to it can upset it: each operation succeeds or gives its first listed
@@ -26,6 +27,8 @@
 //! ```
 //!
 //! A cell that was not read is handed in as [`ERASED`]. Two holes of erased cells, of at most t connected cells each, are filled.
+//!
+//! `Shape::with_window` makes a shape for damage that tears across corners: any cells flipped inside one window are undone.
 //!
 //! Two holes of t flipped cells are mostly not refused but read as another payload. Where no cell is erased, the function
 //! `within_promise` of the example `beyond` tells most of them, from the field before and after `correct`.

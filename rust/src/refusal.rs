@@ -8,7 +8,7 @@ use std::fmt;
 pub enum Refusal {
     /// 1: columns, rows, planes or their product outside the limits.
     BadSize,
-    /// 2: a strength outside the limits.
+    /// 2: a strength outside the limits, or 0 with no window.
     BadStrength,
     /// 3: a payload whose length is not the plan's.
     PayloadLength,
@@ -28,6 +28,8 @@ pub enum Refusal {
     BadSettings,
     /// 10: some class with three erasures or more.
     TooManyErasures,
+    /// 11: a window outside the limits or in more than one plane, or a window beside a strength.
+    BadWindow,
 }
 
 impl Refusal {
@@ -44,6 +46,7 @@ impl Refusal {
             Refusal::BadForm => 8,
             Refusal::BadSettings => 9,
             Refusal::TooManyErasures => 10,
+            Refusal::BadWindow => 11,
         }
     }
 
@@ -60,6 +63,7 @@ impl Refusal {
             8 => Refusal::BadForm,
             9 => Refusal::BadSettings,
             10 => Refusal::TooManyErasures,
+            11 => Refusal::BadWindow,
             _ => return None,
         })
     }
@@ -83,6 +87,9 @@ impl fmt::Display for Refusal {
             Refusal::BadForm => "the card text is malformed or too large",
             Refusal::BadSettings => "the settings are outside the limits: m from 1 to 4,096, b and c below m",
             Refusal::TooManyErasures => "some class has three erasures or more",
+            Refusal::BadWindow => {
+                "the window is outside the limits: one plane, strength 0, two sides of at least 1 and at most 512 cells"
+            }
         })
     }
 }

@@ -1,5 +1,6 @@
 //! The safe wrapper over the C interface.
 
+pub use crate::ffi::Window;
 use crate::ffi::{self, ShapeNumbers};
 use crate::Refusal;
 
@@ -17,7 +18,7 @@ pub struct Plan {
     pub cells: usize,
 }
 
-/// A shape within the limits, with its strength.
+/// A shape within the limits, with its strength or its window.
 #[derive(Clone, Copy, Debug, PartialEq, Eq, Hash)]
 pub struct Shape {
     numbers: ShapeNumbers,
@@ -25,9 +26,36 @@ pub struct Shape {
 }
 
 impl Shape {
-    /// The shape, or `BadSize`, or `BadStrength`.
+    /// The shape for holes of at most `strength` connected cells, or `BadSize`, or `BadStrength`.
     pub fn new(columns: usize, rows: usize, planes: usize, strength: usize) -> Result<Shape, Refusal> {
-        let numbers = ShapeNumbers { columns, rows, planes, strength };
+        Shape::of_numbers(ShapeNumbers { columns, rows, planes, strength, ..ShapeNumbers::default() })
+    }
+
+    /// The flat shape for damage inside a window of some rows by some columns, or `BadSize`, or `BadStrength` where both sides are
+    /// 0, or `BadWindow` where one is 0 or the window has more than 512 cells. Its sides may exceed the field's.
+    ///
+    /// An awl tears across corners, and such cells are not connected. Here any cells flipped inside one window are undone, wherever it
+    /// lies, also over the field's edge. A patch of t cells that touch by sides or corners lies in a window of t by t.
+    ///
+    /// ```
+    /// use varmintfoil::{decode, encode, Refusal, Shape, Window};
+    ///
+    /// let shape = Shape::with_window(9, 9, Window { rows: 3, columns: 3 })?;
+    /// assert_eq!((shape.classes(), shape.payload_bytes()), (9, 5));
+    /// let mut field = encode(&shape, b"torn!")?;
+    /// for (row, column) in [(4, 4), (5, 5), (6, 6)] {
+    ///     field[shape.cell(row, 0, column)?] ^= 1;
+    /// }
+    /// let decoded = decode(&shape, &field)?;
+    /// assert_eq!((decoded.payload.as_slice(), decoded.mended), (b"torn!".as_slice(), 3));
+    /// # Ok::<(), Refusal>(())
+    /// ```
+    pub fn with_window(columns: usize, rows: usize, window: Window) -> Result<Shape, Refusal> {
+        Shape::of_numbers(ShapeNumbers { columns, rows, planes: 1, strength: 0, window })
+    }
+
+    /// The shape of these numbers, or `BadSize`, then `BadStrength`, then `BadWindow`.
+    pub fn of_numbers(numbers: ShapeNumbers) -> Result<Shape, Refusal> {
         let ffi::PlanAnswer { number, classes, capacity, bytes, cells } = ffi::plan(numbers);
         check(number)?;
         Ok(Shape { numbers, plan: Plan { classes, capacity, bytes, cells } })
@@ -45,8 +73,14 @@ impl Shape {
         self.numbers.planes
     }
 
+    /// The strength; 0 where a window rules.
     pub fn strength(&self) -> usize {
         self.numbers.strength
+    }
+
+    /// The window; 0 by 0 where the shape has a strength.
+    pub fn window(&self) -> Window {
+        self.numbers.window
     }
 
     pub fn plan(&self) -> Plan {

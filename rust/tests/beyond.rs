@@ -7,7 +7,7 @@ mod common;
 
 use beyond::within_promise;
 use common::*;
-use varmintfoil::{correct, encode, Shape};
+use varmintfoil::{correct, encode, Shape, Window};
 
 /// What the test says of an empty field of 9 by 9 by 9 cells at strength 3 in which these cells are flipped: rows, planes, columns.
 fn flipped(cells: &[[usize; 3]]) -> bool {
@@ -35,15 +35,43 @@ fn the_bounds() {
     assert!(!flipped(&[[4, 4, 3], [4, 4, 5], [4, 4, 7]]), "three cells in a row of near ones");
 }
 
-/// Any cells of any one cluster of at most t cells.
+/// The same of an empty field of 9 by 9 cells that a window of 2 by 3 rules: rows and columns.
+fn flipped_by_window(cells: &[[usize; 2]]) -> bool {
+    let shape = Shape::with_window(9, 9, Window { rows: 2, columns: 3 }).unwrap();
+    let before = vec![0; shape.cells()];
+    let mut after = before.clone();
+    for &[row, column] in cells {
+        after[shape.cell(row, 0, column).unwrap()] = 1;
+    }
+    within_promise(&shape, &before, &after)
+}
+
 #[test]
-fn one_cluster() {
+fn the_bounds_of_a_window() {
+    assert!(flipped_by_window(&[]));
+    assert!(flipped_by_window(&[[4, 4], [5, 6]]), "two corners of a window");
+    assert!(flipped_by_window(&[[4, 6], [5, 4]]), "its other two corners");
+    assert!(!flipped_by_window(&[[4, 4], [6, 4]]), "a row too far");
+    assert!(!flipped_by_window(&[[4, 4], [4, 7]]), "a column too far");
+    assert!(!flipped_by_window(&[[4, 8], [5, 0]]), "the last cell of a line and the first of the next");
+    assert!(flipped_by_window(&[[4, 4], [4, 5], [4, 6], [5, 4], [5, 5], [5, 6]]), "a whole window");
+    assert!(!flipped_by_window(&[[4, 3], [4, 5], [4, 7]]), "three cells in a row of near ones");
+}
+
+/// Any cells of any one cluster of at most t cells, or of any one window.
+#[test]
+fn one_hole() {
     let mut random = outside::random(11);
     for _ in 0..outside::rounds(20_000) {
-        let numbers = lawful_shape(&mut random);
-        let shape = Shape::new(numbers.w, numbers.h, numbers.d, numbers.t).unwrap();
+        let numbers = lawful_shape(&mut random, true);
+        let window = Window { rows: numbers.p, columns: numbers.q };
+        let shape = if numbers.is_ruled() {
+            Shape::with_window(numbers.w, numbers.h, window).unwrap()
+        } else {
+            Shape::new(numbers.w, numbers.h, numbers.d, numbers.t).unwrap()
+        };
         let mut before = encode(&shape, &random.bytes(shape.payload_bytes())).unwrap();
-        let cells = cluster(&mut random, &numbers, numbers.t);
+        let cells = hole(&mut random, &numbers);
         let cells = some_of(&mut random, &cells);
         for &cell in &cells {
             before[cell] ^= 1;

@@ -104,7 +104,8 @@ fn beyond_the_promise() {
     assert_eq!(text(&example.stdout), expected, "{}", text(&example.stderr));
 }
 
-/// The bounds of the program's test, in each direction of a stack of strength 3: at most 3 cells, any two less than 3 apart.
+/// The bounds of the program's test, in each direction of a stack of strength 3: at most 3 cells, any two less than 3 apart. And in a
+/// field that a window of 2 by 3 rules: its corners, a row too far, a column too far, the whole window, a cell more.
 #[test]
 fn the_bounds_of_the_promise() {
     let source = r#"
@@ -119,7 +120,17 @@ fn the_bounds_of_the_promise() {
             }
             printf("%d", within_promise(cube, before, after));
         }
+        static void flipped_by_window(size_t count, const size_t *cells) {
+            varmintfoil_shape_t flat =
+                VARMINTFOIL_SHAPE(.columns = 9, .rows = 9, .planes = 1, .window_rows = 2, .window_columns = 3);
+            uint8_t before[81] = {0}, after[81] = {0};
+            for (size_t i = 0; i < count; i++) {
+                after[cells[i]] = 1;
+            }
+            printf("%d", within_promise(flat, before, after));
+        }
         int main(void) {
+            static const size_t window[7] = {40, 51, 41, 42, 49, 50, 52}, down[2] = {40, 58}, right[2] = {40, 43};
             static const size_t near[3][6] = {{4, 4, 4, 4, 4, 6}, {4, 4, 4, 4, 6, 4}, {4, 4, 4, 6, 4, 4}};
             static const size_t far[3][6] = {{4, 4, 4, 4, 4, 7}, {4, 4, 4, 4, 7, 4}, {4, 4, 4, 7, 4, 4}};
             static const size_t aslant[6] = {4, 4, 4, 5, 5, 3}, next_line[6] = {4, 4, 8, 5, 4, 0};
@@ -134,11 +145,17 @@ fn the_bounds_of_the_promise() {
             flipped(3, square);
             flipped(4, square);
             flipped(3, ends);
+            flipped_by_window(0, window);
+            flipped_by_window(2, window);
+            flipped_by_window(2, down);
+            flipped_by_window(2, right);
+            flipped_by_window(6, window);
+            flipped_by_window(7, window);
             return 0;
         }
     "#;
     for (language, standard) in standards(&["c99"], &["c++20"]) {
-        assert_eq!(language.run(standard, source, "bounds", &["-O1", ARCHIVE]), "101010001100");
+        assert_eq!(language.run(standard, source, "bounds", &["-O1", ARCHIVE]), "101010001100110010");
     }
 }
 
@@ -154,7 +171,12 @@ fn a_shape_before_cpp20() {
             if (varmintfoil_plan(shape).number != VARMINTFOIL_BAD_SIZE) return 1;
             shape.planes = 1;
             shape.strength = 3;
-            return varmintfoil_plan(shape).bytes == 1 ? 0 : 1;
+            if (varmintfoil_plan(shape).bytes != 1) return 1;
+            shape.strength = 0;
+            shape.window_rows = 2;
+            if (varmintfoil_plan(shape).number != VARMINTFOIL_BAD_WINDOW) return 1;
+            shape.window_columns = 3;
+            return varmintfoil_plan(shape).classes == 6 ? 0 : 1;
         }
     "#;
     for (language, standard) in standards(&[], &["c++98", "c++11", "c++14", "c++17"]) {
@@ -169,7 +191,8 @@ fn a_member_left_out() {
         #include "varmintfoil.h"
         int main(void) {
             varmintfoil_shape_t shape = VARMINTFOIL_SHAPE(.columns = 5, .rows = 5);
-            return shape.columns == 5 && shape.rows == 5 && shape.planes == 0 && shape.strength == 0 ? 0 : 1;
+            if (shape.columns != 5 || shape.rows != 5 || shape.planes != 0 || shape.strength != 0) return 1;
+            return shape.window_rows == 0 && shape.window_columns == 0 ? 0 : 1;
         }
     "#;
     for (language, standard) in standards(&["c99"], &["c++20"]) {

@@ -59,6 +59,11 @@ fn first_lines(columns: &str, rows: &str, planes: &str, strength: &str) -> Strin
     format!("columns={columns}\nrows={rows}\nplanes={planes}\nstrength={strength}\n")
 }
 
+/// The six first lines of a card with the sides of a window.
+fn window_lines(columns: &str, rows: &str, planes: &str, strength: &str, p: &str, q: &str) -> String {
+    first_lines(columns, rows, planes, strength) + &format!("window_rows={p}\nwindow_columns={q}\n")
+}
+
 /// The worked card's first four lines.
 const HEAD: &str = "columns=5\nrows=5\nplanes=1\nstrength=3\n";
 
@@ -135,7 +140,7 @@ fn card_of(rows: [&str; 5]) -> String {
 }
 
 fn assert_read(text: &str, mended: usize, payload: &str, what: &str) {
-    let head: String = text.split_inclusive('\n').take(4).collect();
+    let head: String = text.split_inclusive('\n').take_while(|line| !line.starts_with("row=")).collect();
     assert_output(text.as_bytes(), &format!("{head}mended={mended}\npayload={payload}\n"), what);
 }
 
@@ -164,8 +169,164 @@ fn erased_cells() {
     assert_refusal(&two("12020210"), 10, "10 before 6, in a later class");
 }
 
+/// A card of 9 by 7 that a window of 3 by 4 rules: written, and read with all cells of a window flipped, wherever it lies.
 #[test]
-fn faults_in_the_first_four_lines() {
+fn cards_with_a_window() {
+    let shape = Numbers::of_window(9, 7, 3, 4);
+    let head = window_lines("9", "7", "1", "0", "3", "4");
+    let plan = reference::plan(&shape).unwrap();
+    assert_eq!((plan.classes, plan.cells), (12, 63));
+    let payload: String = (0..plan.bytes).map(|i| format!("{:02x}", 0xa5 ^ (i * 37))).collect();
+    let written = String::from_utf8(reference::card(format!("{head}payload={payload}\n").as_bytes())).unwrap();
+    assert!(written.starts_with(&format!("{head}classes=12\nrow=")), "{written}");
+    assert_output(format!("{head}payload={payload}\n").as_bytes(), &written, "written");
+    let whole = written.replace("classes=12\n", "");
+    assert_read(&whole, 0, &payload, "read again");
+    let lines: Vec<&str> = whole.lines().skip(6).collect();
+    for (top, left, what) in [
+        (2, 3, "inside"),
+        (-1, 3, "over the first row"),
+        (5, 3, "over the last row"),
+        (2, -2, "over the first column"),
+        (2, 7, "over the last column"),
+        (-2, -3, "over the first corner"),
+        (6, 8, "over the last corner"),
+        (-1, 6, "over the first row and the last column"),
+        (6, -1, "over the last row and the first column"),
+    ] {
+        let hit =
+            |row: usize, column: usize| (top..top + 3).contains(&(row as i32)) && (left..left + 4).contains(&(column as i32));
+        let mut count = 0;
+        let mut damaged = head.clone();
+        for (row, line) in lines.iter().enumerate() {
+            let cells = line.strip_prefix("row=").unwrap().bytes().enumerate();
+            let digits = cells.map(|(column, digit)| char::from(if hit(row, column) { digit ^ 1 } else { digit }));
+            damaged += &format!("row={}\n", digits.collect::<String>());
+            count += (0..9).filter(|&column| hit(row, column)).count();
+        }
+        assert_read(&damaged, count, &payload, what);
+    }
+}
+
+/// Cells that touch by corners alone, on a card that a window of 3 by 3 rules.
+#[test]
+fn torn_corners() {
+    let head = window_lines("5", "5", "1", "0", "3", "3");
+    let blank = |rows: [&str; 5]| rows.iter().fold(head.clone(), |text, row| text + &format!("row={row}\n"));
+    assert_read(&blank(["00000", "00000", "00000", "00000", "00000"]), 0, "", "a blank card");
+    assert_read(&blank(["00000", "01000", "00100", "00010", "00000"]), 3, "", "aslant");
+    assert_read(&blank(["00001", "00010", "00000", "00000", "00000"]), 2, "", "at a corner");
+    assert_read(&blank(["20200", "02000", "20200", "00000", "00022"]), 7, "", "erased, in two windows");
+}
+
+#[test]
+fn windows_that_are_given_as_zeros() {
+    let zeros = "window_rows=0\nwindow_columns=0\n";
+    assert_output(
+        format!("{HEAD}{zeros}payload=a5\n").as_bytes(),
+        &format!("{HEAD}{zeros}classes=5\nrow=11011\nrow=00101\nrow=10100\nrow=00101\nrow=10100\n"),
+        "written",
+    );
+    assert_read(
+        &format!("{HEAD}{zeros}row=11011\nrow=00101\nrow=10010\nrow=00001\nrow=10100\n"),
+        3,
+        "a5",
+        "read, with three cells lost",
+    );
+    assert_refusal(&(window_lines("5", "5", "1", "0", "0", "0") + "payload=a5\n"), 2, "strength 0 and zeros");
+    assert_refusal(&(window_lines("5", "5", "2", "0", "0", "0") + "payload=a5\n"), 2, "strength 0 and zeros, a stack");
+}
+
+#[test]
+fn refused_windows() {
+    for (planes, strength, p, q, number, what) in [
+        ("1", "0", "0", "3", 11, "no rows"),
+        ("1", "0", "3", "0", 11, "no columns"),
+        ("1", "0", "99999", "1", 11, "99,999 rows"),
+        ("1", "0", "1", "99999", 11, "99,999 columns"),
+        ("1", "0", "99999", "99999", 11, "the largest numbers"),
+        ("1", "0", "65536", "65536", 11, "65,536 by 65,536"),
+        ("1", "0", "65537", "1", 11, "65,536 rows and 1"),
+        ("1", "0", "513", "1", 11, "513 rows"),
+        ("1", "0", "23", "23", 11, "529 cells"),
+        ("1", "0", "2", "257", 11, "514 cells"),
+        ("2", "0", "2", "2", 11, "a stack"),
+        ("2", "0", "0", "2", 11, "a stack and no rows"),
+        ("1", "3", "2", "2", 11, "beside a strength"),
+        ("1", "3", "0", "2", 11, "one side beside a strength"),
+        ("2", "3", "2", "2", 11, "beside a strength, a stack"),
+        ("1", "33", "2", "2", 2, "2 before 11"),
+        ("2", "9", "0", "2", 2, "2 before 11, a stack"),
+        ("0", "0", "0", "2", 1, "1 before 11"),
+    ] {
+        let head = window_lines("5", "5", planes, strength, p, q);
+        assert_refusal(&format!("{head}payload=a5\n"), number, what);
+        assert_refusal(&format!("{head}nonsense"), number, &format!("{what}, before a later fault of form"));
+    }
+    assert_refusal(&(window_lines("257", "1", "1", "0", "2", "2") + "payload=\n"), 1, "1 before a window that is taken");
+    assert_refusal(&(window_lines("256", "256", "1", "0", "0", "2") + "payload=\n"), 11, "11 before a card of too many cells");
+    assert_refusal(&(window_lines("256", "65", "1", "0", "2", "2") + "payload=\n"), 8, "a card of too many cells");
+    assert_refusal(&(window_lines("5", "5", "1", "0", "2", "3") + "payload=\n"), 3, "an empty payload");
+    assert_refusal(&(window_lines("5", "5", "1", "0", "2", "3") + "payload=A5\n"), 8, "an upper-case digit");
+    // The largest windows, of which a field of 5 by 5 has a part alone.
+    for (p, q) in [("512", "1"), ("1", "512"), ("22", "23")] {
+        assert_refusal(&(window_lines("5", "5", "1", "0", p, q) + "payload=a5a5\n"), 3, &format!("{p} by {q}, taken"));
+    }
+}
+
+/// Where one line of the sides stands behind the strength, both must, in their order; a fault there comes before any number is weighed.
+#[test]
+fn faults_in_the_lines_of_a_window() {
+    for columns in ["5", "300"] {
+        for (sides, what) in [
+            ("window_rows=2\n", "the rows alone"),
+            ("window_columns=3\n", "the columns alone"),
+            ("window_rows=0\n", "no rows alone"),
+            ("window_columns=0\n", "no columns alone"),
+            ("window_columns=3\nwindow_rows=2\n", "the other order"),
+            ("window_columns=0\nwindow_rows=0\n", "zeros in the other order"),
+            ("window_rows=2\nwindow_rows=2\n", "the rows twice"),
+            ("window_columns=3\nwindow_columns=3\n", "the columns twice"),
+            ("window_rows=\nwindow_columns=3\n", "no digit"),
+            ("window_rows=02\nwindow_columns=3\n", "a leading zero"),
+            ("window_rows=2\nwindow_columns=00\n", "a needless zero"),
+            ("window_rows=100000\nwindow_columns=3\n", "six digits"),
+            ("window_rows=2 window_columns=3\n", "no line feed between"),
+            ("window_rows=2\r\nwindow_columns=3\r\n", "carriage returns"),
+            ("window_rows=2\n\nwindow_columns=3\n", "an empty line between"),
+            ("window_rows=2\nwindow_column=3\n", "another key for the columns"),
+            ("window_rows=2\nwindow_columns 3\n", "no equals sign for the columns"),
+            ("window_rows=-2\nwindow_columns=3\n", "a minus sign"),
+        ] {
+            for rest in ["payload=a5\n", ""] {
+                let text = first_lines(columns, "5", "1", "0") + sides + rest;
+                assert_refusal(&text, 8, &format!("{columns} columns: {what}, then {rest:?}"));
+            }
+        }
+        let head = first_lines(columns, "5", "1", "0");
+        assert_refusal(&format!("{head}window_rows=2\nwindow_columns=3"), 8, "the line of the columns not ended");
+        assert_refusal(&format!("{head}window_rows="), 8, "the key of the rows, and nothing after it");
+        // What does not begin with either key is looked at later, after the numbers.
+        for later in ["window_rows\n", "window_row=2\n", "Window_rows=2\n", "window_rows 2\n", "window", " window_rows=2\n"] {
+            let number = if columns == "300" { 1 } else { 2 };
+            assert_refusal(&format!("{head}{later}"), number, &format!("{columns} columns: {later:?}"));
+            let head = first_lines("5", "5", "1", "3");
+            assert_refusal(&format!("{head}{later}payload=a5\n"), 8, &format!("{later:?}, a fault of form later"));
+        }
+    }
+    // Between other lines, and behind the payload.
+    for text in [
+        "window_rows=2\nwindow_columns=3\ncolumns=5\nrows=5\nplanes=1\nstrength=0\npayload=a5\n",
+        "columns=5\nrows=5\nplanes=1\nwindow_rows=2\nwindow_columns=3\nstrength=0\npayload=a5\n",
+        "columns=5\nrows=5\nplanes=1\nstrength=3\npayload=a5\nwindow_rows=0\nwindow_columns=0\n",
+        "columns=5\nrows=5\nplanes=1\nstrength=3\nwindow_rows=0\nwindow_columns=0\nwindow_rows=0\nwindow_columns=0\npayload=a5\n",
+    ] {
+        assert_refusal(text, 8, "sides in another place");
+    }
+}
+
+#[test]
+fn faults_in_the_first_lines() {
     let rest = "payload=a5\n";
     for (number, what) in [
         ("", "no digit"),
@@ -185,11 +346,16 @@ fn faults_in_the_first_four_lines() {
         ("٥", "a digit of another script"),
         ("=5", "two equals signs"),
     ] {
-        for place in 0..4 {
-            let mut numbers = ["5", "5", "1", "3"];
+        for place in 0..6 {
+            let mut numbers = ["5", "5", "1", "3", "0", "0"];
             numbers[place] = number;
-            let text = first_lines(numbers[0], numbers[1], numbers[2], numbers[3]) + rest;
+            let [columns, rows, planes, strength, p, q] = numbers;
+            let text = window_lines(columns, rows, planes, strength, p, q) + rest;
             assert_refusal(&text, 8, &format!("line {}: {what}", place + 1));
+            if place < 4 {
+                let text = first_lines(columns, rows, planes, strength) + rest;
+                assert_refusal(&text, 8, &format!("line {} of four: {what}", place + 1));
+            }
         }
     }
     for (text, what) in [
@@ -286,14 +452,26 @@ fn cards_of_many_cells() {
     assert_refusal(&(first_lines("256", "64", "1", "32") + "payload=\n"), 3, "exactly 16,384 cells, taken");
     // The largest cards, written and read again, and the one with the most text.
     for (w, h, d, t) in [(256, 64, 1, 32), (128, 128, 1, 16), (64, 16, 16, 8), (4, 256, 16, 5), (1, 256, 16, 6)] {
-        let plan = reference::plan(w, h, d, t).unwrap();
-        let payload: String = (0..plan.bytes).map(|i| format!("{:02x}", i * 37 % 256)).collect();
-        let head = format!("columns={w}\nrows={h}\nplanes={d}\nstrength={t}\n");
-        let written = run(format!("{head}payload={payload}\n").as_bytes());
-        assert_eq!(written, reference::card(format!("{head}payload={payload}\n").as_bytes()));
-        let rows = String::from_utf8(written).unwrap().replace(&format!("classes={}\n", plan.classes), "");
-        assert_output(rows.as_bytes(), &format!("{head}mended=0\npayload={payload}\n"), "read again");
+        assert_written_and_read(&Numbers::of_strength(w, h, d, t), false);
     }
+    for (w, h, p, q) in [(256, 64, 8, 8), (128, 128, 22, 22), (64, 256, 512, 1), (256, 64, 1, 512)] {
+        assert_written_and_read(&Numbers::of_window(w, h, p, q), true);
+    }
+    // The longest answer of all.
+    assert_eq!(assert_written_and_read(&Numbers::of_strength(4, 256, 16, 8), true), 36_946);
+}
+
+/// A card is written and read again, with the sides of its window given or left out; gives the length of what is written.
+fn assert_written_and_read(shape: &Numbers, sides_given: bool) -> usize {
+    let plan = shape.plan().unwrap();
+    let payload: String = (0..plan.bytes).map(|i| format!("{:02x}", i * 37 % 256)).collect();
+    let head = head_of(shape, sides_given);
+    let written = run(format!("{head}payload={payload}\n").as_bytes());
+    assert_eq!(written, reference::card(format!("{head}payload={payload}\n").as_bytes()));
+    let length = written.len();
+    let rows = String::from_utf8(written).unwrap().replace(&format!("classes={}\n", plan.classes), "");
+    assert_output(rows.as_bytes(), &format!("{head}mended=0\npayload={payload}\n"), "read again");
+    length
 }
 
 #[test]
@@ -320,11 +498,15 @@ fn long_inputs() {
 
 /// An input for each kind of answer and for each refusal, one with the longest answer, one that ends at once and one that is too long.
 fn all_kinds() -> Vec<String> {
-    let zeros = "00".repeat(reference::plan(1, 256, 16, 6).unwrap().bytes);
+    let zeros = "00".repeat(Numbers::of_strength(4, 256, 16, 8).plan().unwrap().bytes);
     vec![
         format!("{HEAD}payload=a5\n"),
         format!("{HEAD}row=11011\nrow=00101\nrow=10010\nrow=00001\nrow=10100\n"),
-        first_lines("1", "256", "16", "6") + &format!("payload={zeros}\n"),
+        window_lines("4", "256", "16", "8", "0", "0") + &format!("payload={zeros}\n"),
+        window_lines("5", "5", "1", "0", "2", "3") + "payload=a5\n",
+        window_lines("2", "1", "1", "0", "1", "1") + "row=01\n",
+        window_lines("5", "5", "1", "0", "0", "3") + "payload=a5\n",
+        first_lines("5", "5", "1", "0") + "window_rows=2\npayload=a5\n",
         first_lines("257", "1", "1", "1") + "payload=\n",
         first_lines("5", "5", "1", "33") + "payload=a5\n",
         format!("{HEAD}payload=\n"),
@@ -358,9 +540,16 @@ fn an_answer_that_cannot_be_written() {
     }
 }
 
-/// A card text of a random shape: a payload to write, or rows to read.
+/// The first lines of a shape, with the sides of its window or without them.
+fn head_of(shape: &Numbers, sides_given: bool) -> String {
+    let &Numbers { w, h, d, t, p, q } = shape;
+    let sides = if sides_given { format!("window_rows={p}\nwindow_columns={q}\n") } else { String::new() };
+    format!("columns={w}\nrows={h}\nplanes={d}\nstrength={t}\n{sides}")
+}
+
+/// A card text of a random shape: a payload to write, or rows to read. Sides of 0 are given half the time.
 fn whole_card(random: &mut Random, shape: &Numbers) -> Vec<u8> {
-    let head = format!("columns={}\nrows={}\nplanes={}\nstrength={}\n", shape.w, shape.h, shape.d, shape.t);
+    let head = head_of(shape, (shape.p, shape.q) != (0, 0) || random.once_in(2));
     let Ok(plan) = shape.plan() else {
         return (head + "payload=a5\n").into_bytes();
     };
@@ -410,15 +599,17 @@ fn break_text(random: &mut Random, text: &mut Vec<u8>) {
 #[test]
 fn generated_cards() {
     let mut random = outside::random(10);
-    let (mut written, mut read, mut refused) = (0, 0, [0; 11]);
-    for _ in 0..outside::rounds(1500) {
-        let mut shape = lawful_shape(&mut random);
-        if random.once_in(8) {
-            let other = random.pick(&[0, 9, 17, 33, 257, 65_537, 65_539, 99_999, 100_000]);
-            match random.below(4) {
+    let (mut written, mut read, mut refused) = (0, 0, [0; 12]);
+    for _ in 0..outside::rounds(1800) {
+        let mut shape = lawful_shape(&mut random, true);
+        if random.once_in(6) {
+            let other = random.pick(&[0, 9, 17, 33, 257, 513, 65_537, 65_539, 99_999, 100_000]);
+            match random.below(6) {
                 0 => shape.w = other,
                 1 => shape.h = other,
                 2 => shape.d = other,
+                3 => shape.p = other,
+                4 => shape.q = other,
                 _ => shape.t = other,
             }
         }
@@ -442,7 +633,7 @@ fn generated_cards() {
     }
     println!("written {written}, read {read}, refused {refused:?}");
     assert!(written >= 100 && read >= 100 || outside::fewer());
-    for number in [1, 2, 3, 6, 7, 8, 10] {
+    for number in [1, 2, 3, 6, 7, 8, 10, 11] {
         assert!(refused[number] >= 10 || outside::fewer(), "{number} came up {} times", refused[number]);
     }
     assert_eq!([refused[0], refused[4], refused[5], refused[9]], [0; 4]);

@@ -4,7 +4,7 @@
 mod common;
 
 use common::*;
-use varmintfoil::{ffi, Distance, Refusal, Shape};
+use varmintfoil::{ffi, Distance, Refusal, Shape, Window};
 
 /// How often each operation is compared.
 const TIMES: usize = 200_000;
@@ -13,7 +13,8 @@ const TIMES: usize = 200_000;
 struct Proved;
 
 fn numbers(s: &Numbers) -> ffi::ShapeNumbers {
-    ffi::ShapeNumbers { columns: s.w, rows: s.h, planes: s.d, strength: s.t }
+    let window = Window { rows: s.p, columns: s.q };
+    ffi::ShapeNumbers { columns: s.w, rows: s.h, planes: s.d, strength: s.t, window }
 }
 
 /// The number as a result; the count of a refusal is 0.
@@ -46,7 +47,14 @@ impl Codec for Proved {
 struct Wrapper;
 
 fn shape_of(s: &Numbers) -> Result<Shape, usize> {
-    Shape::new(s.w, s.h, s.d, s.t).map_err(Refusal::number)
+    let shape = Shape::of_numbers(numbers(s));
+    if (s.p, s.q) == (0, 0) {
+        assert_eq!(shape, Shape::new(s.w, s.h, s.d, s.t));
+    }
+    if (s.d, s.t) == (1, 0) {
+        assert_eq!(shape, Shape::with_window(s.w, s.h, Window { rows: s.p, columns: s.q }));
+    }
+    shape.map_err(Refusal::number)
 }
 
 impl Codec for Wrapper {
@@ -86,9 +94,9 @@ impl Codec for Wrapper {
 fn plans() {
     let mut random = outside::random(1);
     let mut tally = Tally::default();
-    let listed: Vec<Numbers> = large_shapes().into_iter().chain(edges::edge_shapes()).collect();
+    let listed = [large_shapes(true), edges::edge_shapes(), edges::window_shapes(), windows::shapes_near_the_limits()].concat();
     for round in 0..outside::rounds(TIMES) {
-        let shape = if round < listed.len() { listed[round] } else { any_shape(&mut random) };
+        let shape = if round < listed.len() { listed[round] } else { any_shape(&mut random, true) };
         let answer = shape.plan();
         let figures = ffi::plan(numbers(&shape));
         let expected = match answer {
@@ -99,22 +107,26 @@ fn plans() {
         assert_eq!(actual, expected, "{shape:?}");
         let wrapped = shape_of(&shape).map(|s| [0, s.classes(), s.capacity(), s.payload_bytes(), s.cells()]);
         assert_eq!(wrapped, answer.map(|_| expected), "{shape:?}");
+        if let Ok(s) = shape_of(&shape) {
+            let Window { rows: p, columns: q } = s.window();
+            assert_eq!(Numbers { w: s.columns(), h: s.rows(), d: s.planes(), t: s.strength(), p, q }, shape);
+        }
         tally.note(&shape, number_of(&answer));
     }
-    tally.assert_numbers("plan", &[1, 2]);
+    tally.assert_numbers("plan", &[1, 2, 11]);
     tally.assert_stacks("plan");
 }
 
 #[test]
 fn classes_of_cells() {
-    compare_many(2, TIMES, "class", &[1, 2, 4], |random, shape, tally| {
+    compare_many(2, TIMES, "class", &[1, 2, 4, 11], |random, shape, tally| {
         let side = |random: &mut Random, n: usize| match random.below(8) {
             0 => refused_number(random, n),
             1 => n,
             _ => random.below(n.clamp(1, 256)),
         };
         let (row, plane, column) = (side(random, shape.h), side(random, shape.d), side(random, shape.w));
-        let answer = reference::class_of(shape.w, shape.h, shape.d, shape.t, row, plane, column);
+        let answer = reference::class_of(shape, row, plane, column);
         let actual = ffi::class_of(numbers(shape), row, plane, column);
         let expected = (number_of(&answer), answer.unwrap_or(0));
         assert_eq!((actual.number, actual.class_index), expected, "{shape:?} {row} {plane} {column}");
@@ -187,6 +199,57 @@ fn erased_padding() {
 #[test]
 fn erased_cells_beside_a_flip() {
     erasures::erase_beside_a_flip::<Proved>(TIMES / 4);
+}
+
+#[test]
+fn classes_near_the_limits_of_windows() {
+    let mut tally = Tally::default();
+    for shape in windows::shapes_near_the_limits() {
+        for (row, plane, column) in [(0, 0, 0), (8, 0, 4), (3, 1, 4), (9, 0, 0), (usize::MAX, 0, 0)] {
+            let answer = reference::class_of(&shape, row, plane, column);
+            let actual = ffi::class_of(numbers(&shape), row, plane, column);
+            let expected = (number_of(&answer), answer.unwrap_or(0));
+            assert_eq!((actual.number, actual.class_index), expected, "{shape:?} {row} {plane} {column}");
+            tally.note(&shape, expected.0);
+        }
+    }
+    tally.assert_numbers("class near the limits", &[1, 2, 4, 11]);
+}
+
+#[test]
+fn windows_near_the_limits() {
+    windows::compare_near_the_limits::<Proved>();
+    windows::compare_near_the_limits::<Wrapper>();
+}
+
+#[test]
+fn windows_are_undone() {
+    windows::undo_windows::<Proved>(TIMES);
+}
+
+#[test]
+fn two_windows_are_filled() {
+    windows::fill_two_windows::<Proved>(TIMES / 2);
+}
+
+#[test]
+fn patches_are_undone() {
+    windows::undo_patches::<Proved>(TIMES / 4);
+}
+
+#[test]
+fn every_set_in_a_window() {
+    windows::undo_every_set::<Proved>(5, 3, &[(9, 9, 3, 3), (8, 11, 2, 5), (11, 8, 5, 2), (40, 1, 1, 9), (1, 40, 9, 1)]);
+}
+
+#[test]
+fn every_two_windows() {
+    windows::fill_every_two::<Proved>(5, 4);
+}
+
+#[test]
+fn every_patch() {
+    windows::undo_every_patch::<Proved>(8, 5);
 }
 
 #[test]

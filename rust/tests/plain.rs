@@ -6,11 +6,11 @@ mod plain;
 
 use common::*;
 
-// It reads no erased cells.
-codec!(Plain, plain, false);
+// It reads no erased cells and knows no windows.
+codec!(Plain, plain, s => (s.w, s.h, s.d, s.t), false);
 
 // The reference implementation itself, for the tests that compare with no other.
-codec!(Reference, reference);
+codec!(Reference, reference, s => (s));
 
 #[test]
 fn encodings() {

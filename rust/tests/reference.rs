@@ -1,12 +1,12 @@
-//! The reference implementation against the examples of documents 01 and 02, against what is promised of erased cells, and against
-//! itself where a class is small enough to try everything.
+//! The reference implementation against the examples of documents 01 and 02, against what is promised of erased cells and of windows,
+//! and against itself where a class is small enough to try everything.
 
 mod common;
 
 use common::reference::*;
-use common::{codec, erasures, reference, Codec, Numbers};
+use common::{codec, erasures, reference, windows, Codec, Numbers};
 
-codec!(Reference, reference);
+codec!(Reference, reference, s => (s));
 
 const CARD: &str = "columns=5\nrows=5\nplanes=1\nstrength=3\npayload=a5\n";
 const WRITTEN: &str =
@@ -22,12 +22,14 @@ fn the_worked_card() {
 
 #[test]
 fn the_examples() {
-    assert_eq!(class_of(256, 256, 1, 4, 1, 0, 0), Ok(3));
-    assert_eq!(class_of(256, 256, 1, 5, 12, 0, 0), Ok(5));
+    let plan = |w, h, d, t| plan(&Shape::of_strength(w, h, d, t));
+    let decode_two = |cells| decode(&Shape::of_strength(2, 1, 1, 1), &mut [], cells);
+    assert_eq!(class_of(&Shape::of_strength(256, 256, 1, 4), 1, 0, 0), Ok(3));
+    assert_eq!(class_of(&Shape::of_strength(256, 256, 1, 5), 12, 0, 0), Ok(5));
     assert_eq!([0, 1, 2, 3, 7, 8].map(checks), [0, 1, 2, 2, 3, 4]);
     assert_eq!(plan(5, 5, 1, 3), Ok(Plan { classes: 5, capacity: 10, bytes: 1, cells: 25 }));
-    assert_eq!(decode(2, 1, 1, 1, &mut [], &[0, 1]), Ok(1));
-    assert_eq!(decode(2, 1, 1, 1, &mut [], &[1, 1]), Err(6));
+    assert_eq!(decode_two(&[0, 1]), Ok(1));
+    assert_eq!(decode_two(&[1, 1]), Err(6));
     assert_eq!(distance_test(7, 2, 3, 3), Ok(Distance { holds: true, row: 0, plane: 0, column: 0, tried: 12 }));
     assert_eq!(distance_test(7, 2, 3, 4), Ok(Distance { holds: false, row: 0, plane: 2, column: -1, tried: 9 }));
     assert!(plan(256, 256, 1, 1).is_ok());
@@ -42,9 +44,9 @@ fn the_examples() {
 
 /// Decode and correct give a number, or a count; correct leaves the cells given, and on a refusal those that it got.
 fn assert_read(w: usize, cells: &[u8], answer: Result<usize, Number>, left: &[u8]) {
-    let mut field = cells.to_vec();
-    assert_eq!(decode(w, 1, 1, 1, &mut [], cells), answer, "{cells:?}");
-    assert_eq!(correct(w, 1, 1, 1, &mut field), answer, "{cells:?}");
+    let (shape, mut field) = (Shape::of_strength(w, 1, 1, 1), cells.to_vec());
+    assert_eq!(decode(&shape, &mut [], cells), answer, "{cells:?}");
+    assert_eq!(correct(&shape, &mut field), answer, "{cells:?}");
     assert_eq!(field, left, "{cells:?}");
 }
 
@@ -96,13 +98,105 @@ fn erased_cells_beside_a_flip() {
 }
 
 #[test]
+fn the_tests_of_a_window() {
+    for (t, p, q, answer) in [
+        (0, 0, 0, Err(2)),
+        (0, 0, 1, Err(11)),
+        (0, 1, 0, Err(11)),
+        (0, 1, 1, Ok(())),
+        (0, 1, 512, Ok(())),
+        (0, 1, 513, Err(11)),
+        (0, 22, 23, Ok(())),
+        (0, 23, 23, Err(11)),
+        (0, 1 << 32, 1 << 32, Err(11)),
+        (0, usize::MAX, usize::MAX, Err(11)),
+        (3, 0, 0, Ok(())),
+        (3, 0, 1, Err(11)),
+        (3, 2, 2, Err(11)),
+        (33, 2, 2, Err(2)),
+    ] {
+        assert_eq!(test(&Shape { w: 5, h: 5, d: 1, t, p, q }), answer, "strength {t}, window {p} by {q}");
+        // In more than one plane no window rules; no size comes before any of it.
+        let in_stack = if (t, answer) == (0, Ok(())) { Err(11) } else { answer };
+        assert_eq!(test(&Shape { w: 5, h: 5, d: 2, t, p, q }), in_stack, "strength {t}, window {p} by {q}, a stack");
+        assert_eq!(test(&Shape { w: 257, h: 5, d: 1, t, p, q }), Err(1), "strength {t}, window {p} by {q}, 257 columns");
+    }
+}
+
+/// The classes of a window, without a remainder: each has one cell of the first window, and all that lie whole windows after it.
+#[test]
+fn the_classes_of_a_window() {
+    for (w, h, p, q) in
+        [(5, 5, 2, 3), (7, 4, 1, 3), (4, 9, 5, 2), (3, 3, 4, 5), (19, 26, 22, 23), (30, 2, 1, 512), (2, 30, 512, 1)]
+    {
+        let shape = Shape::of_window(w, h, p, q);
+        let mut expected = Vec::new();
+        for (row, column) in (0..p).flat_map(|row| (0..q).map(move |column| (row, column))) {
+            let rows = (row..h).step_by(p);
+            expected
+                .push(rows.flat_map(|row| (column..w).step_by(q).map(move |column| row * w + column)).collect::<Vec<usize>>());
+        }
+        assert_eq!(classes(&shape), expected, "{shape:?}");
+        for (class, cells) in expected.iter().enumerate() {
+            assert!(cells.iter().all(|cell| class_of(&shape, cell / w, 0, cell % w) == Ok(class)), "{shape:?}");
+        }
+    }
+}
+
+/// In a window of the field, wherever it lies, every class comes up once.
+#[test]
+fn every_class_once_in_a_window() {
+    for (p, q) in (1..=5).flat_map(|p| (1..=5).map(move |q| (p, q))).chain([(22, 23), (1, 40), (40, 1)]) {
+        let (h, w) = (2 * p + 3, 2 * q + 3);
+        let shape = Shape::of_window(w, h, p, q);
+        for (row, column) in (0..=h - p).flat_map(|row| (0..=w - q).map(move |column| (row, column))) {
+            let window = (row..row + p).flat_map(|row| (column..column + q).map(move |column| (row, column)));
+            let mut found: Vec<usize> = window.map(|(row, column)| class_of(&shape, row, 0, column).unwrap()).collect();
+            found.sort_unstable();
+            assert_eq!(found, (0..p * q).collect::<Vec<usize>>(), "{shape:?} {row} {column}");
+        }
+    }
+}
+
+#[test]
+fn cards_with_a_window() {
+    let answer = |text: &str| String::from_utf8(card(text.as_bytes())).unwrap();
+    let head = "columns=5\nrows=5\nplanes=1\nstrength=0\nwindow_rows=2\nwindow_columns=3\n";
+    let written = answer(&format!("{head}payload=a5\n"));
+    assert!(written.starts_with(&format!("{head}classes=6\n")), "{written}");
+    let rows = written.replace("classes=6\n", "");
+    assert_eq!(answer(&rows), format!("{head}mended=0\npayload=a5\n"));
+    let zeros = "window_rows=0\nwindow_columns=0\n";
+    assert_eq!(
+        answer(&CARD.replace("payload", &format!("{zeros}payload"))),
+        WRITTEN.replace("classes", &format!("{zeros}classes"))
+    );
+    assert_eq!(answer(&format!("{}payload=a5\n", head.replace("window_rows=2\n", ""))), "refusal=8\n");
+    assert_eq!(answer(&format!("{}payload=a5\n", head.replace("strength=0", "strength=3"))), "refusal=11\n");
+}
+
+#[test]
+fn windows_are_undone() {
+    windows::undo_windows::<Reference>(10_000);
+    windows::fill_two_windows::<Reference>(5_000);
+    windows::undo_patches::<Reference>(2_000);
+}
+
+#[test]
+fn every_set_in_a_window() {
+    windows::undo_every_set::<Reference>(4, 2, &[(6, 6, 2, 3), (7, 5, 3, 2)]);
+    windows::fill_every_two::<Reference>(4, 3);
+    windows::undo_every_patch::<Reference>(5, 4);
+}
+
+#[test]
 fn the_settings_hold() {
     for t in 1..=32 {
-        let flat = settings(&shape(1, 1, 1, t).unwrap());
+        let flat = settings(&Shape::of_strength(1, 1, 1, t));
         assert!(flat_holds(flat.m, flat.b, t as i64), "flat, strength {t}");
     }
     for t in 1..=8 {
-        let stack = settings(&shape(1, 1, 2, t).unwrap());
+        let stack = settings(&Shape::of_strength(1, 1, 2, t));
         let tested = distance_test(stack.m as usize, stack.b as usize, stack.c as usize, t).unwrap();
         assert!(tested.holds, "stack, strength {t}");
         assert_eq!(tested.tried, (t - 1) * (2 * t * t - t + 3) / 3);

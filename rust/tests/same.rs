@@ -6,7 +6,13 @@ mod same;
 
 use common::*;
 
-codec!(Same, same);
+/// The numbers of a shape as this text has them.
+fn numbers(s: &Numbers) -> same::ShapeNumbers {
+    let window = same::Window { rows: s.p, columns: s.q };
+    same::ShapeNumbers { columns: s.w, rows: s.h, planes: s.d, strength: s.t, window }
+}
+
+codec!(Same, same, s => (numbers(s)));
 
 #[test]
 fn encodings() {
@@ -31,4 +37,9 @@ fn large_fields() {
 #[test]
 fn edges_of_the_classes() {
     edges::compare_edges::<Same>(1);
+}
+
+#[test]
+fn windows_near_the_limits() {
+    windows::compare_near_the_limits::<Same>();
 }

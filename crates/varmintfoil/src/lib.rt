@@ -54,7 +54,7 @@ fn as_number(verdict: bool) -> usize
     verdict as usize
 }
 
-// The classes, the capacity, the payload's bytes and the cells of a shape, or the refusal 1 or 2.
+// The classes, the capacity, the payload's bytes and the cells of a shape, or the refusal 1, 2 or 11.
 #[no_mangle]
 pub extern "C" fn varmintfoil_plan(shape: ShapeNumbers) -> PlanResult
     ensures { λ r. ⌜ IsPlanResult (shapeFrom shape) r ⌝ }
@@ -70,7 +70,7 @@ pub extern "C" fn varmintfoil_plan(shape: ShapeNumbers) -> PlanResult
     }
 }
 
-// The class of a cell, or the refusal 1, 2 or 4.
+// The class of a cell, or the refusal 1, 2, 11 or 4.
 #[no_mangle]
 pub extern "C" fn varmintfoil_class(
     shape: ShapeNumbers,
@@ -87,7 +87,7 @@ pub extern "C" fn varmintfoil_class(
     }
 }
 
-// Writes the field of a payload, or gives the refusal 1, 2, 3 or 4.
+// Writes the field of a payload, or gives the refusal 1, 2, 11, 3 or 4.
 #[no_mangle]
 pub extern "C" fn varmintfoil_encode(shape: ShapeNumbers, payload: &[u8], field: &mut [u8]) -> usize
     ensures { λ r. ⌜ IsEncodeResult (shapeFrom shape) (now (payload .entry)) (now (field .entry)) (now (field .exit)) r ⌝ }
@@ -96,7 +96,7 @@ pub extern "C" fn varmintfoil_encode(shape: ShapeNumbers, payload: &[u8], field:
     answer.number()
 }
 
-// Fills the payload and gives the number of cells changed, or gives the refusal 1, 2, 3, 4, 5, 10, 6 or 7.
+// Fills the payload and gives the number of cells changed, or gives the refusal 1, 2, 11, 3, 4, 5, 10, 6 or 7.
 #[no_mangle]
 pub extern "C" fn varmintfoil_decode(
     shape: ShapeNumbers,
@@ -112,7 +112,7 @@ pub extern "C" fn varmintfoil_decode(
     }
 }
 
-// Leaves the corrected field and gives the number of cells changed, or gives the refusal 1, 2, 4, 5, 10, 6 or 7.
+// Leaves the corrected field and gives the number of cells changed, or gives the refusal 1, 2, 11, 4, 5, 10, 6 or 7.
 #[no_mangle]
 pub extern "C" fn varmintfoil_correct(shape: ShapeNumbers, field: &mut [u8]) -> CountResult
     ensures { λ r. ⌜ IsCorrectResult (shapeFrom shape) (now (field .entry)) (now (field .exit)) r ⌝ }

@@ -2,7 +2,7 @@
 //!
 //! The check cells are marked in a bit map, one bit a cell; payload moves between bits and cells 64 cells at a time; the
 //! syndromes are taken in row by row, over a vector with the positions of all columns. A refusal is the number that
-//! `include/varmintfoil.h` lists.
+//! `include/varmintfoil.h` lists. Shapes have a strength here, and no window.
 
 #![deny(unsafe_code)]
 

@@ -1,6 +1,6 @@
-//! Cells that are joined, and clusters of them.
+//! Cells that are joined, and clusters of them. Where a window rules, cells that touch by a corner are joined too.
 
-use super::{reference, Numbers, Random};
+use super::{reference, windows, Numbers, Random};
 
 /// A cell by its row, plane and column.
 pub type Place = (usize, usize, usize);
@@ -12,14 +12,18 @@ pub fn any_place(random: &mut Random, shape: &Numbers) -> Place {
 
 /// The cells that are joined to a cell.
 pub fn joined(shape: &Numbers, (row, plane, column): Place) -> Vec<Place> {
+    let (above, before) = (row.wrapping_sub(1), column.wrapping_sub(1));
+    let corners = [(row + 1, column + 1), (row + 1, before), (above, column + 1), (above, before)];
+    let corners = corners.iter().filter(|_| shape.is_ruled()).map(|&(row, column)| (row, plane, column));
     let mut places = vec![
         (row + 1, plane, column),
-        (row.wrapping_sub(1), plane, column),
+        (above, plane, column),
         (row, plane + 1, column),
         (row, plane.wrapping_sub(1), column),
         (row, plane, column + 1),
-        (row, plane, column.wrapping_sub(1)),
+        (row, plane, before),
     ];
+    places.extend(corners);
     places.retain(|&(row, plane, column)| row < shape.h && plane < shape.d && column < shape.w);
     places
 }
@@ -42,7 +46,7 @@ pub fn grown(random: &mut Random, shape: &Numbers, start: Place, size: usize, ta
 
 /// Cells as bytes of the field.
 pub fn bytes_of(shape: &Numbers, cells: &[Place]) -> Vec<usize> {
-    cells.iter().map(|&(row, plane, column)| reference::byte_of(&shape.shape(), row, plane, column)).collect()
+    cells.iter().map(|&(row, plane, column)| reference::byte_of(shape, row, plane, column)).collect()
 }
 
 /// The cells of a random cluster of at most `size` cells, as bytes of the field.
@@ -50,6 +54,15 @@ pub fn cluster(random: &mut Random, shape: &Numbers, size: usize) -> Vec<usize> 
     let start = any_place(random, shape);
     let cells = grown(random, shape, start, size, &[]);
     bytes_of(shape, &cells)
+}
+
+/// The cells of a random hole that is undone, as bytes of the field: a cluster or, where a window rules, now and then all that such a
+/// window has.
+pub fn hole(random: &mut Random, shape: &Numbers) -> Vec<usize> {
+    if shape.is_ruled() && !random.once_in(3) {
+        return windows::any_window(random, shape);
+    }
+    cluster(random, shape, shape.extent())
 }
 
 /// Some of the cells of a list: none, all or a random choice.

@@ -1,5 +1,5 @@
 //! Shapes at the edges of the classes, and the comparisons on them: one column, one row, and columns fewer than the classes, as
-//! many, and just above a multiple of them, at every strength.
+//! many, and just above a multiple of them, at every strength; and the same of the sides of windows.
 
 use super::*;
 
@@ -18,12 +18,49 @@ fn widths(m: usize) -> Vec<usize> {
 
 /// The shapes of one strength in some planes.
 fn shapes_of(d: usize, t: usize) -> Vec<Numbers> {
-    let m = reference::settings(&reference::shape(1, 1, d, t).unwrap()).m as usize;
+    let m = reference::number_of_classes(&Numbers::of_strength(1, 1, d, t));
     let mut shapes = Vec::new();
     for w in widths(m) {
         for h in [1, 2, 3, t, t + 1, 13, 64, 256] {
             if h <= 256 && w * h * d <= MOST_CELLS {
-                shapes.push(Numbers { w, h, d, t });
+                shapes.push(Numbers::of_strength(w, h, d, t));
+            }
+        }
+    }
+    shapes
+}
+
+/// The rows and the columns of some windows: small ones, square ones to the largest, and long ones.
+const WINDOWS: [(usize, usize); 18] = [
+    (1, 1),
+    (1, 2),
+    (2, 1),
+    (2, 2),
+    (2, 3),
+    (3, 2),
+    (1, 7),
+    (5, 3),
+    (8, 8),
+    (22, 22),
+    (22, 23),
+    (23, 22),
+    (1, 512),
+    (512, 1),
+    (2, 256),
+    (256, 2),
+    (16, 32),
+    (64, 8),
+];
+
+/// The shapes that such windows rule: fields of sides fewer than the window's, as many, and just above a multiple of them.
+pub fn window_shapes() -> Vec<Numbers> {
+    let mut shapes = Vec::new();
+    for (p, q) in WINDOWS {
+        for w in widths(q) {
+            for h in [1, 2, p.saturating_sub(1), p, p + 1, 2 * p, 2 * p + 1, 13] {
+                if (1..=256).contains(&h) && w * h <= MOST_CELLS {
+                    shapes.push(Numbers::of_window(w, h, p, q));
+                }
             }
         }
     }
@@ -37,13 +74,13 @@ pub fn edge_shapes() -> Vec<Numbers> {
     flat.chain(stacks).collect()
 }
 
-/// A field written with its padding 0, then with some cells of a cluster turned over.
+/// A field written with its padding 0, then with some cells of a hole turned over.
 fn field_with_hole(random: &mut Random, shape: &Numbers) -> Vec<u8> {
     let plan = shape.plan().unwrap();
     let mut data = random.bits(plan.capacity);
     data[plan.bytes * 8..].fill(0);
-    let mut field = reference::field_of_bits(&shape.shape(), &data);
-    for cell in cluster(random, shape, shape.t) {
+    let mut field = reference::field_of_bits(shape, &data);
+    for cell in hole(random, shape) {
         field[cell] ^= u8::from(!random.once_in(4));
     }
     field
@@ -54,7 +91,8 @@ fn field_with_hole(random: &mut Random, shape: &Numbers) -> Vec<u8> {
 pub fn compare_edges<C: Codec>(rounds: usize) {
     let mut random = outside::random(10);
     let [mut encoded, mut decoded, mut corrected] = [(); 3].map(|()| Tally::default());
-    for shape in edge_shapes() {
+    let ruled = if C::WINDOWS { window_shapes() } else { Vec::new() };
+    for shape in edge_shapes().into_iter().chain(ruled) {
         let plan = shape.plan().unwrap();
         for _ in 0..outside::rounds(rounds) {
             let (payload, before) = (random.bytes(plan.bytes), random.bytes(plan.cells));
@@ -75,6 +113,6 @@ pub fn compare_edges<C: Codec>(rounds: usize) {
         }
     }
     encoded.assert_numbers("encode at the edges", &[3, 4]);
-    decoded.assert_numbers("decode at the edges", &listed::<C>(&[3, 4, 5, 6, 7]));
-    corrected.assert_numbers("correct at the edges", &listed::<C>(&[4, 5, 6, 7]));
+    decoded.assert_numbers("decode at the edges", &of_field::<C>(&[3, 4, 5, 6, 7]));
+    corrected.assert_numbers("correct at the edges", &of_field::<C>(&[4, 5, 6, 7]));
 }

@@ -12,18 +12,18 @@ pub enum Lie {
     Overlapping,
 }
 
-/// Two clusters of at most t cells each. Those that touch have no cell in common, those that overlap have one;
+/// Two clusters of at most t cells each; where a window rules, t is its smaller side. Those that touch have no cell in common, those that overlap have one;
 /// those that are to lie apart start anywhere. Where the first cluster leaves no cell that touches it, the second is empty.
 pub fn two_clusters(random: &mut Random, shape: &Numbers, lie: Lie) -> [Vec<Place>; 2] {
     let start = any_place(random, shape);
-    let one = grown(random, shape, start, shape.t, &[]);
+    let one = grown(random, shape, start, shape.extent(), &[]);
     let starts: Vec<Place> = match lie {
         Lie::Apart => vec![any_place(random, shape)],
         Lie::Touching => one.iter().flat_map(|&place| joined(shape, place)).filter(|place| !one.contains(place)).collect(),
         Lie::Overlapping => one.clone(),
     };
     let taken: &[Place] = if lie == Lie::Touching { &one } else { &[] };
-    let size = random.from(1, shape.t);
+    let size = random.from(1, shape.extent());
     let other = if starts.is_empty() {
         Vec::new()
     } else {
@@ -51,7 +51,7 @@ fn lie_of(shape: &Numbers, [one, other]: &[Vec<Place>; 2]) -> Lie {
 
 /// The classes of a shape that have at least n cells.
 fn classes_of_size(shape: &Numbers, n: usize) -> Vec<Vec<usize>> {
-    reference::classes(&shape.shape()).into_iter().filter(|class| class.len() >= n).collect()
+    reference::classes(shape).into_iter().filter(|class| class.len() >= n).collect()
 }
 
 /// Different cells of one class, n where some class has as many; else none.
@@ -67,7 +67,7 @@ pub fn of_one_class(random: &mut Random, shape: &Numbers, n: usize) -> Vec<usize
 /// The cells after the payload's last bit.
 pub fn padding(shape: &Numbers) -> Vec<usize> {
     let plan = shape.plan().unwrap();
-    reference::data_cells(&shape.shape())[plan.bytes * 8..].to_vec()
+    reference::data_cells(shape)[plan.bytes * 8..].to_vec()
 }
 
 /// Erases cells of a field: one, a cluster or two, some of a class, the padding, or cells by chance.
@@ -75,7 +75,7 @@ pub fn erase_some(random: &mut Random, shape: &Numbers, field: &mut [u8]) {
     let lie = random.pick(&[Lie::Apart, Lie::Touching, Lie::Overlapping]);
     let cells = match random.below(10) {
         0 => vec![random.below(field.len())],
-        1 => cluster(random, shape, shape.t),
+        1 => hole(random, shape),
         2..=5 => cells_of_two(random, shape, lie),
         6 | 7 => {
             let n = random.from(1, 4);
@@ -90,7 +90,7 @@ pub fn erase_some(random: &mut Random, shape: &Numbers, field: &mut [u8]) {
 }
 
 /// A payload and its field, as an implementation writes it.
-fn written<C: Codec>(random: &mut Random, shape: &Numbers) -> (Vec<u8>, Vec<u8>) {
+pub fn written<C: Codec>(random: &mut Random, shape: &Numbers) -> (Vec<u8>, Vec<u8>) {
     let plan = shape.plan().unwrap();
     let payload = random.bytes(plan.bytes);
     let mut field = random.bytes(plan.cells);
@@ -99,7 +99,7 @@ fn written<C: Codec>(random: &mut Random, shape: &Numbers) -> (Vec<u8>, Vec<u8>)
 }
 
 /// A damaged field is read as the payload and corrected to the field, with the count of the cells where it differs.
-fn assert_undone<C: Codec>(random: &mut Random, shape: &Numbers, payload: &[u8], field: &[u8], damaged: &[u8]) {
+pub fn assert_undone<C: Codec>(random: &mut Random, shape: &Numbers, payload: &[u8], field: &[u8], damaged: &[u8]) {
     let count = reference::differences(damaged, field);
     let mut read = random.bytes(payload.len());
     assert_eq!(guards::decode::<C>(shape, &mut read, damaged), Ok(count), "{shape:?} {damaged:?}");
@@ -121,7 +121,7 @@ fn assert_refused<C: Codec>(random: &mut Random, shape: &Numbers, field: &[u8], 
 }
 
 /// A field with some cells erased.
-fn erased(field: &[u8], cells: &[usize]) -> Vec<u8> {
+pub fn erased(field: &[u8], cells: &[usize]) -> Vec<u8> {
     let mut field = field.to_vec();
     for &cell in cells {
         field[cell] = ERASED;
@@ -146,7 +146,7 @@ pub fn fill_two_clusters<C: Codec>(times: usize) {
     let mut random = outside::random(12);
     let (mut tally, mut lies) = (Tally::default(), [0; 3]);
     for round in 0..outside::rounds(times) {
-        let shape = lawful_shape(&mut random);
+        let shape = lawful_shape(&mut random, C::WINDOWS);
         let (payload, field) = written::<C>(&mut random, &shape);
         let lie = [Lie::Apart, Lie::Touching, Lie::Overlapping][round % 3];
         let clusters = two_clusters(&mut random, &shape, lie);
@@ -165,10 +165,10 @@ pub fn erase_classes<C: Codec>(times: usize) {
     let mut random = outside::random(13);
     let mut refused = 0;
     for _ in 0..outside::rounds(times) {
-        let shape = lawful_shape(&mut random);
+        let shape = lawful_shape(&mut random, C::WINDOWS);
         let (payload, field) = written::<C>(&mut random, &shape);
         let mut damaged = field.clone();
-        for class in reference::classes(&shape.shape()).iter().filter(|class| !class.is_empty()) {
+        for class in reference::classes(&shape).iter().filter(|class| !class.is_empty()) {
             damaged[random.pick(class)] = ERASED;
             damaged[random.pick(class)] = ERASED;
         }
@@ -196,9 +196,9 @@ pub fn erase_padding<C: Codec>(times: usize) {
     let mut random = outside::random(14);
     let (mut filled, mut refused) = (0, 0);
     for _ in 0..outside::rounds(times) {
-        let shape = lawful_shape(&mut random);
+        let shape = lawful_shape(&mut random, C::WINDOWS);
         let (padding, plan) = (padding(&shape), shape.plan().unwrap());
-        let classes = reference::classes(&shape.shape());
+        let classes = reference::classes(&shape);
         if padding.is_empty() || classes.iter().any(|class| class.iter().filter(|cell| padding.contains(cell)).count() > 2) {
             continue;
         }
@@ -207,7 +207,7 @@ pub fn erase_padding<C: Codec>(times: usize) {
         filled += 1;
         let mut data = random.bits(plan.capacity);
         data[plan.bytes * 8 + random.below(padding.len())] = 1;
-        let field = reference::field_of_bits(&shape.shape(), &data);
+        let field = reference::field_of_bits(&shape, &data);
         assert_refused::<C>(&mut random, &shape, &erased(&field, &padding), 7);
         refused += 1;
     }
@@ -221,7 +221,7 @@ pub fn erase_beside_a_flip<C: Codec>(times: usize) {
     let mut random = outside::random(15);
     let [mut apart, mut same, mut tally] = [(); 3].map(|()| Tally::default());
     for _ in 0..outside::rounds(times) {
-        let shape = lawful_shape(&mut random);
+        let shape = lawful_shape(&mut random, C::WINDOWS);
         let (payload, field) = written::<C>(&mut random, &shape);
         let n = random.from(2, 3);
         let mut cells = of_one_class(&mut random, &shape, n);
@@ -233,7 +233,7 @@ pub fn erase_beside_a_flip<C: Codec>(times: usize) {
         compare_decode::<C>(&shape, &payload, &damaged, &mut same);
         compare_correct::<C>(&shape, &damaged, &mut tally);
         damaged[flipped] ^= 1;
-        let classes = reference::classes(&shape.shape());
+        let classes = reference::classes(&shape);
         let others: Vec<usize> = classes.into_iter().filter(|class| !class.contains(&flipped)).flatten().collect();
         if !others.is_empty() {
             damaged[random.pick(&others)] ^= 1;

@@ -10,44 +10,55 @@ pub mod outside;
 pub mod random;
 #[path = "../../others/reference.rs"]
 pub mod reference;
+pub mod windows;
 
-pub use clusters::{cluster, some_of};
+pub use clusters::{cluster, hole, some_of};
 pub use random::Random;
-
-/// The four numbers of a shape, within the limits or not.
-#[derive(Clone, Copy, Debug)]
-pub struct Numbers {
-    pub w: usize,
-    pub h: usize,
-    pub d: usize,
-    pub t: usize,
-}
+pub use reference::Shape as Numbers;
 
 impl Numbers {
+    /// Does a window rule?
+    pub fn is_ruled(&self) -> bool {
+        self.t == 0
+    }
+
+    /// The most cells of a cluster that is undone: the strength or, where a window rules, its smaller side.
+    pub fn extent(&self) -> usize {
+        if self.is_ruled() {
+            self.p.min(self.q)
+        } else {
+            self.t
+        }
+    }
+
     /// A stack whose three sides all differ.
     pub fn uneven_stack(&self) -> bool {
         self.d > 1 && self.w != self.h && self.h != self.d && self.w != self.d
     }
 
     pub fn plan(&self) -> Result<reference::Plan, usize> {
-        reference::plan(self.w, self.h, self.d, self.t)
-    }
-
-    pub fn shape(&self) -> reference::Shape {
-        reference::shape(self.w, self.h, self.d, self.t).unwrap()
+        reference::plan(self)
     }
 }
 
-/// A shape within the limits: small mostly, sometimes long or middling.
-pub fn lawful_shape(random: &mut Random) -> Numbers {
-    let flat = random.once_in(2);
-    let (w, h) = match random.below(300) {
+/// The columns and rows of a field: few mostly, sometimes many of one or middling.
+pub fn sides(random: &mut Random) -> (usize, usize) {
+    match random.below(300) {
         0 => (random.from(1, 64), random.from(1, 64)),
         1 => (random.from(1, 256), random.from(1, 3)),
         2 => (random.from(1, 3), random.from(1, 256)),
         3..=99 => (random.from(1, 16), random.from(1, 16)),
         _ => (random.from(1, 7), random.from(1, 7)),
-    };
+    }
+}
+
+/// A shape within the limits; where windows are wanted, once in four one that a window rules.
+pub fn lawful_shape(random: &mut Random, windows: bool) -> Numbers {
+    if windows && random.once_in(4) {
+        return windows::ruled_shape(random);
+    }
+    let flat = random.once_in(2);
+    let (w, h) = sides(random);
     let d = if flat {
         1
     } else if random.once_in(20) {
@@ -62,7 +73,7 @@ pub fn lawful_shape(random: &mut Random) -> Numbers {
     } else {
         random.from(1, 6)
     };
-    Numbers { w, h, d, t }
+    Numbers::of_strength(w, h, d, t)
 }
 
 /// A number that no limit takes, among them those that a narrower type would take for `n`.
@@ -86,9 +97,12 @@ pub fn refused_number(random: &mut Random, n: usize) -> usize {
     }
 }
 
-/// A shape, once in four with one or more numbers outside the limits.
-pub fn any_shape(random: &mut Random) -> Numbers {
-    let mut shape = lawful_shape(random);
+/// A shape, once in four with one or more numbers outside the limits; where windows are wanted, now and then with another window.
+pub fn any_shape(random: &mut Random, windows: bool) -> Numbers {
+    let mut shape = lawful_shape(random, windows);
+    if windows && random.once_in(8) {
+        windows::change_window(random, &mut shape);
+    }
     if random.once_in(4) {
         match random.below(8) {
             0 => shape.w = refused_number(random, shape.w),
@@ -105,21 +119,26 @@ pub fn any_shape(random: &mut Random) -> Numbers {
     shape
 }
 
-/// The largest shapes, flat and stacked, and the strengths to try there.
-pub fn large_shapes() -> Vec<Numbers> {
+/// The largest shapes, flat and stacked, and the strengths to try there; where windows are wanted, those that they rule too.
+pub fn large_shapes(windows: bool) -> Vec<Numbers> {
     let mut shapes = Vec::new();
     for t in [5, 8, 16, 31, 32] {
-        shapes.push(Numbers { w: 256, h: 256, d: 1, t });
+        shapes.push(Numbers::of_strength(256, 256, 1, t));
     }
     for t in 4..=8 {
-        shapes.push(Numbers { w: 256, h: 16, d: 16, t });
+        shapes.push(Numbers::of_strength(256, 16, 16, t));
     }
     for t in [5, 8] {
-        shapes.push(Numbers { w: 17, h: 241, d: 15, t });
+        shapes.push(Numbers::of_strength(17, 241, 15, t));
     }
     for t in [1, 2, 3, 32] {
-        shapes.push(Numbers { w: 256, h: 1, d: 1, t });
-        shapes.push(Numbers { w: 1, h: 256, d: 1, t });
+        shapes.push(Numbers::of_strength(256, 1, 1, t));
+        shapes.push(Numbers::of_strength(1, 256, 1, t));
+    }
+    if windows {
+        for (p, q) in [(4, 4), (8, 8), (3, 17), (22, 22), (23, 22), (16, 32), (1, 512), (512, 1), (2, 256), (256, 2)] {
+            shapes.push(Numbers::of_window(256, 256, p, q));
+        }
     }
     shapes
 }
@@ -141,12 +160,12 @@ fn damaged_field(random: &mut Random, shape: &Numbers) -> Vec<u8> {
     if !random.once_in(5) {
         data[plan.bytes * 8..].fill(0);
     }
-    let mut field = reference::field_of_bits(&shape.shape(), &data);
+    let mut field = reference::field_of_bits(shape, &data);
     let flips = match random.below(12) {
         0 => Vec::new(),
-        1..=5 => cluster(random, shape, shape.t),
+        1..=5 => hole(random, shape),
         6 => {
-            let size = shape.t + random.from(1, 6);
+            let size = shape.extent() + random.from(1, 6);
             cluster(random, shape, size)
         }
         7 | 8 => (0..random.from(1, 3)).map(|_| random.below(plan.cells)).collect(),
@@ -204,7 +223,7 @@ pub fn lent_payload(random: &mut Random, shape: &Numbers) -> Vec<u8> {
 /// How often each number came up, and how often a stack of three different sides succeeded at each strength.
 #[derive(Default)]
 pub struct Tally {
-    pub numbers: [usize; 11],
+    pub numbers: [usize; 12],
     pub uneven_stacks: [usize; 9],
 }
 
@@ -245,37 +264,48 @@ pub fn number_of<T>(result: &Result<T, usize>) -> usize {
 pub trait Codec {
     /// Does it read erased cells? Else it is lent none.
     const ERASURES: bool = true;
+    /// Does it know windows? Else no shape has one.
+    const WINDOWS: bool = true;
 
     fn encode(shape: &Numbers, payload: &[u8], field: &mut [u8]) -> Result<(), usize>;
     fn decode(shape: &Numbers, payload: &mut [u8], field: &[u8]) -> Result<usize, usize>;
     fn correct(shape: &Numbers, field: &mut [u8]) -> Result<usize, usize>;
 }
 
-/// The numbers of refusals that are listed with an operation of an implementation: 10 where it reads erased cells, and others.
-pub fn listed<C: Codec>(others: &[usize]) -> Vec<usize> {
+/// The numbers of refusals that an operation of an implementation gives for fields of accepted shapes: 10 where it reads erased cells,
+/// and others.
+pub fn of_field<C: Codec>(others: &[usize]) -> Vec<usize> {
     others.iter().copied().chain(C::ERASURES.then_some(10)).collect()
 }
 
-/// Names an implementation whose three operations are functions of a module, on the four numbers of the shape; `false` follows where
-/// it does not read erased cells.
+/// The numbers of refusals that an operation of an implementation gives: 11 where it knows windows, and others.
+pub fn of_shape<C: Codec>(others: &[usize]) -> Vec<usize> {
+    others.iter().copied().chain(C::WINDOWS.then_some(11)).collect()
+}
+
+/// Names an implementation whose three operations are functions of a module; what is in brackets are their first parameters, for the
+/// shape of a name. `false` follows where it reads no erased cells and knows no windows.
 #[allow(unused_macros)]
 macro_rules! codec {
-    ($name:ident, $module:ident $(, $erasures:literal)?) => {
+    ($name:ident, $module:ident, $shape:ident => ($($number:expr),+) $(, $all:literal)?) => {
         struct $name;
 
         impl Codec for $name {
-            $(const ERASURES: bool = $erasures;)?
+            $(
+                const ERASURES: bool = $all;
+                const WINDOWS: bool = $all;
+            )?
 
-            fn encode(s: &Numbers, payload: &[u8], field: &mut [u8]) -> Result<(), usize> {
-                $module::encode(s.w, s.h, s.d, s.t, payload, field)
+            fn encode($shape: &Numbers, payload: &[u8], field: &mut [u8]) -> Result<(), usize> {
+                $module::encode($($number),+, payload, field)
             }
 
-            fn decode(s: &Numbers, payload: &mut [u8], field: &[u8]) -> Result<usize, usize> {
-                $module::decode(s.w, s.h, s.d, s.t, payload, field)
+            fn decode($shape: &Numbers, payload: &mut [u8], field: &[u8]) -> Result<usize, usize> {
+                $module::decode($($number),+, payload, field)
             }
 
-            fn correct(s: &Numbers, field: &mut [u8]) -> Result<usize, usize> {
-                $module::correct(s.w, s.h, s.d, s.t, field)
+            fn correct($shape: &Numbers, field: &mut [u8]) -> Result<usize, usize> {
+                $module::correct($($number),+, field)
             }
         }
     };
@@ -287,7 +317,7 @@ pub(crate) use codec;
 pub fn compare_encode<C: Codec>(shape: &Numbers, payload: &[u8], field: &[u8], tally: &mut Tally) {
     let mut expected = field.to_vec();
     let mut actual = field.to_vec();
-    let answer = reference::encode(shape.w, shape.h, shape.d, shape.t, payload, &mut expected);
+    let answer = reference::encode(shape, payload, &mut expected);
     assert_eq!(guards::encode::<C>(shape, payload, &mut actual), answer, "{shape:?} {payload:?} {field:?}");
     assert_eq!(actual, expected, "{shape:?} {payload:?} {field:?}");
     tally.note(shape, number_of(&answer));
@@ -297,7 +327,7 @@ pub fn compare_encode<C: Codec>(shape: &Numbers, payload: &[u8], field: &[u8], t
 pub fn compare_decode<C: Codec>(shape: &Numbers, payload: &[u8], field: &[u8], tally: &mut Tally) {
     let mut expected = payload.to_vec();
     let mut actual = payload.to_vec();
-    let answer = reference::decode(shape.w, shape.h, shape.d, shape.t, &mut expected, field);
+    let answer = reference::decode(shape, &mut expected, field);
     assert_eq!(guards::decode::<C>(shape, &mut actual, field), answer, "{shape:?} {payload:?} {field:?}");
     assert_eq!(actual, expected, "{shape:?} {payload:?} {field:?}");
     tally.note(shape, number_of(&answer));
@@ -307,13 +337,14 @@ pub fn compare_decode<C: Codec>(shape: &Numbers, payload: &[u8], field: &[u8], t
 pub fn compare_correct<C: Codec>(shape: &Numbers, field: &[u8], tally: &mut Tally) {
     let mut expected = field.to_vec();
     let mut actual = field.to_vec();
-    let answer = reference::correct(shape.w, shape.h, shape.d, shape.t, &mut expected);
+    let answer = reference::correct(shape, &mut expected);
     assert_eq!(guards::correct::<C>(shape, &mut actual), answer, "{shape:?} {field:?}");
     assert_eq!(actual, expected, "{shape:?} {field:?}");
     tally.note(shape, number_of(&answer));
 }
 
-/// Random calls of one operation, each on a shape of its own; each listed number must come up, and no other.
+/// Random calls of one operation, each on a shape of its own; each listed number must come up, and no other. Where 11 is listed,
+/// shapes have windows.
 pub fn compare_many(
     test: u64,
     times: usize,
@@ -324,7 +355,7 @@ pub fn compare_many(
     let mut random = outside::random(test);
     let mut tally = Tally::default();
     for _ in 0..outside::rounds(times) {
-        let shape = any_shape(&mut random);
+        let shape = any_shape(&mut random, listed.contains(&11));
         compare(&mut random, &shape, &mut tally);
     }
     tally.assert_numbers(operation, listed);
@@ -333,7 +364,7 @@ pub fn compare_many(
 
 /// Random encodings.
 pub fn compare_encodings<C: Codec>(times: usize) {
-    compare_many(3, times, "encode", &[1, 2, 3, 4], |random, shape, tally| {
+    compare_many(3, times, "encode", &of_shape::<C>(&[1, 2, 3, 4]), |random, shape, tally| {
         let payload = lent_payload(random, shape);
         let planned = shape.plan().map_or(20, |plan| plan.cells);
         let n = length(random, planned);
@@ -344,7 +375,7 @@ pub fn compare_encodings<C: Codec>(times: usize) {
 
 /// Random decodings.
 pub fn compare_decodings<C: Codec>(times: usize) {
-    compare_many(4, times, "decode", &listed::<C>(&[1, 2, 3, 4, 5, 6, 7]), |random, shape, tally| {
+    compare_many(4, times, "decode", &of_field::<C>(&of_shape::<C>(&[1, 2, 3, 4, 5, 6, 7])), |random, shape, tally| {
         let payload = lent_payload(random, shape);
         let field = lent_field::<C>(random, shape);
         compare_decode::<C>(shape, &payload, &field, tally);
@@ -353,26 +384,27 @@ pub fn compare_decodings<C: Codec>(times: usize) {
 
 /// Random corrections.
 pub fn compare_corrections<C: Codec>(times: usize) {
-    compare_many(5, times, "correct", &listed::<C>(&[1, 2, 4, 5, 6, 7]), |random, shape, tally| {
+    compare_many(5, times, "correct", &of_field::<C>(&of_shape::<C>(&[1, 2, 4, 5, 6, 7])), |random, shape, tally| {
         let field = lent_field::<C>(random, shape);
         compare_correct::<C>(shape, &field, tally);
     });
 }
 
-/// The largest shapes: encoded, then decoded and corrected whole, damaged within the strength and beyond it, and with erased cells.
+/// The largest shapes: encoded, then decoded and corrected whole, damaged within the promise and beyond it, and with erased cells.
 pub fn compare_large<C: Codec>() {
     let mut random = outside::random(6);
     let mut tally = Tally::default();
-    for shape in large_shapes() {
+    for shape in large_shapes(C::WINDOWS) {
         let plan = shape.plan().unwrap();
         let payload = random.bytes(plan.bytes);
         let mut field = random.bytes(plan.cells);
         compare_encode::<C>(&shape, &payload, &field, &mut tally);
         guards::encode::<C>(&shape, &payload, &mut field).unwrap();
-        for size in [0, shape.t, 3 * shape.t] {
+        let (hole, larger) = (hole(&mut random, &shape), cluster(&mut random, &shape, 3 * shape.extent()));
+        for cells in [Vec::new(), hole, larger] {
             let mut damaged = field.clone();
-            for cell in cluster(&mut random, &shape, size) {
-                damaged[cell] ^= u8::from(size > 0);
+            for cell in cells {
+                damaged[cell] ^= 1;
             }
             let lent = random.bytes(plan.bytes);
             compare_decode::<C>(&shape, &lent, &damaged, &mut tally);
@@ -389,10 +421,11 @@ pub fn compare_large<C: Codec>() {
 pub fn compare_long_classes<C: Codec>() {
     let mut random = outside::random(7);
     let mut tally = Tally::default();
-    for (w, h, d, t) in
-        [(256, 256, 1, 1), (256, 256, 1, 2), (256, 256, 1, 3), (256, 16, 16, 1), (16, 256, 16, 2), (17, 241, 15, 3)]
-    {
-        let shape = Numbers { w, h, d, t };
+    let by_strength =
+        [(256, 256, 1, 1), (256, 256, 1, 2), (256, 256, 1, 3), (256, 16, 16, 1), (16, 256, 16, 2), (17, 241, 15, 3)];
+    let by_strength = by_strength.map(|(w, h, d, t)| Numbers::of_strength(w, h, d, t));
+    let by_window = [(1, 1), (1, 2), (2, 1)].map(|(p, q)| Numbers::of_window(256, 256, p, q));
+    for shape in by_strength.into_iter().chain(by_window.into_iter().filter(|_| C::WINDOWS)) {
         let plan = shape.plan().unwrap();
         let payload = random.bytes(plan.bytes);
         let mut field = random.bytes(plan.cells);
@@ -418,18 +451,18 @@ pub fn compare_long_classes<C: Codec>() {
     }
 }
 
-/// Demand 3 itself: any cells of any one cluster of at most t cells are undone, and counted.
+/// Demand 3 itself: any cells of any one cluster of at most t cells, or of any one window, are undone, and counted.
 pub fn undo_clusters<C: Codec>(times: usize) {
     let mut random = outside::random(8);
     let mut tally = Tally::default();
     for _ in 0..outside::rounds(times) {
-        let shape = lawful_shape(&mut random);
+        let shape = lawful_shape(&mut random, C::WINDOWS);
         let plan = shape.plan().unwrap();
         let payload = random.bytes(plan.bytes);
         let mut field = random.bytes(plan.cells);
         guards::encode::<C>(&shape, &payload, &mut field).unwrap();
         let mut damaged = field.clone();
-        let hit = cluster(&mut random, &shape, shape.t);
+        let hit = hole(&mut random, &shape);
         let flips = some_of(&mut random, &hit);
         for &cell in &flips {
             damaged[cell] ^= 1;

@@ -1,9 +1,9 @@
 -- Worked examples of what C is given: the term of the theorem, by computation of the definitions.
-use Rattle.lattice.specs.Shape.{maxStrength, sizeOk, strengthOk, shapeNumber}
+use Rattle.lattice.specs.Shape.{isNone, maxStrength, sizeOk, strengthOk, windowOk, shapeNumber}
 use Rattle.lattice.specs.Range.{inRange}
 use Rattle.lattice.specs.Settings.{oddSettings, evenSettings, flatSettings, settingsFor}
 use Rattle.lattice.specs.Cell.{cellAt}
-use Rattle.lattice.specs.Class.{minusMod, classWith, classesOf, classOf, inside, classNumber, classGiven}
+use Rattle.lattice.specs.Class.{minusMod, classWith, windowClass, classesOf, classOf, inside, classNumber, classGiven}
 use Rattle.lattice.specs.Position.{sizeTo, position}
 use Rattle.lattice.specs.Check.{isPower, isCheck, checks, holdsData, capacity}
 use Rattle.lattice.specs.Order.{order}
@@ -22,8 +22,9 @@ use Rattle.varmintfoil.specs.theorems.Results.{ResultExamples}
 -- Theorem. The examples hold of whatever meets the contracts.
 pub resultExamples : ResultExamples
 unfolding
-    inRange maxStrength sizeOk strengthOk shapeNumber
-    oddSettings evenSettings flatSettings settingsFor cellAt minusMod classWith classesOf classOf inside classNumber classGiven
+    inRange maxStrength sizeOk strengthOk windowOk isNone shapeNumber
+    oddSettings evenSettings flatSettings settingsFor cellAt minusMod classWith windowClass classesOf classOf
+    inside classNumber classGiven
     sizeTo position isPower isCheck checks holdsData capacity
     order failsAt outcome testStrengthOk testSettingsOk testNumber verdict foundTriple triplesTried
     isCell isReceived cellsOk having differences tagsOf flipped erasuresTo erasedSum filled corrected
@@ -35,6 +36,9 @@ resultExamples =
       plan = λ r x. (x .number, x .classes, x .capacity, x .bytes, x .cells);
       class = λ r x. (x .number, x .class);
       no-class = λ r x. (x .number, x .class);
+      window-plan = λ r x. (x .number, x .classes, x .capacity, x .bytes, x .cells);
+      window-class = λ r x. (x .number, x .class);
+      no-window = λ r x. (x .number, x .classes);
       encode = λ last r x. (x .number, x .leaves);
       decode = λ last r x. (x .number, x .count);
       no-decode = λ last r x. (x .number, x .count);

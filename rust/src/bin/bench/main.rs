@@ -13,6 +13,7 @@ mod turns;
 
 use contest::{Card, Each};
 use turns::Standing;
+use varmintfoil::Window;
 
 /// Columns, rows, planes and strength of the fields measured.
 const FIELDS: [[usize; 4]; 8] = [
@@ -103,6 +104,25 @@ fn print_erased() {
     }
 }
 
+/// Columns, rows and window of a field, and the strength that it is measured beside.
+const WINDOWS: [(usize, usize, Window, usize); 4] = [
+    (256, 256, Window { rows: 3, columns: 3 }, 3),
+    (256, 256, Window { rows: 8, columns: 8 }, 8),
+    (256, 256, Window { rows: 22, columns: 22 }, 22),
+    (32, 32, Window { rows: 3, columns: 3 }, 3),
+];
+
+fn print_windows() {
+    println!("A field that a window rules, beside the same at strength t: the ratio of the times, proved.");
+    println!("{:<13} {:<8} {:>2} {:>8} {:>8} {:>8}", "field", "window", "t", "encode", "decode", "correct");
+    for (w, h, window, t) in WINDOWS {
+        let ratios = Card::with_window(w, h, window).beside(&Card::new(w, h, 1, t));
+        let ratios = ratios.map(|standing| figure(Some(standing.ratio), 8, 2));
+        let sides = format!("{} x {}", window.rows, window.columns);
+        println!("{:<13} {sides:<8} {t:>2} {}", name([w, h, 1, t]), ratios.join(" "));
+    }
+}
+
 fn main() {
     println!("Medians. proved: the proved library; same: its text as Rust; plain: the fastest plain Rust; liquid: liquid-dsp,");
     println!("SECDED(72,64) with interleaver; copy: a copy of the cells.");
@@ -117,6 +137,8 @@ fn main() {
     print_growth();
     println!();
     print_erased();
+    println!();
+    print_windows();
     println!();
     program::print();
 }
