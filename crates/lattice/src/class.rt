@@ -148,7 +148,7 @@ impl Shape {
     }
 
     // How the cells of an accepted field are placed in classes.
-    fn placed(self) -> Placement
+    pub(crate) fn placed(self) -> Placement
         requires { ⌜ Accepted self ⌝ }
         ensures { λ r. ⌜ r ≡ placementOf self ⌝ }
     {

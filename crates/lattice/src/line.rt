@@ -76,7 +76,7 @@ impl Shape {
                 last: 0,
             };
         }
-        pass_with(self, self.placement())
+        pass_with(self, self.placed())
     }
 }
 

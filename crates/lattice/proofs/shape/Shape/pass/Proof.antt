@@ -1,10 +1,8 @@
 -- `Shape::pass` meets its contract.
-use mathlib.Core.Path.{_∙_}
 use borrow.Author.Needs.{needs}
 use Rattle.lattice.specs.Shape.{Accepted}
 use Rattle.lattice.specs.Lines.{noPass, passGiven}
 use Rattle.lattice.proofs.theory.Answers.{refused, done, told, told-none}
-use Rattle.lattice.proofs.theory.Placements.{placement-accepted}
 use Rattle.lattice.proofs.shape.Shape.pass.Statement.{statement}
 use Rattle.lattice.proofs.shape.Shape.pass.Tie as tie
 
@@ -24,12 +22,11 @@ returns c = refused (c .enum-told .given .0 .0) _ _ _ (told (c .before .before .
 enum-told-2 : tie.Need-enum-told-2
 enum-told-2 c = search needs
 
-placement-requires : tie.Need-placement-requires
-placement-requires c κs = search needs
+placed-requires : tie.Need-placed-requires
+placed-requires c κs = accepted c
 
 pass-with-requires : tie.Need-pass-with-requires
-pass-with-requires c κs =
-    (accepted (c .before), c .placement .ensures ∙ placement-accepted _ (accepted (c .before)))
+pass-with-requires c κs = (accepted (c .before), c .placed .ensures)
 
 returns-2 : tie.Need-returns-2
 unfolding passGiven
@@ -43,6 +40,6 @@ pass-spec =
     enum-told
     returns
     enum-told-2
-    placement-requires
+    placed-requires
     pass-with-requires
     returns-2)
