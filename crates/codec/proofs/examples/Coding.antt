@@ -1,9 +1,9 @@
 -- Examples that meet the hypotheses of the theorems on coding: the field of 5 by 5 of strength 3, its payload byte 165, and
 -- damage to one of its cells.
 use Prim.Native.Nat.{ℕ, zero, suc, _<_}
-use mathlib.Core.Bool.{Bool, true, _&&_}
-use mathlib.Core.List.{List, [], _∷_, List·Memᴰ·head}
-use mathlib.Core.Logic.{_≢_}
+use mathlib.Core.Bool.{Bool, true, _&&_, _||_}
+use mathlib.Core.List.{List, [], _∷_, List·Memᴰ, List·Memᴰ·head, List·Memᴰ·tail}
+use mathlib.Core.Logic.{_≢_, ⊎-elim}
 use mathlib.Core.Path.{_≡_, refl, sym, _∙_}
 use native.Mathlib.Omega.{arith}
 use borrow.Author.Tests.{eqb-true}
@@ -17,7 +17,7 @@ use Rattle.lattice.specs.Class.{minusMod, classWith, classOf, layoutOf, classes
 use Rattle.lattice.specs.Position.{Layout, sizeTo, size, position}
 use Rattle.lattice.specs.Check.{isPower, isCheck, holdsData, capacity}
 use Rattle.lattice.specs.Cluster.{distance, apart}
-use Rattle.lattice.proofs.theory.Bools.{and-left, and-right}
+use Rattle.lattice.proofs.theory.Bools.{and-left, and-right, or-cases}
 use Rattle.lattice.proofs.examples.Placing.{field, corner, OfThree}
 use Rattle.codec.specs.Field.{fieldOf, cellsOk, isCell, isReceived}
 use Rattle.codec.specs.Hamming.{tagsOf, syndrome, flipped}
@@ -94,6 +94,18 @@ at-is y x e = λ i. record { row = row i; plane = plane i; column = column i }
 
     column : x .column ≡ y .column
     column = eqb-true (x .column) (y .column) (and-right (eqb (x .plane) (y .plane)) (eqb (x .column) (y .column)) rest)
+
+-- a cell that is one of three
+pub of-three : (a b c x : Cell) → (isAt a x || (isAt b x || isAt c x)) ≡ true → List·Memᴰ x (a ∷ b ∷ c ∷ [])
+of-three a b c x e =
+    ⊎-elim
+    (λ p. List·Memᴰ·head (at-is a x p))
+    (λ q. List·Memᴰ·tail
+    (⊎-elim
+    (λ p. List·Memᴰ·head (at-is b x p))
+    (λ p. List·Memᴰ·tail (List·Memᴰ·head (at-is c x p)))
+    (or-cases (isAt b x) (isAt c x) q)))
+    (or-cases (isAt a x) (isAt b x || isAt c x) e)
 
 -- one cell of the cluster of three
 abbrev pub isCorner : Cell → Bool

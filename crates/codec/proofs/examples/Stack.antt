@@ -2,15 +2,13 @@
 -- example, a hole across both of its planes, and fields that are refused with 6 and with 7.
 use Prim.Native.Nat.{zero, suc}
 use mathlib.Core.Bool.{Bool, true, _||_}
-use mathlib.Core.List.{[], _∷_, List·Memᴰ·head, List·Memᴰ·tail}
-use mathlib.Core.Logic.{_⊎_, inl, inr}
+use mathlib.Core.List.{[], _∷_}
 use mathlib.Core.Path.{_≡_, refl, sym}
 use lib.Dec.{lit<}
 use lib.ListN.{length}
 use Rattle.lattice.specs.Range.{inRange}
 use Rattle.lattice.specs.Shape.{isNone, maxStrength, sizeOk, strengthOk, windowOk, shapeNumber}
 use Rattle.lattice.specs.Cell.{Cell, cell}
-use Rattle.lattice.proofs.theory.Bools.{or-cases}
 use Rattle.lattice.proofs.examples.Stack.{stack-accepted, OfHole, hole-cluster, hole-few}
 use Rattle.codec.specs.Field.{Field, fieldOf, isCell}
 use Rattle.codec.specs.Payload.{Bytes}
@@ -22,7 +20,7 @@ use Rattle.codec.specs.Damage.{damagedField, Recovered}
 use Rattle.codec.specs.theorems.Worked.{stack, bytes, strip}
 use Rattle.codec.proofs.theory.AllBelow.{below-all}
 use Rattle.codec.proofs.theory.ReadFields.{cells-readable}
-use Rattle.codec.proofs.examples.Coding.{isAt, at-is}
+use Rattle.codec.proofs.examples.Coding.{isAt, of-three}
 use Rattle.codec.proofs.theorems.Reading.{decodeMeaning}
 use Rattle.codec.proofs.theorems.Recovery.{recovery}
 use Rattle.codec.proofs.theorems.Worked.{codingExamples}
@@ -43,15 +41,7 @@ abbrev pub isHole : Cell → Bool
 isHole x = isAt (cell 2 0 3) x || (isAt (cell 2 1 3) x || isAt (cell 2 1 4) x)
 
 pub hole-selected : (x : Cell) → isHole x ≡ true → OfHole x
-hole-selected x e = at (or-cases (isAt (cell 2 0 3) x) (isAt (cell 2 1 3) x || isAt (cell 2 1 4) x) e)
-  where
-    behind : (isAt (cell 2 1 3) x ≡ true) ⊎ (isAt (cell 2 1 4) x ≡ true) → OfHole x
-    behind (inl p) = List·Memᴰ·tail (List·Memᴰ·head (at-is (cell 2 1 3) x p))
-    behind (inr p) = List·Memᴰ·tail (List·Memᴰ·tail (List·Memᴰ·head (at-is (cell 2 1 4) x p)))
-
-    at : (isAt (cell 2 0 3) x ≡ true) ⊎ ((isAt (cell 2 1 3) x || isAt (cell 2 1 4) x) ≡ true) → OfHole x
-    at (inl p) = List·Memᴰ·head (at-is (cell 2 0 3) x p)
-    at (inr p) = behind (or-cases (isAt (cell 2 1 3) x) (isAt (cell 2 1 4) x) p)
+hole-selected = of-three (cell 2 0 3) (cell 2 1 3) (cell 2 1 4)
 
 -- demand 3, applied: with those three cells flipped the payload and the field come back
 pub hole-recovered : Recovered stack bytes (encodedField stack bytes) (damagedField stack bytes isHole) bytes

@@ -2,7 +2,7 @@
 -- with a window of 3 by 3, their payloads, and damage over the edges and along a diagonal.
 use Prim.Native.Nat.{ℕ, zero, suc}
 use mathlib.Core.Bool.{Bool, true, _||_}
-use mathlib.Core.List.{List, [], _∷_, List·Memᴰ·head, List·Memᴰ·tail}
+use mathlib.Core.List.{List, [], _∷_}
 use mathlib.Core.Logic.{_⊎_, inl, inr, ⊎-elim}
 use mathlib.Core.Path.{_≡_, refl, subst⁻¹}
 use lib.Dec.{lit<}
@@ -25,7 +25,7 @@ use Rattle.codec.specs.Plan.{planCapacity, planBytes}
 use Rattle.codec.specs.Encode.{encodedField}
 use Rattle.codec.specs.Damage.{damagedField, erasedField, selectedCells, Recovered}
 use Rattle.codec.proofs.theorems.Windows.{windowRecovery, patchRecovery, windowRefill}
-use Rattle.codec.proofs.examples.Coding.{payload, payload-bytes, isAt, at-is}
+use Rattle.codec.proofs.examples.Coding.{payload, payload-bytes, isAt, at-is, of-three}
 
 -- payloads of the plan's lengths
 abbrev pub window-payload : List ℕ
@@ -109,15 +109,7 @@ abbrev pub isDiagonal : Cell → Bool
 isDiagonal x = isAt (cell 1 0 1) x || (isAt (cell 2 0 2) x || isAt (cell 3 0 3) x)
 
 pub diagonal-selected : (x : Cell) → isDiagonal x ≡ true → OfDiagonal x
-diagonal-selected x e = at (or-cases (isAt (cell 1 0 1) x) (isAt (cell 2 0 2) x || isAt (cell 3 0 3) x) e)
-  where
-    behind : (isAt (cell 2 0 2) x ≡ true) ⊎ (isAt (cell 3 0 3) x ≡ true) → OfDiagonal x
-    behind (inl p) = List·Memᴰ·tail (List·Memᴰ·head (at-is (cell 2 0 2) x p))
-    behind (inr p) = List·Memᴰ·tail (List·Memᴰ·tail (List·Memᴰ·head (at-is (cell 3 0 3) x p)))
-
-    at : (isAt (cell 1 0 1) x ≡ true) ⊎ ((isAt (cell 2 0 2) x || isAt (cell 3 0 3) x) ≡ true) → OfDiagonal x
-    at (inl p) = List·Memᴰ·head (at-is (cell 1 0 1) x p)
-    at (inr p) = behind (or-cases (isAt (cell 2 0 2) x) (isAt (cell 3 0 3) x) p)
+diagonal-selected = of-three (cell 1 0 1) (cell 2 0 2) (cell 3 0 3)
 
 -- with those three cells flipped the payload and the field come back
 pub diagonal-recovered :
