@@ -220,15 +220,17 @@ pub window-legal : (s : Shape) → Accepted s → s .strength ≡ 0 → WindowLe
 window-legal s a z =
     let p = s .window .rows in
     let q = s .window .columns in
+    let sides = not (eqb p 0) && not (eqb q 0) in
+    let few = leb (p * q) maxClasses in
     let all = sym (window-alone (s .planes) (s .strength) (s .window) z) ∙ tests-passed s a .2 in
-    let three = and-left _ (leb (s .planes) 1) all in
-    let two = and-left _ (leb (p * q) maxClasses) three in
-    let flat : s .planes ≤ 1 = leb-true _ _ (and-right (not (eqb p 0) && not (eqb q 0) && leb (p * q) maxClasses) _ all) in
+    let three : (sides && few) ≡ true = and-left (sides && few) (leb (s .planes) 1) all in
+    let two : sides ≡ true = and-left sides few three in
+    let flat : s .planes ≤ 1 = leb-true _ _ (and-right (sides && few) _ all) in
     record {
       flat = omega (arith, legal s a .planes-low);
       rows = not-zero p (and-left _ (not (eqb q 0)) two);
       columns = not-zero q (and-right (not (eqb p 0)) _ two);
-      few = leb-true _ _ (and-right (not (eqb p 0) && not (eqb q 0)) _ three);
+      few = leb-true _ _ (and-right sides few three);
     }
 
 -- each side is at most the number of cells

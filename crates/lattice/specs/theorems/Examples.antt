@@ -97,8 +97,7 @@ pub record PlacingExamples : Type 0 where
       (shapeNumber (sized 5 5 2 0) ≡ 2)
       × (shapeNumber (sized 5 5 2 1) ≡ 0)
       × (shapeNumber (sized 5 5 2 8) ≡ 0)
-      × (shapeNumber (sized 5 5 2 9) ≡
-      2)
+      × (shapeNumber (sized 5 5 2 9) ≡ 2)
   -- a window of 2 rows and 3 columns: row 3, column 4 is of class 1 × 3 + 1; the sides are not exchanged, and may exceed the
   -- field
   pub window-classes :
