@@ -43,6 +43,10 @@ maxFlatStrength = 32
 abbrev pub maxStackStrength : ℕ
 maxStackStrength = 8
 
+-- a window has at most 512 cells
+abbrev pub maxWindow : ℕ
+maxWindow = 512
+
 -- no accepted shape has more classes: 32²/2, and p × q of a window
 abbrev pub maxClasses : ℕ
 maxClasses = 512
@@ -57,12 +61,13 @@ sizeOk w h d = inRange 1 maxSide w && inRange 1 maxSide h && inRange 1 maxPlanes
 unfoldable pub strengthOk : ℕ → ℕ → Window → Bool
 strengthOk d t w = cond (eqb t 0) (not (isNone w)) (leb t (maxStrength d))
 
--- at strength 0 the window has 1 to 512 cells and the field is flat; at another strength there is none
+-- a window that rules has 1 to 512 cells, and the field is flat
+abbrev pub canRule : ℕ → Window → Bool
+canRule d w = not (eqb (w .rows) 0) && not (eqb (w .columns) 0) && leb (w .rows * w .columns) maxWindow && leb d 1
+
+-- at strength 0 the window rules; at another strength there is none
 unfoldable pub windowOk : ℕ → ℕ → Window → Bool
-windowOk d t w =
-    cond (eqb t 0)
-    (not (eqb (w .rows) 0) && not (eqb (w .columns) 0) && leb (w .rows * w .columns) maxClasses && leb d 1)
-    (isNone w)
+windowOk d t w = cond (eqb t 0) (canRule d w) (isNone w)
 
 -- the number for a shape: 1, 2, then 11
 unfoldable pub shapeNumber : Shape → ℕ
@@ -96,11 +101,13 @@ BothZero w = (w .rows ≡ 0) × (w .columns ≡ 0)
 unfoldable pub BadStrength : ℕ → ℕ → Window → Type 0
 BadStrength d t w = ((t ≡ 0) × BothZero w) ⊎ (maxStrength d < t)
 
--- 11: strength 0 with one side 0, p × q above 512 or more than one plane, or another strength with a side that isn't 0
+-- one side is 0, p × q is above 512, or there is more than one plane
+abbrev pub CannotRule : ℕ → Window → Type 0
+CannotRule d w = (w .rows ≡ 0) ⊎ ((w .columns ≡ 0) ⊎ ((maxWindow < w .rows * w .columns) ⊎ (1 < d)))
+
+-- 11: strength 0 with a window that cannot rule, or another strength with a side that isn't 0
 unfoldable pub BadWindow : ℕ → ℕ → Window → Type 0
-BadWindow d t w =
-    ((t ≡ 0) × ((w .rows ≡ 0) ⊎ ((w .columns ≡ 0) ⊎ ((maxClasses < w .rows * w .columns) ⊎ (1 < d)))))
-    ⊎ ((t ≢ 0) × ((w .rows ≢ 0) ⊎ (w .columns ≢ 0)))
+BadWindow d t w = ((t ≡ 0) × CannotRule d w) ⊎ ((t ≢ 0) × ((w .rows ≢ 0) ⊎ (w .columns ≢ 0)))
 
 -- the shape's refusals, in the listed order
 abbrev pub shapeConditions : List (Condition Shape)

@@ -77,6 +77,8 @@ impl Shape {
 
     pub const MAX_CLASSES: usize = 512;
 
+    const MAX_WINDOW: usize = 512;
+
     fn size_ok(columns: usize, rows: usize, planes: usize) -> bool
         ensures { λ r. ⌜ r ≡ sizeOk columns rows planes ⌝ }
     {
@@ -117,13 +119,13 @@ impl Shape {
         if strength != 0 {
             return window.is_none();
         }
-        if !within(1, Shape::MAX_CLASSES, window.rows) {
+        if !within(1, Shape::MAX_WINDOW, window.rows) {
             return false;
         }
-        if !within(1, Shape::MAX_CLASSES, window.columns) {
+        if !within(1, Shape::MAX_WINDOW, window.columns) {
             return false;
         }
-        if window.rows * window.columns > Shape::MAX_CLASSES {
+        if window.rows * window.columns > Shape::MAX_WINDOW {
             return false;
         }
         planes <= 1

@@ -8,7 +8,7 @@ use borrow.Author.Tests.{eqb-true}
 use lib.Dec.{eqb}
 use Rattle.lattice.specs.declared.shape.Shape.{Shape}
 use Rattle.lattice.specs.declared.shape.Window.{Window}
-use Rattle.lattice.specs.Shape.{noWindow, isNone, BothZero, maxClasses, shapeNumber, Accepted}
+use Rattle.lattice.specs.Shape.{noWindow, isNone, BothZero, maxWindow, shapeNumber, Accepted}
 use Rattle.lattice.proofs.theory.Bools.{and-left, and-right}
 use Rattle.lattice.proofs.theory.Limits.{number-strength, number-accepted, tests-passed, strength-none, strength-some}
 use Rattle.lattice.proofs.theory.Limits.{window-beside, window-legal, rows-few, columns-few}
@@ -41,7 +41,7 @@ module _ (s : Shape) (accepted : Accepted s) where
   pub stack-none : s .planes ≢ 1 → BothZero (s .window)
   stack-none stack = beside-strength (λ z. stack (window-legal s accepted z .flat))
 
-  pub sides-most : (s .window .rows ≤ maxClasses) × (s .window .columns ≤ maxClasses)
+  pub sides-most : (s .window .rows ≤ maxWindow) × (s .window .columns ≤ maxWindow)
   sides-most =
       either s
       (λ z. (rows-few s accepted z, columns-few s accepted z))

@@ -8,7 +8,7 @@ use lib.Dec.{lit<, lit≤}
 use lib.IntN.{pos}
 use Rattle.lattice.specs.declared.shape.Shape.{Shape}
 use Rattle.lattice.specs.declared.shape.Window.{Window}
-use Rattle.lattice.specs.Shape.{window, maxClasses, BadStrength, BadWindow}
+use Rattle.lattice.specs.Shape.{window, maxWindow, BadStrength, BadWindow}
 use Rattle.lattice.specs.Cell.{Cell}
 use Rattle.lattice.specs.Class.{classOf}
 use Rattle.lattice.specs.Labelling.{labels}
@@ -42,7 +42,7 @@ square-strength t low = ⊎-elim (λ n. omega (arith, n .1)) (λ l. omega arith)
 square-window : (t : ℕ) → 1 ≤ t → t ≤ 22 → ¬ BadWindow 1 0 (window t t)
 unfolding BadWindow
 square-window t low high =
-    let few : t * t ≤ maxClasses = omega (arith, mul-le-mul high high) in
+    let few : t * t ≤ maxWindow = omega (arith, mul-le-mul high high) in
     ⊎-elim
     (λ n. ⊎-elim (λ e. omega arith) (⊎-elim (λ e. omega arith) (⊎-elim (λ l. omega arith) (λ l. omega arith))) (n .1))
     (λ n. n .0 refl)

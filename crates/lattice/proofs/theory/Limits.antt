@@ -10,8 +10,8 @@ use native.Mathlib.Nat.{le-trans, le-refl, mul-le-mul}
 use Rattle.lattice.specs.declared.shape.Shape.{Shape}
 use Rattle.lattice.specs.declared.shape.Window.{Window}
 use Rattle.lattice.specs.Refusal.{unless}
-use Rattle.lattice.specs.Shape.{maxSide, maxPlanes, maxCells, maxFlatStrength, maxStackStrength, maxClasses, maxStrength}
-use Rattle.lattice.specs.Shape.{sizeOk, isNone, strengthOk, windowOk, shapeNumber, Accepted}
+use Rattle.lattice.specs.Shape.{maxSide, maxPlanes, maxCells, maxFlatStrength, maxStackStrength, maxWindow, maxStrength}
+use Rattle.lattice.specs.Shape.{sizeOk, isNone, strengthOk, canRule, windowOk, shapeNumber, Accepted}
 use Rattle.lattice.specs.Range.{inRange}
 use Rattle.lattice.proofs.theory.Answers.{unless-zero}
 use Rattle.lattice.proofs.theory.Bools.{and-true, and-false-left, and-left, and-right}
@@ -146,9 +146,7 @@ module _ (d t : ℕ) (w : Window) where
   unfolding strengthOk
   strength-some p = rw (ne-eqb t 0 p)
 
-  pub window-alone : t ≡ 0
-      → windowOk d t w
-      ≡ (not (eqb (w .rows) 0) && not (eqb (w .columns) 0) && leb (w .rows * w .columns) maxClasses && leb d 1)
+  pub window-alone : t ≡ 0 → windowOk d t w ≡ canRule d w
   unfolding windowOk
   window-alone p = rw (eq-eqb t 0 p)
 
@@ -214,14 +212,14 @@ pub record WindowLegal (s : Shape) : Type 0 where
   pub flat : s .planes ≡ 1
   pub rows : 1 ≤ s .window .rows
   pub columns : 1 ≤ s .window .columns
-  pub few : s .window .rows * s .window .columns ≤ maxClasses
+  pub few : s .window .rows * s .window .columns ≤ maxWindow
 
 pub window-legal : (s : Shape) → Accepted s → s .strength ≡ 0 → WindowLegal s
 window-legal s a z =
     let p = s .window .rows in
     let q = s .window .columns in
     let sides = not (eqb p 0) && not (eqb q 0) in
-    let few = leb (p * q) maxClasses in
+    let few = leb (p * q) maxWindow in
     let all = sym (window-alone (s .planes) (s .strength) (s .window) z) ∙ tests-passed s a .2 in
     let three : (sides && few) ≡ true = and-left (sides && few) (leb (s .planes) 1) all in
     let two : sides ≡ true = and-left sides few three in
@@ -235,12 +233,12 @@ window-legal s a z =
 
 -- each side is at most the number of cells
 module _ (s : Shape) (a : Accepted s) (z : s .strength ≡ 0) where
-  pub rows-few : s .window .rows ≤ maxClasses
+  pub rows-few : s .window .rows ≤ maxWindow
   rows-few =
       let g = window-legal s a z in
       omega (arith, g .few, mul-le-mul (le-refl (s .window .rows)) (g .columns))
 
-  pub columns-few : s .window .columns ≤ maxClasses
+  pub columns-few : s .window .columns ≤ maxWindow
   columns-few =
       let g = window-legal s a z in
       omega (arith, g .few, mul-le-mul (g .rows) (le-refl (s .window .columns)))

@@ -11,9 +11,9 @@ use borrow.Author.Tests.{leb-true, leb-false, ltb-true, ltb-false, eq-eqb, ne-eq
 use lib.Dec.{leb, ltb, eqb}
 use Rattle.lattice.specs.declared.shape.Shape.{Shape}
 use Rattle.lattice.specs.declared.shape.Window.{Window}
-use Rattle.lattice.specs.Shape.{maxSide, maxPlanes, maxCells, maxClasses, maxStrength, sizeOk, strengthOk, shapeNumber}
-use Rattle.lattice.specs.Shape.{BadSize}
-use Rattle.lattice.specs.Shape.{isNone, windowOk, BothZero, BadStrength, BadWindow, shapeRefusals}
+use Rattle.lattice.specs.Shape.{maxSide, maxPlanes, maxCells, maxWindow, maxStrength, sizeOk, strengthOk, shapeNumber}
+use Rattle.lattice.specs.Shape.{isNone, canRule, windowOk, BadSize, BothZero, BadStrength, CannotRule, BadWindow}
+use Rattle.lattice.specs.Shape.{shapeRefusals}
 use Rattle.lattice.specs.Range.{inRange, Outside}
 use Rattle.lattice.specs.Cell.{Cell}
 use Rattle.lattice.specs.Class.{inside, classNumber, OutsideShape, classRefusals}
@@ -99,11 +99,10 @@ pub window-decides : (d t : ℕ) (w : Window) → Decides (windowOk d t w) (BadW
 unfolding BadWindow
 window-decides d t w = go (ℕ-discrete t 0)
   where
-    alone : Decides (not (eqb (w .rows) 0) && not (eqb (w .columns) 0) && leb (w .rows * w .columns) maxClasses && leb d 1)
-        ((w .rows ≡ 0) ⊎ ((w .columns ≡ 0) ⊎ ((maxClasses < w .rows * w .columns) ⊎ (1 < d))))
+    alone : Decides (canRule d w) (CannotRule d w)
     alone =
-        assoc (assoc (both (both (both (is-zero (w .rows)) (is-zero (w .columns))) (at-most (w .rows * w .columns) maxClasses))
-        (at-most d 1)))
+        assoc (assoc (both (both (both (is-zero (w .rows)) (is-zero (w .columns))) (at-most (w .rows * w .columns) maxWindow))
+        (at-most d _)))
 
     go : Dec (t ≡ 0) → Decides (windowOk d t w) (BadWindow d t w)
     go (yes z) = rw (window-alone d t w z)

@@ -6,7 +6,7 @@ use Prim.Native.Nat.{_*_}
 use borrow.Author.Needs.{needs}
 use mir.Facts.{fits-below}
 use Rattle.lattice.specs.Range.{inRange}
-use Rattle.lattice.specs.Shape.{maxClasses}
+use Rattle.lattice.specs.Shape.{maxWindow}
 use Rattle.lattice.proofs.shape.WindowTest.{window-rows, window-columns, window-product, window-planes}
 use Rattle.lattice.proofs.theory.Bools.{failed, passed}
 use Rattle.lattice.proofs.theory.Limits.{range-high, window-beside}
@@ -16,10 +16,10 @@ use Rattle.lattice.proofs.shape.Shape.window_ok.Tie as tie
 alone : (c : tie.Else1) → c .before .args .strength ≡ 0
 alone c = c .if1 .left
 
-rows : (c : tie.Else2) → inRange 1 maxClasses (c .before .before .before .args .window .rows) ≡ true
+rows : (c : tie.Else2) → inRange 1 maxWindow (c .before .before .before .args .window .rows) ≡ true
 rows c = passed _ _ (c .if2 .left) (c .before .within .ensures)
 
-columns : (c : tie.Else3) → inRange 1 maxClasses (c .before .before .before .before .before .args .window .columns) ≡ true
+columns : (c : tie.Else3) → inRange 1 maxWindow (c .before .before .before .before .before .args .window .columns) ≡ true
 columns c = passed _ _ (c .if3 .left) (c .before .within2 .ensures)
 
 is-none-requires : tie.Need-is-none-requires
@@ -47,8 +47,8 @@ returns-3 c =
 mul-if4 : tie.Need-mul-if4
 mul-if4 c =
     let second = c .before in
-    fits-below {n = maxClasses * maxClasses} tt
-    (mul-le-mul (range-high 1 maxClasses _ (rows (second .before .before))) (range-high 1 maxClasses _ (columns second)))
+    fits-below {n = maxWindow * maxWindow} tt
+    (mul-le-mul (range-high 1 maxWindow _ (rows (second .before .before))) (range-high 1 maxWindow _ (columns second)))
 
 returns-4 : tie.Need-returns-4
 returns-4 c =
