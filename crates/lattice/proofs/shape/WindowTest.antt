@@ -1,7 +1,7 @@
 -- The test of a window at strength 0: each of its parts fails it, and behind them it is that of the planes.
 use Prim.Native.Nat.{ℕ, _*_, _<_, _≤_}
 use mathlib.Core.Bool.{true, false}
-use mathlib.Core.Logic.{_⊎_, inl, inr, ⊎-elim}
+use mathlib.Core.Logic.{inl, inr, ⊎-elim}
 use mathlib.Core.Path.{_≡_}
 use native.Mathlib.Decide.{ℕ-discrete}
 use native.Mathlib.Nat.{mul-le-mul}
@@ -37,16 +37,15 @@ module _ (d t : ℕ) (w : Window) (z : t ≡ 0) where
   module _ (rows : inRange 1 maxWindow (w .rows) ≡ true) where
     pub window-columns : inRange 1 maxWindow (w .columns) ≡ false → windowOk d t w ≡ false
     unfolding BadWindow
-    window-columns p =
-        decided (window-decides d t w) (inl (z, inr (⊎-elim none many (in-range 1 maxWindow (w .columns) .fails p))))
+    window-columns p = decided (window-decides d t w) (inl (z, ⊎-elim none many (in-range 1 maxWindow (w .columns) .fails p)))
       where
-        none : w .columns < 1 → (w .columns ≡ 0) ⊎ ((maxWindow < w .rows * w .columns) ⊎ (1 < d))
-        none l = inl (omega arith)
+        none : w .columns < 1 → CannotRule d w
+        none l = inr (inl (omega arith))
 
-        many : maxWindow < w .columns → (w .columns ≡ 0) ⊎ ((maxWindow < w .rows * w .columns) ⊎ (1 < d))
+        many : maxWindow < w .columns → CannotRule d w
         many l =
             let some = range-low 1 maxWindow (w .rows) rows in
-            inr (inl (omega (arith, too-many (w .columns) (w .rows) l (λ e. omega (arith, some)))))
+            inr (inr (inl (omega (arith, too-many (w .columns) (w .rows) l (λ e. omega (arith, some))))))
 
     pub window-product : maxWindow < w .rows * w .columns → windowOk d t w ≡ false
     unfolding BadWindow
