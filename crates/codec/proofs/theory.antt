@@ -45,7 +45,7 @@ pub mod PaddingCount
 mod HeldByte
 pub mod HeldPayload
 pub mod EncodedField
-pub mod WrittenCells
+pub mod WrittenFields
 pub mod FlippedBits
 pub mod Gathered
 -- the operations

@@ -1,4 +1,4 @@
--- Damage to a field that was written, and what comes back from it.
+-- Damage to a field, and what comes back from it.
 use Prim.Native.Nat.{ℕ, _<_, _≤_}
 use mathlib.Core.Bool.{Bool, cond, true}
 use mathlib.Core.List.{List}
@@ -11,7 +11,6 @@ use Rattle.lattice.specs.Position.{Layout}
 use Rattle.lattice.specs.Cluster.{distance}
 use Rattle.lattice.specs.Counting.{count}
 use Rattle.codec.specs.Field.{Field, fieldOf, listOf, erased, flip, differences}
-use Rattle.codec.specs.Encode.{encodedField}
 use Rattle.codec.specs.Decode.{decodeNumber, decodeCount, decodeLeaves}
 use Rattle.codec.specs.Correct.{correctNumber, correctCount, correctLeaves}
 
@@ -19,17 +18,17 @@ use Rattle.codec.specs.Correct.{correctNumber, correctCount, correctLeav
 unfoldable pub damaged : Field → (ℕ → Bool) → Field
 damaged f selected i = cond (selected i) (flip (f i)) (f i)
 
--- F is the field written from p, and G is F with the selected cells flipped
+-- the field F of a shape with the selected cells flipped
 abbrev pub damagedField : Shape → List ℕ → (Cell → Bool) → List ℕ
-damagedField s p selected = listOf (damaged (fieldOf (encodedField s p)) (λ i. selected (cellAt s i))) (cellsOf s)
+damagedField s F selected = listOf (damaged (fieldOf F) (λ i. selected (cellAt s i))) (cellsOf s)
 
 -- a field with the selected cells erased
 unfoldable pub erasedAt : Field → (ℕ → Bool) → Field
 erasedAt f selected i = cond (selected i) erased (f i)
 
--- the field written from p with the selected cells erased
+-- the field F of a shape with the selected cells erased
 abbrev pub erasedField : Shape → List ℕ → (Cell → Bool) → List ℕ
-erasedField s p selected = listOf (erasedAt (fieldOf (encodedField s p)) (λ i. selected (cellAt s i))) (cellsOf s)
+erasedField s F selected = listOf (erasedAt (fieldOf F) (λ i. selected (cellAt s i))) (cellsOf s)
 
 -- the number of selected cells of a field
 abbrev pub selectedCells : Shape → (Cell → Bool) → ℕ

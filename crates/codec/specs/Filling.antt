@@ -14,7 +14,7 @@ use Rattle.lattice.specs.Position.{Layout}
 use Rattle.lattice.specs.Check.{holdsData}
 use Rattle.lattice.specs.Listing.{maxChecks, checksTo, ListsChecks, HoldsPlaces, Run}
 use Rattle.codec.specs.Field.{Field, fieldOf, listOf, Same}
-use Rattle.codec.specs.Payload.{payloadBytes, dataField, encoded, dataValue}
+use Rattle.codec.specs.Payload.{payloadBytes, padding, dataValue, dataField, encodedWith}
 use Rattle.codec.specs.Working.{HoldsSyndromes}
 
 -- the cells from x on are the n bits of v, the highest first, and the others stay
@@ -25,7 +25,7 @@ pub record BitsPut (before after : List ℕ) (x n v : ℕ) : Type 0 where
 -- in a part that begins at cell `at`, the cells from i up to e, which k checks stand before, have their values, and the others
 -- stay
 pub record ValuesPut (payload before after : List ℕ) (at k i e : ℕ) : Type 0 where
-  pub own : (x : ℕ) → i ≤ x → x < e → getD after (x - at) 0 ≡ dataValue (length payload) payload (x - k)
+  pub own : (x : ℕ) → i ≤ x → x < e → getD after (x - at) 0 ≡ dataValue padding (length payload) payload (x - k)
   pub others : (y : ℕ) → (at + y < i) ⊎ (e ≤ at + y) → getD after y 0 ≡ getD before y 0
 
 -- from any cell up to `end` that k checks stand before, the run goes up to cell r: the next check, or the end
@@ -40,7 +40,7 @@ RunEnd checks amount k end r =
 
 -- a part that begins at cell `at` holds the data alone up to cell e, with 0 in the check cells, and goes on as before
 pub record DataPut (L : Layout) (payload before after : List ℕ) (at e : ℕ) : Type 0 where
-  pub own : (x : ℕ) → at ≤ x → x < e → getD after (x - at) 0 ≡ dataField L payload x
+  pub own : (x : ℕ) → at ≤ x → x < e → getD after (x - at) 0 ≡ dataField L padding payload x
   pub others : (y : ℕ) → e ≤ at + y → getD after y 0 ≡ getD before y 0
 
 -- the cells up to `end` are to be filled: the payload has the layout's length, and the check cells are listed
@@ -76,28 +76,28 @@ pub record AtPlane (s : Shape) (part : List ℕ) (i k : ℕ) : Type 0 where
 -- a part lent that began at cell i has been filled with m cells of the data alone, and goes on as before; k checks stand before
 -- the next cell
 pub record Filled (s : Shape) (payload before after : List ℕ) (i k m : ℕ) : Type 0 where
-  pub cells : after ≡ listOf (λ j. dataField (layoutOf s) payload (i + j)) m ++ drop m before
+  pub cells : after ≡ listOf (λ j. dataField (layoutOf s) padding payload (i + j)) m ++ drop m before
   pub counted : checksTo (layoutOf s) (i + m) ≡ k
 
 -- the buffer of the data alone
 unfoldable pub dataBuffer : Shape → List ℕ → List ℕ
-dataBuffer s p = listOf (dataField (layoutOf s) p) (cellsOf s)
+dataBuffer s p = listOf (dataField (layoutOf s) padding p) (cellsOf s)
 
 -- the field with the data and the first k checks
 unfoldable pub checkedTo : Layout → List ℕ → ℕ → Field
-checkedTo L p k i = cond (ltb (checksTo L i) k) (encoded L p i) (dataField L p i)
+checkedTo L p k i = cond (ltb (checksTo L i) k) (encodedWith L padding p i) (dataField L padding p i)
 
 -- the checks are to be set: they are listed with their places, and the array holds the syndromes of the data alone
 pub record ToCheck (L : Layout) (p checks places syndromes : List ℕ) (amount : ℕ) : Type 0 where
   pub few : L .cells ≤ maxCells
   pub lists : ListsChecks L (L .cells) amount checks
   pub placed : HoldsPlaces L amount checks places
-  pub held : HoldsSyndromes L (dataField L p) syndromes (L .cells)
+  pub held : HoldsSyndromes L (dataField L padding p) syndromes (L .cells)
 
 -- a field of the data alone, in any layout, becomes the field written
 pub record ChecksPut (checks places syndromes before after : List ℕ) (amount : ℕ) : Type 0 where
   pub written : (L : Layout) (p : List ℕ) → ToCheck L p checks places syndromes amount
-      → Same (fieldOf before) (dataField L p) (L .cells) → Same (fieldOf after) (encoded L p) (L .cells)
+      → Same (fieldOf before) (dataField L padding p) (L .cells) → Same (fieldOf after) (encodedWith L padding p) (L .cells)
 
 -- the bit of its class's syndrome that a check at a place holds
 abbrev pub bitAt : List ℕ → ℕ → ℕ

@@ -17,6 +17,8 @@ use Rattle.lattice.specs.Listing.{noCell}
 use Rattle.lattice.specs.Sizes.{HoldsSizes}
 use Rattle.codec.specs.declared.examine.Examination.{Examination}
 use Rattle.codec.specs.declared.examine.Examination.the-variants as exam
+use Rattle.codec.specs.declared.payload.Padding.{Padding}
+use Rattle.codec.specs.declared.payload.Padding.the-variants as pads
 use Rattle.codec.specs.Field.{Field, fieldOf, Same, erased, having}
 use Rattle.codec.specs.Hamming.{tagsOf, syndromeTo, syndrome}
 use Rattle.codec.specs.Erasure.{isErased, erasuresTo, inReach}
@@ -24,7 +26,7 @@ use Rattle.codec.specs.Code.{tagsAt}
 use Rattle.codec.specs.Decode.{correctedField, correctedCount}
 use Rattle.codec.specs.Packing.{Names, flippedBy}
 use Rattle.codec.specs.Plan.{planBytes, planCells}
-use Rattle.codec.specs.Payload.{payloadBytes, padding}
+use Rattle.codec.specs.Payload.{payloadBytes, padding, earlierPadding}
 
 -- the array holds the syndrome of each class of f over the first n cells
 pub record HoldsSyndromes (L : Layout) (f : Field) (l : List ℕ) (n : ℕ) : Type 0 where
@@ -36,9 +38,14 @@ pub record PayloadFits (s : Shape) (payload sizes : List ℕ) : Type 0 where
   pub long : length payload ≡ payloadBytes (layoutOf s)
   pub sized : HoldsSizes (layoutOf s) sizes (cellsOf s)
 
+-- the padding that the code names
+abbrev pub paddingOf : Padding → ℕ → ℕ
+paddingOf pads.Pattern j = padding j
+paddingOf pads.Zeros j = earlierPadding j
+
 -- a cell passes as padding cell j: it holds a check, or the padding's value
-unfoldable pub rightAt : Bool → ℕ → ℕ → Bool
-rightAt d j v = not d || eqb v (padding j)
+unfoldable pub rightAt : (ℕ → ℕ) → Bool → ℕ → ℕ → Bool
+rightAt pad d j v = not d || eqb v (pad j)
 
 -- the shape is accepted and the field has its plan's length
 pub record FieldFits (s : Shape) (field : List ℕ) : Type 0 where

@@ -9,9 +9,10 @@ ghost use Rattle.lattice.specs.Class.{layoutOf};
 ghost use Rattle.lattice.specs.Counting.{allBelow};
 ghost use Rattle.lattice.specs.Sizes.{HoldsSizes};
 ghost use Rattle.codec.specs.Field.{fieldOf, isReceived, cellsOk};
-ghost use Rattle.codec.specs.Payload.{paddingOk};
+ghost use Rattle.codec.specs.Payload.{paddedWith, paddingOk};
 ghost use Rattle.codec.specs.Decode.{correctedField, fieldNumber};
-ghost use Rattle.codec.specs.Working.{FieldFits, HoldsNone, rightAt, reachedBy, Located, Sound, examinedNumber};
+ghost use Rattle.codec.specs.Working.{FieldFits, HoldsNone, paddingOf, rightAt, reachedBy, Located, Sound};
+ghost use Rattle.codec.specs.Working.{examinedNumber};
 use crate::cell::cell_value;
 use crate::cell::greater;
 use crate::cell::is_received;
@@ -20,6 +21,7 @@ use crate::erasures::count_erased;
 use crate::erasures::locate;
 use crate::hamming::corrected_value;
 use crate::hamming::holds_data;
+use crate::payload::Padding;
 use crate::payload::padding_value;
 use crate::syndromes::field_syndromes;
 use lattice::capacity::data_in;
@@ -91,13 +93,13 @@ fn all_in_reach(
 }
 
 // Does a cell pass as padding cell j: does it hold a check, or the padding's value?
-fn is_right(is_data: bool, j: usize, value: u8) -> bool
-    ensures { λ r. ⌜ r ≡ rightAt is_data j value ⌝ }
+fn is_right(is_data: bool, padding: Padding, j: usize, value: u8) -> bool
+    ensures { λ r. ⌜ r ≡ rightAt (paddingOf padding) is_data j value ⌝ }
 {
     if !is_data {
         return true;
     }
-    value == padding_value(j)
+    value == padding_value(padding, j)
 }
 
 // One less where the test holds.
@@ -108,9 +110,10 @@ fn less_if(test: bool, n: usize) -> usize
     if test { n - 1 } else { n }
 }
 
-// Do the padding cells hold the padding after correction? They are the last of the data, so the cells are looked at from the
+// Do the padding cells hold this padding after correction? They are the last of the data, so the cells are looked at from the
 // field's end, until no padding cell is unseen.
-fn padding_ok(
+fn padded_with(
+    padding: Padding,
     shape: Shape,
     field: &[u8],
     sizes: &[u32; Shape::MAX_CLASSES],
@@ -121,7 +124,8 @@ fn padding_ok(
     requires { ⌜ FieldFits shape (now field) ⌝ }
     requires { ⌜ HoldsSizes (layoutOf shape) (now sizes) (cellsOf shape) ⌝ }
     requires { ⌜ Located shape (now field) (now damaged) (now first) (now second) ⌝ }
-    ensures { λ r. ⌜ r ≡ paddingOk (layoutOf shape) (correctedField shape (fieldOf (now (field .entry)))) ⌝ }
+    ensures { λ r. ⌜ r
+        ≡ paddedWith (layoutOf shape) (paddingOf padding) (correctedField shape (fieldOf (now (field .entry)))) ⌝ }
 {
     let placement = shape.placement();
     let mut behind = [0u32; Shape::MAX_CLASSES];
@@ -139,12 +143,40 @@ fn padding_ok(
             i as u32,
             one_at(field, i),
         );
-        if !is_right(is_data, unseen - 1, value) {
+        if !is_right(is_data, padding, unseen - 1, value) {
             return false;
         }
         unseen = less_if(is_data, unseen);
     }
     true
+}
+
+// Is the padding right after correction: is it the pattern or, where that fails, zeros?
+fn padding_ok(
+    shape: Shape,
+    field: &[u8],
+    sizes: &[u32; Shape::MAX_CLASSES],
+    damaged: &[u32; Shape::MAX_CLASSES],
+    first: &[u32; Shape::MAX_CLASSES],
+    second: &[u32; Shape::MAX_CLASSES],
+) -> bool
+    requires { ⌜ FieldFits shape (now field) ⌝ }
+    requires { ⌜ HoldsSizes (layoutOf shape) (now sizes) (cellsOf shape) ⌝ }
+    requires { ⌜ Located shape (now field) (now damaged) (now first) (now second) ⌝ }
+    ensures { λ r. ⌜ r ≡ paddingOk (layoutOf shape) (correctedField shape (fieldOf (now (field .entry)))) ⌝ }
+{
+    if padded_with(
+        Padding::Pattern,
+        shape,
+        field,
+        sizes,
+        damaged,
+        first,
+        second,
+    ) {
+        return true;
+    }
+    padded_with(Padding::Zeros, shape, field, sizes, damaged, first, second)
 }
 
 // The tests of a field of cells and erasures in their order, 10, 6, 7, where no byte is above `most`.

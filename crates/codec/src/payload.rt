@@ -2,7 +2,8 @@
 ghost use mathlib.Core.Path.{_≡_};
 ghost use Prim.Native.Nat.{_*_, _<_};
 ghost use lib.ListN.{length};
-ghost use Rattle.codec.specs.Payload.{payloadBit, padding};
+ghost use Rattle.codec.specs.Payload.{payloadBit};
+ghost use Rattle.codec.specs.Working.{paddingOf};
 
 // Bit k of the payload, the highest bit of each byte first.
 pub(crate) fn payload_bit(payload: &[u8], k: usize) -> u8
@@ -12,9 +13,18 @@ pub(crate) fn payload_bit(payload: &[u8], k: usize) -> u8
     payload[k / 8] / (1u8 << (7 - k % 8)) % 2
 }
 
-// The value of padding cell j.
-pub(crate) fn padding_value(j: usize) -> u8
-    ensures { λ r. ⌜ r ≡ padding j ⌝ }
+// A padding: 1, 0, 1, 0 and on, which is written, or the zeros that were written before.
+pub(crate) enum Padding {
+    Pattern,
+    Zeros,
+}
+
+// The value of cell j of a padding.
+pub(crate) fn padding_value(padding: Padding, j: usize) -> u8
+    ensures { λ r. ⌜ r ≡ paddingOf padding j ⌝ }
 {
-    0
+    match padding {
+        Padding::Pattern => 1 - (j % 2) as u8,
+        Padding::Zeros => 0,
+    }
 }

@@ -3,8 +3,9 @@ ghost use mathlib.Core.Path.{_≡_};
 ghost use Prim.Native.Nat.{_+_, _<_, _≤_};
 ghost use lib.ListN.{length};
 ghost use Rattle.codec.specs.Filling.{BitsPut, ValuesPut};
-ghost use Rattle.codec.specs.Payload.{dataValue};
+ghost use Rattle.codec.specs.Payload.{padding, dataValue};
 use crate::gather::begins_byte;
+use crate::payload::Padding;
 use crate::payload::padding_value;
 use crate::payload::payload_bit;
 
@@ -30,12 +31,12 @@ fn put_byte(part: &mut [u8], x: usize, byte: u8)
 
 // The value of the k-th of the cells that hold no check: a bit of the payload, or padding behind its last bit.
 fn data_value(payload: &[u8], k: usize) -> u8
-    ensures { λ r. ⌜ r ≡ dataValue (length (now (payload .entry))) (now (payload .entry)) k ⌝ }
+    ensures { λ r. ⌜ r ≡ dataValue padding (length (now (payload .entry))) (now (payload .entry)) k ⌝ }
 {
     if k / 8 < payload.len() {
         payload_bit(payload, k)
     } else {
-        padding_value(k - 8 * payload.len())
+        padding_value(Padding::Pattern, k - 8 * payload.len())
     }
 }
 

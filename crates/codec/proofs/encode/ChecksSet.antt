@@ -19,7 +19,7 @@ use Rattle.lattice.proofs.theory.Positions.{position-most, size-most}
 use Rattle.lattice.proofs.theory.Runs.{checks-check, checks-mono, check-at}
 use Rattle.codec.specs.Field.{Field, fieldOf, Same}
 use Rattle.codec.specs.Hamming.{tagsOf, syndrome}
-use Rattle.codec.specs.Payload.{dataField, encoded}
+use Rattle.codec.specs.Payload.{padding, dataField, encodedWith}
 use Rattle.codec.specs.Filling.{checkedTo, ToCheck, bitAt}
 use Rattle.codec.proofs.theory.EncodedField.{encoded-check}
 use Rattle.codec.proofs.theory.PowerPositions.{check-exponent}
@@ -50,42 +50,42 @@ module _ (L : Layout) (i : ℕ) (below : i < L .cells) (few : L .cells ≤ 65536
       ap (λ (j : ℕ). 2 ^ j) e ∙ power .1
 
 -- the data cells are the same in the data alone and in the field written
-data-same : (L : Layout) (p : List ℕ) (i : ℕ) → holdsData L i ≡ true → dataField L p i ≡ encoded L p i
-unfolding dataField encoded
+data-same : (L : Layout) (p : List ℕ) (i : ℕ) → holdsData L i ≡ true → dataField L padding p i ≡ encodedWith L padding p i
+unfolding dataField encodedWith
 data-same L p i e = rw e
 
 module _ (L : Layout) (p : List ℕ) where
   -- a cell with the first k checks set
-  set-before : (k i : ℕ) → checksTo L i < k → checkedTo L p k i ≡ encoded L p i
+  set-before : (k i : ℕ) → checksTo L i < k → checkedTo L p k i ≡ encodedWith L padding p i
   unfolding checkedTo
   set-before k i l = rw (lt-ltb (checksTo L i) k l)
 
-  set-behind : (k i : ℕ) → k ≤ checksTo L i → checkedTo L p k i ≡ dataField L p i
+  set-behind : (k i : ℕ) → k ≤ checksTo L i → checkedTo L p k i ≡ dataField L padding p i
   unfolding checkedTo
   set-behind k i l = rw (le-ltb (checksTo L i) k l)
 
-  set-data : (k i : ℕ) → holdsData L i ≡ true → checkedTo L p k i ≡ encoded L p i
+  set-data : (k i : ℕ) → holdsData L i ≡ true → checkedTo L p k i ≡ encodedWith L padding p i
   set-data k i h = go (decLt (checksTo L i) k)
     where
-      go : Dec (checksTo L i < k) → checkedTo L p k i ≡ encoded L p i
+      go : Dec (checksTo L i < k) → checkedTo L p k i ≡ encodedWith L padding p i
       go (yes l) = set-before k i l
       go (no l) = set-behind k i (omega arith) ∙ data-same L p i h
 
-  pub checked-none : (f : Field) → Same f (dataField L p) (L .cells) → Same f (checkedTo L p 0) (L .cells)
+  pub checked-none : (f : Field) → Same f (dataField L padding p) (L .cells) → Same f (checkedTo L p 0) (L .cells)
   checked-none f same i l = same i l ∙ sym (set-behind 0 i zero-le)
 
   module _ (list places syndromes : List ℕ) (amount : ℕ) (to : ToCheck L p list places syndromes amount) where
     -- the bit of check k is its cell of the field written
     bit-encoded : (k : ℕ) → k < amount → getD places k 0 / 32 < maxClasses
-        → bitAt syndromes (getD places k 0) ≡ encoded L p (getD list k 0)
+        → bitAt syndromes (getD places k 0) ≡ encodedWith L padding p (getD list k 0)
     bit-encoded k l small =
         let c = to .lists .at k l in
         let place = to .placed .at k l in
         let own = ap (λ (x : ℕ). x / 32) place ∙ place-class L _ (c .below) (to .few) (c .check) in
         ap₂ (λ (x y : ℕ). x / y % 2)
-        (to .held .at _ small ∙ ap (syndrome L (tagsOf L) (dataField L p)) own)
+        (to .held .at _ small ∙ ap (syndrome L (tagsOf L) (dataField L padding p)) own)
         (ap (λ (x : ℕ). 2 ^ (x % 32)) place ∙ place-power L _ (c .below) (to .few) (c .check))
-        ∙ sym (encoded-check L p (getD list k 0) (c .check))
+        ∙ sym (encoded-check L padding p (getD list k 0) (c .check))
 
     -- one check more
     pub checked-more : (l : List ℕ) (k cell place v : ℕ) → k < amount → cell ≡ getD list k 0 → place ≡ getD places k 0
@@ -96,9 +96,9 @@ module _ (L : Layout) (p : List ℕ) where
         before : checksTo L cell ≡ k
         before = ap (checksTo L) there ∙ to .lists .at k inside .before
 
-        value : v ≡ encoded L p cell
+        value : v ≡ encodedWith L padding p cell
         value =
-            e ∙ ap (bitAt syndromes) at ∙ bit-encoded k inside (rw at at small) ∙ ap (encoded L p) (sym there)
+            e ∙ ap (bitAt syndromes) at ∙ bit-encoded k inside (rw at at small) ∙ ap (encodedWith L padding p) (sym there)
 
         go : Dec (i ≡ cell) → (d : Bool) → holdsData L i ≡ d → getD (set l cell v) i 0 ≡ checkedTo L p (k + 1) i
         go (yes q) d h =
@@ -118,10 +118,10 @@ module _ (L : Layout) (p : List ℕ) where
                 later (no z) = omega arith
 
     -- all checks
-    pub checked-all : (f : Field) → Same f (checkedTo L p amount) (L .cells) → Same f (encoded L p) (L .cells)
+    pub checked-all : (f : Field) → Same f (checkedTo L p amount) (L .cells) → Same f (encodedWith L padding p) (L .cells)
     checked-all f same i b = same i b ∙ go (holdsData L i) refl
       where
-        go : (d : Bool) → holdsData L i ≡ d → checkedTo L p amount i ≡ encoded L p i
+        go : (d : Bool) → holdsData L i ≡ d → checkedTo L p amount i ≡ encodedWith L padding p i
         go true h = set-data amount i h
         go false h =
             set-before amount i

@@ -15,8 +15,8 @@ use Rattle.lattice.proofs.theory.Placements.{classes-limit}
 use Rattle.lattice.proofs.theory.Limits.{legal}
 use Rattle.codec.specs.Field.{fieldOf, Same}
 use Rattle.codec.specs.Hamming.{tagsOf}
-use Rattle.codec.specs.Payload.{dataField, encoded}
-use Rattle.codec.specs.Encode.{encodedField}
+use Rattle.codec.specs.Payload.{padding, dataField, encodedWith}
+use Rattle.codec.specs.Encode.{fieldWith, encodedField}
 use Rattle.codec.specs.Working.{HoldsSyndromes, PayloadFits, FieldFits}
 use Rattle.codec.specs.Filling.{ChecksListed, dataBuffer, ToCheck}
 use Rattle.codec.proofs.encode.ChecksSet.{place-class}
@@ -57,7 +57,7 @@ module _ (s : Shape) (payload sizes checks places : List ℕ) (amount : ℕ) (fi
     unfolding dataBuffer
     filled-fits = record { accepted = fits .accepted; long = ap length filled ∙ length-listOf _ (cellsOf s) }
 
-    pub filled-same : Same (fieldOf field) (dataField (layoutOf s) payload) (cellsOf s)
+    pub filled-same : Same (fieldOf field) (dataField (layoutOf s) padding payload) (cellsOf s)
     unfolding dataBuffer
     filled-same i l = ap (λ (x : List ℕ). getD x i 0) filled ∙ getD-listOf _ (cellsOf s) i l
 
@@ -80,7 +80,7 @@ module _ (s : Shape) (payload sizes checks places : List ℕ) (amount : ℕ) (fi
               };
         }
 
-    pub written : (after : List ℕ) → length after ≡ length field → Same (fieldOf after) (encoded (layoutOf s) payload) (cellsOf s)
-        → after ≡ encodedField s payload
-    unfolding encodedField
+    pub written : (after : List ℕ) → length after ≡ length field
+        → Same (fieldOf after) (encodedWith (layoutOf s) padding payload) (cellsOf s) → after ≡ encodedField s payload
+    unfolding fieldWith
     written after long same = list-field after _ (cellsOf s) (long ∙ filled-fits .long) same

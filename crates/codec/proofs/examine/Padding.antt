@@ -1,4 +1,5 @@
--- The test of the padding cells after correction, cell by cell from the field's end.
+-- The test that the padding cells hold a padding after correction, cell by cell from the field's end, and that of one of two
+-- paddings.
 use Prim.Native.Nat.{ℕ, _+_, _-_, _*_, _%_, _<_, _≤_}
 use mathlib.Core.Bool.{Bool, true, false, cond, not, _&&_, _||_, true≢false, false≢true}
 use mathlib.Core.List.{List}
@@ -15,7 +16,7 @@ use Rattle.lattice.specs.Check.{holdsData, capacity, dataIn}
 use Rattle.lattice.specs.Counting.{allBelow}
 use Rattle.lattice.proofs.theory.CapacityGiven.{capacity-accepted}
 use Rattle.codec.specs.Field.{Field}
-use Rattle.codec.specs.Payload.{payloadBytes, padding, rank, isPadding, paddingOk}
+use Rattle.codec.specs.Payload.{payloadBytes, rank, isPadding, paddedWith}
 use Rattle.lattice.specs.Sizes.{HoldsSizes}
 use Rattle.codec.specs.Working.{rightAt}
 use Rattle.codec.proofs.theory.AllBelow.{all-below, last-fails, last-passes}
@@ -30,18 +31,18 @@ filler : (d x : Bool) → not d ≡ false → x ≡ (not d || x)
 filler true x p = refl
 filler false x p = absurd (true≢false p)
 
-module _ (d : Bool) (j v : ℕ) where
-  pub right-check : not d ≡ true → true ≡ rightAt d j v
+module _ (pad : ℕ → ℕ) (d : Bool) (j v : ℕ) where
+  pub right-check : not d ≡ true → true ≡ rightAt pad d j v
   unfolding rightAt
   right-check p = check d _ p
 
-  pub right-padding : (x : ℕ) → not d ≡ false → x ≡ padding j → eqb v x ≡ rightAt d j v
+  pub right-padding : (x : ℕ) → not d ≡ false → x ≡ pad j → eqb v x ≡ rightAt pad d j v
   unfolding rightAt
   right-padding x p e = ap (eqb v) e ∙ filler d _ p
 
 -- the test of cell i
-unfoldable pub right : Layout → Field → ℕ → Bool
-right L f i = not (isPadding L i) || eqb (f i) (padding (rank L i - 8 * payloadBytes L))
+unfoldable pub right : Layout → (ℕ → ℕ) → Field → ℕ → Bool
+right L pad f i = not (isPadding L i) || eqb (f i) (pad (rank L i - 8 * payloadBytes L))
 
 -- where a data cell is padding the test asks for the value of every data cell, and where it is none it asks for nothing
 under : (d e x y : Bool) → (d ≡ true → e ≡ true) → (d ≡ true → x ≡ y) → (not d || x) ≡ (not (d && e) || y)
@@ -55,37 +56,37 @@ idle true false x p = refl
 idle false e x p = refl
 
 -- the padding cells from cell i on hold the padding, and u of the cells before it are padding
-pub record PassedFrom (L : Layout) (f : Field) (u i : ℕ) : Type 0 where
+pub record PassedFrom (L : Layout) (pad : ℕ → ℕ) (f : Field) (u i : ℕ) : Type 0 where
   pub within : i ≤ L .cells
   pub unseen : u + 8 * payloadBytes L ≡ rank L i
-  pub rest : paddingOk L f ≡ allBelow (right L f) i
+  pub rest : paddedWith L pad f ≡ allBelow (right L pad f) i
 
 -- before the first cell is looked at
-pub padding-start : (s : Shape) (f : Field) (sizes : List ℕ) (k i : ℕ)
+pub padding-start : (s : Shape) (pad : ℕ → ℕ) (f : Field) (sizes : List ℕ) (k i : ℕ)
     → Accepted s
     → HoldsSizes (layoutOf s) sizes (cellsOf s)
     → (m : ℕ)
     → m ≡ figure (shapeNumber s) (classesOf s)
     → k ≡ dataIn sizes m
     → i ≡ cellsOf s
-    → PassedFrom (layoutOf s) f (k % 8) i
-unfolding paddingOk right payloadBytes
-padding-start s f sizes k i a p m given e c =
+    → PassedFrom (layoutOf s) pad f (k % 8) i
+unfolding paddedWith right payloadBytes
+padding-start s pad f sizes k i a p m given e c =
     let all : k ≡ capacity (layoutOf s) = e ∙ capacity-accepted s sizes m a p given in
     record {
       within = omega arith;
       unseen = omega (arith, rank-all (layoutOf s), ap (rank (layoutOf s)) c);
-      rest = ap (allBelow (right (layoutOf s) f)) (sym c);
+      rest = ap (allBelow (right (layoutOf s) pad f)) (sym c);
     }
 
-module _ (L : Layout) (f : Field) (u i : ℕ) (p : PassedFrom L f u i) where
+module _ (L : Layout) (pad : ℕ → ℕ) (f : Field) (u i : ℕ) (p : PassedFrom L pad f u i) where
   -- with none unseen the cells that are left are no padding
-  pub padding-passes : u ≤ 0 → true ≡ paddingOk L f
+  pub padding-passes : u ≤ 0 → true ≡ paddedWith L pad f
   unfolding right
   padding-passes none =
       sym
       (p .rest
-      ∙ all-below (right L f) i
+      ∙ all-below (right L pad f) i
       (λ k l.
       idle (holdsData L k) _ _
       (λ h. lt-leb (8 * payloadBytes L) (rank L k) (omega (arith, p .unseen, rank-rises L k i l h)))))
@@ -103,8 +104,9 @@ module _ (L : Layout) (f : Field) (u i : ℕ) (p : PassedFrom L f u i) where
         (omega (arith, p .unseen), omega (arith, p .unseen))
 
     -- the test of the last of them
-    module _ (d b : Bool) (v : ℕ) (held : d ≡ holdsData L (i - 1)) (value : v ≡ f (i - 1)) (test : b ≡ rightAt d (u - 1) v) where
-      here : b ≡ right L f (i - 1)
+    module _ (d b : Bool) (v : ℕ) (held : d ≡ holdsData L (i - 1)) (value : v ≡ f (i - 1))
+        (test : b ≡ rightAt pad d (u - 1) v) where
+      here : b ≡ right L pad f (i - 1)
       unfolding right rightAt
       here =
           test
@@ -113,16 +115,24 @@ module _ (L : Layout) (f : Field) (u i : ℕ) (p : PassedFrom L f u i) where
           (holdsData L (i - 1))
           _ _ _
           (λ h. le-leb (8 * payloadBytes L) (rank L (i - 1)) (last-unseen h .0))
-          (λ h. ap (λ (j : ℕ). eqb (f (i - 1)) (padding j)) (last-unseen h .1)))
+          (λ h. ap (λ (j : ℕ). eqb (f (i - 1)) (pad j)) (last-unseen h .1)))
 
-      pub padding-fails : b ≡ false → false ≡ paddingOk L f
-      padding-fails e = last-fails (right L f) i i refl left-some (sym here ∙ e) ∙ sym (p .rest)
+      pub padding-fails : b ≡ false → false ≡ paddedWith L pad f
+      padding-fails e = last-fails (right L pad f) i i refl left-some (sym here ∙ e) ∙ sym (p .rest)
 
-      pub padding-more : b ≡ true → (x : ℕ) → cond d 1 0 + x ≡ u → PassedFrom L f x (i - 1)
+      pub padding-more : b ≡ true → (x : ℕ) → cond d 1 0 + x ≡ u → PassedFrom L pad f x (i - 1)
       padding-more e x less =
           let last : rank L i ≡ cond d 1 0 + rank L (i - 1) = rank-last L i left-some d (sym held) in
           record {
             within = omega (arith, p .within);
             unseen = omega (arith, p .unseen);
-            rest = p .rest ∙ last-passes (right L f) i i refl left-some (sym here ∙ e);
+            rest = p .rest ∙ last-passes (right L pad f) i i refl left-some (sym here ∙ e);
           }
+
+-- one of two paddings is held: the first, or else the second
+module _ (L : Layout) (a b : ℕ → ℕ) (f : Field) where
+  pub first-held : paddedWith L a f ≡ true → true ≡ (paddedWith L a f || paddedWith L b f)
+  first-held p = rw p
+
+  pub second-held : paddedWith L a f ≡ false → paddedWith L b f ≡ (paddedWith L a f || paddedWith L b f)
+  second-held p = rw p

@@ -1,9 +1,9 @@
--- Examples that meet the hypotheses of the theorems on coding: the field of 5 by 5 of strength 3, its payload byte 165, and
--- damage to one of its cells.
+-- Examples that meet the hypotheses of the theorems on coding: the field of 5 by 5 of strength 3, its payload byte 165, the field
+-- written from it now and before, and damage to one of its cells.
 use Prim.Native.Nat.{ℕ, zero, suc, _<_}
 use mathlib.Core.Bool.{Bool, true, _&&_, _||_}
 use mathlib.Core.List.{List, [], _∷_, List·Memᴰ, List·Memᴰ·head, List·Memᴰ·tail}
-use mathlib.Core.Logic.{_≢_, ⊎-elim}
+use mathlib.Core.Logic.{_≢_, inl, inr, ⊎-elim}
 use mathlib.Core.Path.{_≡_, refl, sym, _∙_}
 use native.Mathlib.Omega.{arith}
 use borrow.Author.Tests.{eqb-true}
@@ -22,21 +22,21 @@ use Rattle.lattice.proofs.examples.Placing.{field, corner, OfThree}
 use Rattle.codec.specs.Field.{fieldOf, cellsOk, isCell, isReceived}
 use Rattle.codec.specs.Hamming.{tagsOf, syndrome, flipped}
 use Rattle.codec.specs.Erasure.{erasuresTo, filled, corrected, fewErasures, inReach, allInReach}
-use Rattle.codec.specs.Payload.{Bytes, Carries, PaddingRight, paddingOk, padding, payloadBytes, rank}
+use Rattle.codec.specs.Payload.{Bytes, padding, earlierPadding, Carries, PaddedWith, PaddingRight, paddedWith, paddingOk}
+use Rattle.codec.specs.Payload.{payloadBytes, rank}
 use Rattle.codec.specs.Plan.{planNumber, planCapacity, planBytes, planCells}
-use Rattle.codec.specs.Encode.{encodeNumber, encodedField}
+use Rattle.codec.specs.Encode.{encodeNumber, encodedField, earlierField, WrittenFrom}
 use Rattle.codec.specs.Decode.{decodeNumber, fieldNumber}
 use Rattle.codec.specs.Correct.{correctNumber, correctLeaves}
 use Rattle.codec.specs.Reach.{Readable}
 use Rattle.codec.specs.Code.{LawfulField, NearestTo}
 use Rattle.codec.specs.Damage.{OneInEachClass, WithinPromise}
 use Rattle.codec.proofs.theory.NearestField.{lawful-nearest}
-use Rattle.codec.proofs.theory.PaddingCells.{carries-padding}
 use Rattle.codec.proofs.theory.Accepted.{encode-number}
 use Rattle.codec.proofs.theory.ClusterCells.{one-number}
 use Rattle.codec.proofs.theory.ReadFields.{cells-readable}
 use Rattle.codec.proofs.theorems.Undamaged.{nothingToCorrect}
-use Rattle.codec.proofs.theorems.Writing.{encodeMeaning}
+use Rattle.codec.proofs.theorems.Writing.{encodeMeaning, earlierMeaning}
 
 -- the plan accepts the field
 pub accepted : Accepted field
@@ -57,23 +57,49 @@ pub payload-bytes : Bytes payload
 payload-bytes zero = lit< tt
 payload-bytes (suc j) = lit< tt
 
--- the field written from it can be read, and is its own nearest lawful field, with right padding
+-- the field written from it is lawful, has its bits and the padding, can be read, and is its own nearest lawful field
 abbrev pub written : List ℕ
 written = encodedField field payload
 
+pub written-from : WrittenFrom field payload written
+written-from = inl refl
+
+pub written-lawful : LawfulField field (fieldOf written)
+written-lawful = encodeMeaning .lawful field accepted payload payload-long payload-bytes
+
+pub written-carries : Carries (layoutOf field) (fieldOf written) payload
+written-carries = encodeMeaning .carries field accepted payload payload-long payload-bytes
+
+pub written-padded : PaddedWith (layoutOf field) padding (fieldOf written)
+written-padded = encodeMeaning .padded field accepted payload payload-long payload-bytes
+
 pub written-readable : Readable field written
-written-readable =
-    cells-readable field written accepted (encodeMeaning .long field payload)
-    (encodeMeaning .lawful field accepted payload payload-long payload-bytes .cells)
+written-readable = cells-readable field written accepted (encodeMeaning .long field payload) (written-lawful .cells)
 
 pub written-nearest : NearestTo field (fieldOf written) (fieldOf written)
-written-nearest =
-    lawful-nearest (fieldOf written) (encodeMeaning .lawful field accepted payload payload-long payload-bytes)
+written-nearest = lawful-nearest (fieldOf written) written-lawful
 
 pub written-padding : PaddingRight (layoutOf field) (fieldOf written)
-written-padding =
-    carries-padding (layoutOf field) (fieldOf written) payload
-    (encodeMeaning .carries field accepted payload payload-long payload-bytes)
+written-padding = inl written-padded
+
+-- the field that was written from it before is lawful, and has its bits and zeros
+abbrev pub earlier : List ℕ
+earlier = earlierField field payload
+
+pub earlier-from : WrittenFrom field payload earlier
+earlier-from = inr refl
+
+pub earlier-lawful : LawfulField field (fieldOf earlier)
+earlier-lawful = earlierMeaning .lawful field accepted payload payload-long payload-bytes
+
+pub earlier-carries : Carries (layoutOf field) (fieldOf earlier) payload
+earlier-carries = earlierMeaning .carries field accepted payload payload-long payload-bytes
+
+pub earlier-padded : PaddedWith (layoutOf field) earlierPadding (fieldOf earlier)
+earlier-padded = earlierMeaning .padded field accepted payload payload-long payload-bytes
+
+pub earlier-padding : PaddingRight (layoutOf field) (fieldOf earlier)
+earlier-padding = inr earlier-padded
 
 -- a selection of one cell
 abbrev pub isAt : Cell → Cell → Bool
@@ -119,16 +145,11 @@ pub corner-one : OneInEachClass (layoutOf field) (λ i. isCorner (cellAt field i
 corner-one i j hi hj si sj same =
     one-number field i j hi hj (at-is corner (cellAt field i) si ∙ sym (at-is corner (cellAt field j) sj))
 
--- the field written is corrected, and is lawful and carries the payload
+-- the field written is corrected
 pub written-corrected : correctNumber field written ≡ 0
 written-corrected =
-    nothingToCorrect .written field accepted payload payload-long payload-bytes payload payload-long .corrected-number
-
-pub written-lawful : LawfulField field (fieldOf written)
-written-lawful = encodeMeaning .lawful field accepted payload payload-long payload-bytes
-
-pub written-carries : Carries (layoutOf field) (fieldOf written) payload
-written-carries = encodeMeaning .carries field accepted payload payload-long payload-bytes
+    nothingToCorrect .written field accepted payload written payload-long payload-bytes written-from payload payload-long
+    .corrected-number
 
 -- two black cells of a class of two: the exclusive or of their positions is above its size
 abbrev pub two : Layout
@@ -168,8 +189,8 @@ corners =
 pub corners-beyond : ¬ WithinPromise field corners (correctLeaves field corners)
 unfolding
     correctLeaves correctNumber fieldNumber cellsOk isCell isReceived fewErasures allInReach inReach tagsOf corrected flipped
-    filled erasuresTo paddingOk padding payloadBytes rank planCells shapeNumber sizeOk strengthOk windowOk isNone
-    maxStrength inRange capacity
+    filled erasuresTo paddedWith paddingOk padding earlierPadding payloadBytes rank planCells shapeNumber sizeOk
+    strengthOk windowOk isNone maxStrength inRange capacity
     holdsData sizeTo position isPower isCheck cellAt classesOf classOf classWith minusMod settingsFor flatSettings oddSettings
     distance apart
 corners-beyond told =

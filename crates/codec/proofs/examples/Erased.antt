@@ -17,7 +17,6 @@ use Rattle.lattice.proofs.examples.Placing.{mate-few}
 use Rattle.codec.specs.Field.{Field, fieldOf, isCell, Cells, erased, isReceived, Received, differences}
 use Rattle.codec.specs.Hamming.{tagsOf, Codeword}
 use Rattle.codec.specs.Erasure.{erasuresTo, erasures, Agrees, Near}
-use Rattle.codec.specs.Encode.{encodedField}
 use Rattle.codec.specs.Reach.{Readable}
 use Rattle.codec.specs.Damage.{erasedField, selectedCells, Recovered, TwoInEachClass}
 use Rattle.codec.proofs.theory.AllBelow.{below-all}
@@ -25,7 +24,7 @@ use Rattle.codec.proofs.theory.ClusterCells.{one-number}
 use Rattle.codec.proofs.theory.OperationNumbers.{correct-taken}
 use Rattle.codec.proofs.theorems.Erasures.{refill}
 use Rattle.codec.proofs.examples.Coding.{accepted, payload, payload-long, payload-bytes, isAt, at-is, isCorner}
-use Rattle.codec.proofs.examples.Coding.{corner-selected, two}
+use Rattle.codec.proofs.examples.Coding.{corner-selected, two, written, written-from}
 
 -- a class of three cells, of which the first two are erased, and the codeword that agrees with the third
 abbrev pub three : Layout
@@ -100,13 +99,13 @@ mates-two i j k hi hj hk si sj sk c d = go (which i si) (which j sj) (which k sk
 
 -- with both erased the payload and the field come back, and the field is readable
 abbrev pub mates-erased : List ℕ
-mates-erased = erasedField field payload isMate
+mates-erased = erasedField field written isMate
 
-pub mates-refilled : Recovered field payload (encodedField field payload) mates-erased payload
-    × (differences (fieldOf (encodedField field payload)) (fieldOf mates-erased) (cellsOf field) ≡ selectedCells field isMate)
+pub mates-refilled : Recovered field payload written mates-erased payload
+    × (differences (fieldOf written) (fieldOf mates-erased) (cellsOf field) ≡ selectedCells field isMate)
 mates-refilled =
-    refill field accepted payload payload-long payload-bytes OfThree OfMate three-cluster three-few mate-cluster mate-few isMate
-    mates-selected payload payload-long
+    refill field accepted payload written payload-long payload-bytes written-from OfThree OfMate three-cluster three-few
+    mate-cluster mate-few isMate mates-selected payload payload-long
 
 pub mates-readable : Readable field mates-erased
 mates-readable = correct-taken field mates-erased (mates-refilled .0 .corrected-number)

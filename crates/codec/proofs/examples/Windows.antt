@@ -22,7 +22,7 @@ use Rattle.lattice.proofs.examples.Windows.{diagonal-patch, diagonal-few}
 use Rattle.codec.specs.Field.{fieldOf, differences}
 use Rattle.codec.specs.Payload.{Bytes}
 use Rattle.codec.specs.Plan.{planCapacity, planBytes}
-use Rattle.codec.specs.Encode.{encodedField}
+use Rattle.codec.specs.Encode.{encodedField, earlierField, WrittenFrom}
 use Rattle.codec.specs.Damage.{damagedField, erasedField, selectedCells, Recovered}
 use Rattle.codec.proofs.theorems.Windows.{windowRecovery, patchRecovery, windowRefill}
 use Rattle.codec.proofs.examples.Coding.{payload, payload-bytes, isAt, at-is, of-three}
@@ -51,6 +51,9 @@ patch-payload-long = refl
 abbrev pub window-written : List ℕ
 window-written = encodedField windowField window-payload
 
+pub window-from : WrittenFrom windowField window-payload window-written
+window-from = inl refl
+
 -- the two cells of the window that hangs over two edges are selected
 abbrev pub isEdge : Cell → Bool
 isEdge x = isAt edge x || isAt beside-edge x
@@ -64,12 +67,12 @@ window-selected x e =
 
 -- with both flipped the payload and the field come back
 abbrev pub window-damaged : List ℕ
-window-damaged = damagedField windowField window-payload isEdge
+window-damaged = damagedField windowField window-written isEdge
 
 pub window-recovered : Recovered windowField window-payload window-written window-damaged window-payload
 window-recovered =
-    windowRecovery windowField window-accepted window-rules window-payload window-payload-long window-payload-bytes
-    (negsuc 0) (negsuc 0) isEdge window-selected window-payload window-payload-long
+    windowRecovery windowField window-accepted window-rules window-payload window-written window-payload-long window-payload-bytes
+    window-from (negsuc 0) (negsuc 0) isEdge window-selected window-payload window-payload-long
 
 -- a cell of the class of the first, in the window at row 4 and column 5, which hangs over the other two edges
 abbrev pub far : Cell
@@ -96,13 +99,13 @@ windows-selected x e =
 
 -- with them erased the payload and the field come back
 abbrev pub windows-erased : List ℕ
-windows-erased = erasedField windowField window-payload isEither
+windows-erased = erasedField windowField window-written isEither
 
 pub windows-refilled : Recovered windowField window-payload window-written windows-erased window-payload
     × (differences (fieldOf window-written) (fieldOf windows-erased) (cellsOf windowField) ≡ selectedCells windowField isEither)
 windows-refilled =
-    windowRefill windowField window-accepted window-rules window-payload window-payload-long window-payload-bytes
-    (negsuc 0) (negsuc 0) (pos 4) (pos 5) isEither windows-selected window-payload window-payload-long
+    windowRefill windowField window-accepted window-rules window-payload window-written window-payload-long window-payload-bytes
+    window-from (negsuc 0) (negsuc 0) (pos 4) (pos 5) isEither windows-selected window-payload window-payload-long
 
 -- the whole diagonal is selected
 abbrev pub isDiagonal : Cell → Bool
@@ -111,9 +114,15 @@ isDiagonal x = isAt (cell 1 0 1) x || (isAt (cell 2 0 2) x || isAt (cell 3 0 3) 
 pub diagonal-selected : (x : Cell) → isDiagonal x ≡ true → OfDiagonal x
 diagonal-selected = of-three (cell 1 0 1) (cell 2 0 2) (cell 3 0 3)
 
--- with those three cells flipped the payload and the field come back
+-- with those three cells of the field that was written before flipped the payload and the field come back
+abbrev pub patch-written : List ℕ
+patch-written = earlierField patchField payload
+
+pub patch-from : WrittenFrom patchField payload patch-written
+patch-from = inr refl
+
 pub diagonal-recovered :
-    Recovered patchField payload (encodedField patchField payload) (damagedField patchField payload isDiagonal) payload
+    Recovered patchField payload patch-written (damagedField patchField patch-written isDiagonal) payload
 diagonal-recovered =
-    patchRecovery patchField patch-accepted patch-rules 3 patch-square payload patch-payload-long payload-bytes OfDiagonal
-    diagonal-patch diagonal-few isDiagonal diagonal-selected payload patch-payload-long
+    patchRecovery patchField patch-accepted patch-rules 3 patch-square payload patch-written patch-payload-long payload-bytes
+    patch-from OfDiagonal diagonal-patch diagonal-few isDiagonal diagonal-selected payload patch-payload-long

@@ -9,7 +9,7 @@ use Rattle.lattice.specs.Shape.{maxCells}
 use Rattle.lattice.specs.Class.{layoutOf}
 use Rattle.lattice.specs.Listing.{checksTo}
 use Rattle.lattice.proofs.theory.Limits.{legal}
-use Rattle.codec.specs.Payload.{dataField}
+use Rattle.codec.specs.Payload.{padding, dataField}
 use Rattle.codec.specs.Filling.{DataPut, ToFill, ChecksListed, AtPlane, Filled, planeCells}
 use Rattle.codec.proofs.theory.FilledLists.{filled-cells}
 
@@ -35,11 +35,13 @@ module _ (s : Shape) (payload checks part : List ℕ) (amount i k m : ℕ) (list
   plane-filled after q long done =
       subst (λ (n : ℕ). Filled s payload part after i q n) e
       record {
-        cells = filled-cells (λ j. dataField (layoutOf s) payload (i + j)) part m after long (omega (arith, at .room)) own others;
+        cells =
+            filled-cells (λ j. dataField (layoutOf s) padding payload (i + j)) part m after long (omega (arith, at .room)) own
+            others;
         counted = done .1;
       }
     where
-      own : (j : ℕ) → j < m → getD after j 0 ≡ dataField (layoutOf s) payload (i + j)
+      own : (j : ℕ) → j < m → getD after j 0 ≡ dataField (layoutOf s) padding payload (i + j)
       own j l =
           let place : j ≡ i + j - i = omega arith in
           ap (λ (y : ℕ). getD after y 0) place ∙ done .0 .own (i + j) (omega arith) (omega arith)

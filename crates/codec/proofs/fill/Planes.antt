@@ -14,7 +14,7 @@ use Rattle.lattice.specs.Listing.{checksTo}
 use Rattle.lattice.proofs.theory.Limits.{legal}
 use Rattle.lattice.proofs.theory.Runs.{checks-none}
 use Rattle.codec.specs.Field.{listOf}
-use Rattle.codec.specs.Payload.{dataField}
+use Rattle.codec.specs.Payload.{padding, dataField}
 use Rattle.codec.specs.Filling.{AtPlane, Filled, planeCells, dataBuffer}
 use Rattle.codec.proofs.theory.FieldLists.{listOf-same}
 use Rattle.codec.proofs.theory.FilledLists.{filled-part, length-filled}
@@ -70,14 +70,14 @@ module _ (s : Shape) (payload xs : List ℕ) (long : length xs ≡ cellsOf s) (m
         record {
           cells =
               filled-part
-              (λ j. dataField (layoutOf s) payload (0 + j))
-              (λ j. dataField (layoutOf s) payload (z * m + j))
+              (λ j. dataField (layoutOf s) padding payload (0 + j))
+              (λ j. dataField (layoutOf s) padding payload (z * m + j))
               (z * m)
               (planeCells s)
               xs
               ys
               zs
-              (λ j. ap (dataField (layoutOf s) payload) (sym (zero-add (z * m + j))))
+              (λ j. ap (dataField (layoutOf s) padding payload) (sym (zero-add (z * m + j))))
               (omega (arith, planes-within s m e z (omega arith)))
               (f .cells)
               (g .cells);
@@ -90,10 +90,10 @@ module _ (s : Shape) (payload xs : List ℕ) (long : length xs ≡ cellsOf s) (m
     planes-all p r =
         f .cells
         ∙ ap
-        (λ (k : ℕ). listOf (λ j. dataField (layoutOf s) payload (0 + j)) k ++ drop k xs)
+        (λ (k : ℕ). listOf (λ j. dataField (layoutOf s) padding payload (0 + j)) k ++ drop k xs)
         (ap (λ (k : ℕ). k * m) (le-antisymm p r) ∙ planes-cells s m e)
         ∙ ap₂
         (λ (a b : List ℕ). a ++ b)
-        (listOf-same _ _ (cellsOf s) (λ j l. ap (dataField (layoutOf s) payload) (zero-add j)))
+        (listOf-same _ _ (cellsOf s) (λ j l. ap (dataField (layoutOf s) padding payload) (zero-add j)))
         (drop-of-length-le xs (le-of-eq long))
         ∙ append-nil _

@@ -15,7 +15,6 @@ use Rattle.lattice.specs.Check.{holdsData}
 use Rattle.lattice.specs.Listing.{checksTo, ListsChecks, Run}
 use Rattle.lattice.proofs.theory.Runs.{checks-mono, checks-most, checks-check, run-checks, run-part, next-run, last-run}
 use Rattle.codec.specs.Payload.{payloadBytes, payloadBit, padding, rank, dataValue, dataField}
-use Rattle.codec.specs.Payload.{dataValue}
 use Rattle.codec.specs.Filling.{ValuesPut, EndsRun, DataPut, AtRun}
 use Rattle.codec.proofs.theory.Gathered.{run-rank}
 
@@ -50,13 +49,13 @@ module _ (L : Layout) (amount : ℕ) (checks : List ℕ) (lists : ListsChecks L 
 module _ (L : Layout) (p : List ℕ) where
   -- the data alone, at a cell that holds no check and at a check
   data-value : length p ≡ payloadBytes L → (x k : ℕ) → holdsData L x ≡ true → rank L x + k ≡ x
-      → dataValue (length p) p (x - k) ≡ dataField L p x
+      → dataValue padding (length p) p (x - k) ≡ dataField L padding p x
   unfolding dataField dataValue
   data-value long x k held ranked =
       let number : x - k ≡ rank L x = omega arith in
       rw held (ap₂ (λ (m r : ℕ). cond (ltb r (8 * m)) (payloadBit p r) (padding (r - 8 * m))) long number)
 
-  data-zero : (x : ℕ) → holdsData L x ≡ false → dataField L p x ≡ 0
+  data-zero : (x : ℕ) → holdsData L x ≡ false → dataField L padding p x ≡ 0
   unfolding dataField
   data-zero x held = rw held
 
@@ -70,7 +69,7 @@ module _ (L : Layout) (p : List ℕ) where
           others = λ y o. values .others y (inr o) ∙ put .others y (omega (arith, run .ordered));
         }
       where
-        own : (x : ℕ) → at ≤ x → x < e → Dec (x < i) → getD zs (x - at) 0 ≡ dataField L p x
+        own : (x : ℕ) → at ≤ x → x < e → Dec (x < i) → getD zs (x - at) 0 ≡ dataField L padding p x
         own x a b (yes l) = values .others (x - at) (inl (omega arith)) ∙ put .own x a l
         own x a b (no l) =
             let m : i ≤ x = omega arith in
@@ -85,13 +84,13 @@ module _ (L : Layout) (p : List ℕ) where
           others = λ y o. getD-set-other ys (i - at) y 0 0 (λ q. omega arith) ∙ put .others y (omega arith);
         }
       where
-        own : (x : ℕ) → at ≤ x → x < i + 1 → Dec (x < i) → getD (set ys (i - at) 0) (x - at) 0 ≡ dataField L p x
+        own : (x : ℕ) → at ≤ x → x < i + 1 → Dec (x < i) → getD (set ys (i - at) 0) (x - at) 0 ≡ dataField L padding p x
         own x a b (yes l) = getD-set-other ys (i - at) (x - at) 0 0 (λ q. omega arith) ∙ put .own x a l
         own x a b (no l) =
             let e : x ≡ i = omega arith in
             ap (λ (y : ℕ). getD (set ys (i - at) 0) (y - at) 0) e
             ∙ getD-set-same ys (i - at) 0 0 room
-            ∙ sym (ap (dataField L p) e ∙ data-zero i held)
+            ∙ sym (ap (dataField L padding p) e ∙ data-zero i held)
 
 pub data-none : (L : Layout) (p xs : List ℕ) (at : ℕ) → DataPut L p xs xs at at
 data-none L p xs at = record { own = λ x a b. absurd (omega arith); others = λ y o. refl }

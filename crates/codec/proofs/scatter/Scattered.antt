@@ -7,10 +7,9 @@ use native.Mathlib.Decide.{decLt}
 use native.Mathlib.Omega.{arith}
 use lib.ListN.{length, getD, set, length-set}
 use lib.Seq.{getD-set-same, getD-set-other}
-use Rattle.codec.specs.Payload.{payloadBit, dataValue}
+use Rattle.codec.specs.Payload.{padding, payloadBit, dataValue}
 use Rattle.codec.specs.Packing.{BeginsByte}
 use Rattle.codec.specs.Filling.{BitsPut, ValuesPut}
-use Rattle.codec.specs.Payload.{dataValue}
 use Rattle.codec.proofs.theory.PayloadBits.{value-bit}
 
 -- the entry that is stored
@@ -100,16 +99,16 @@ module _ (payload : List ℕ) (at k i : ℕ) where
   values-none l = record { own = λ x p q. absurd (omega arith); others = λ y o. refl }
 
   -- one cell
-  pub value-put : (l : List ℕ) (v : ℕ) → at ≤ i → i - at < length l → v ≡ dataValue (length payload) payload (i - k)
+  pub value-put : (l : List ℕ) (v : ℕ) → at ≤ i → i - at < length l → v ≡ dataValue padding (length payload) payload (i - k)
       → ValuesPut payload l (set l (i - at) v) at k i (i + 1)
   value-put l v p room e = record { own = own; others = others }
     where
-      own : (x : ℕ) → i ≤ x → x < i + 1 → getD (set l (i - at) v) (x - at) 0 ≡ dataValue (length payload) payload (x - k)
+      own : (x : ℕ) → i ≤ x → x < i + 1 → getD (set l (i - at) v) (x - at) 0 ≡ dataValue padding (length payload) payload (x - k)
       own x a b =
           let q : x ≡ i = omega arith in
           stored l (i - at) v (x - at) room (ap (λ (y : ℕ). y - at) q)
           ∙ e
-          ∙ ap (λ (y : ℕ). dataValue (length payload) payload (y - k)) (sym q)
+          ∙ ap (λ (y : ℕ). dataValue padding (length payload) payload (y - k)) (sym q)
 
       others : (y : ℕ) → (at + y < i) ⊎ (i + 1 ≤ at + y) → getD (set l (i - at) v) y 0 ≡ getD l y 0
       others y o = getD-set-other l (i - at) y v 0 (⊎-elim (λ s q. omega arith) (λ s q. omega arith) o)
@@ -126,15 +125,15 @@ module _ (payload : List ℕ) (at k i : ℕ) where
           let r : 8 - 1 - d ≡ 7 - (i - k + d) % 8 = omega (arith, begins .first) in
           ap₂ (λ (a b : ℕ). getD payload a 0 / 2 ^ b % 2) j r
 
-      own : (x : ℕ) → i ≤ x → x < i + 8 → getD after (x - at) 0 ≡ dataValue (length payload) payload (x - k)
+      own : (x : ℕ) → i ≤ x → x < i + 8 → getD after (x - at) 0 ≡ dataValue padding (length payload) payload (x - k)
       own x a b =
           let place : x - at ≡ i - at + (x - i) = omega arith in
           let number : i - k + (x - i) ≡ x - k = omega arith in
           ap (λ (y : ℕ). getD after y 0) place
           ∙ put .own (x - i) (omega arith)
           ∙ bit (x - i) (omega arith)
-          ∙ sym (value-bit (length payload) payload (i - k + (x - i)) (omega (arith, begins .first, begins .inside)))
-          ∙ ap (dataValue (length payload) payload) number
+          ∙ sym (value-bit padding (length payload) payload (i - k + (x - i)) (omega (arith, begins .first, begins .inside)))
+          ∙ ap (dataValue padding (length payload) payload) number
 
       others : (y : ℕ) → (at + y < i) ⊎ (i + 8 ≤ at + y) → getD after y 0 ≡ getD before y 0
       others y o = put .others y (⊎-elim (λ s. inl (omega arith)) (λ s. inr (omega arith)) o)
@@ -144,7 +143,7 @@ module _ (payload : List ℕ) (at k i : ℕ) where
       → ValuesPut payload between after at k x e → ValuesPut payload before after at k i e
   values-join x e before between after p q r a b = record { own = λ y s t. own y s t (decLt y x); others = others }
     where
-      own : (y : ℕ) → i ≤ y → y < e → Dec (y < x) → getD after (y - at) 0 ≡ dataValue (length payload) payload (y - k)
+      own : (y : ℕ) → i ≤ y → y < e → Dec (y < x) → getD after (y - at) 0 ≡ dataValue padding (length payload) payload (y - k)
       own y s t (yes l) = b .others (y - at) (inl (omega arith)) ∙ a .own y s l
       own y s t (no l) = b .own y (omega arith) t
 

@@ -13,7 +13,7 @@ use Rattle.lattice.specs.DistanceTest.{triplesTried}
 use Rattle.codec.specs.Field.{isCell, isReceived, cellsOk, having, differences}
 use Rattle.codec.specs.Hamming.{tagsOf, flipped}
 use Rattle.codec.specs.Erasure.{erasuresTo, erasedSum, filled, corrected, fewErasures, inReach, allInReach}
-use Rattle.codec.specs.Payload.{payloadBytes, rank, padding, paddingOk, heldPayload}
+use Rattle.codec.specs.Payload.{payloadBytes, rank, padding, earlierPadding, paddedWith, paddingOk, heldPayload}
 use Rattle.codec.specs.Plan.{planCapacity, planBytes, planCells}
 use Rattle.codec.specs.Decode.{fieldNumber, correctedCount, decodeNumber, decodeCount, decodeLeaves}
 use Rattle.codec.specs.theorems.Examples.{PaperExamples, paperExamples}
@@ -28,7 +28,7 @@ unfolding
     order failsAt outcome testStrengthOk testSettingsOk testNumber verdict foundTriple triplesTried
     isCell isReceived cellsOk having differences tagsOf flipped erasuresTo erasedSum filled corrected
     fewErasures inReach allInReach
-    payloadBytes rank padding paddingOk heldPayload planCapacity planBytes planCells
+    payloadBytes rank padding earlierPadding paddedWith paddingOk heldPayload planCapacity planBytes planCells
     fieldNumber correctedCount decodeNumber decodeCount decodeLeaves
 paperExamplesHold = (
   refl,

@@ -4,8 +4,8 @@ use mathlib.Core.Path.{_≡_, sym, _∙_, refl}
 use native.Mathlib.Omega.{arith}
 use lib.ListN.{getD, length}
 use lib.Seq.{ext-getD}
-use Rattle.codec.specs.Payload.{padding}
-use Rattle.codec.specs.theorems.Payload.{BitsTell, PaddingFew, PaddingIsZero}
+use Rattle.codec.specs.Payload.{padding, earlierPadding}
+use Rattle.codec.specs.theorems.Payload.{BitsTell, PaddingFew, PaddingPattern}
 use Rattle.codec.proofs.theory.BinaryDigits.{bits-same}
 use Rattle.codec.proofs.theory.ByteBits.{payload-bit}
 use Rattle.codec.proofs.theory.Ranks.{bytes-least, rank-all}
@@ -25,7 +25,7 @@ bitsTell p q a b l h = ext-getD 0 p q l byte
 pub paddingFew : PaddingFew
 paddingFew L = omega (arith, counted L (L .cells), rank-all L, bytes-least L)
 
--- Theorem. Padding is 0.
-pub paddingIsZero : PaddingIsZero
-unfolding padding
-paddingIsZero j = refl
+-- Theorem. The padding's cells 2j and 2j + 1 are 1 and 0; before, all were 0.
+pub paddingPattern : PaddingPattern
+unfolding padding earlierPadding
+paddingPattern = record { even = λ j. omega arith; odd = λ j. omega arith; earlier = λ j. refl }

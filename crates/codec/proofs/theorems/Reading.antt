@@ -35,8 +35,8 @@ pub oneNearest : OneNearest
 oneNearest s field readable g h =
     nearest-one (tags-tell (layoutOf s)) (fieldOf field) (readable .cells) (readable .few) g h
 
--- Theorem. Decoding gives 0, 6 or 7 by the lawful fields in reach, and with 0 the payload that it carries and the number of cells
--- where it differs.
+-- Theorem. Decoding gives 0, 6 or 7 by the lawful fields in reach, and with 0 the payload whose bits it has and the number of
+-- cells where it differs.
 pub decodeMeaning : DecodeMeaning
 decodeMeaning s payload field readable fits =
     let m = means readable in
@@ -50,7 +50,7 @@ decodeMeaning s payload field readable fits =
       wrong = carry _ _ 7 same (m .wrong);
       long = λ e. ap length (leaves e) ∙ held-length (layoutOf s) f ∙ sym (plan-bytes s (readable .accepted));
       bytes = λ e. rw (leaves e) (held-bytes (layoutOf s) f (m .cells));
-      gives = λ g near padding. rw (leaves (ok g near padding)) (m .carries g near padding);
+      gives = λ g near padding. rw (leaves (ok g near padding)) (m .carries g near);
       count = λ g near padding. decode-count s payload field readable fits (ok g near padding) ∙ m .count g near;
     }
 

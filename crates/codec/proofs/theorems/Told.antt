@@ -3,7 +3,7 @@ use Prim.Native.Nat.{ℕ, _<_}
 use mathlib.Core.Bool.{Bool, true, not, false}
 use mathlib.Core.List.{List, List·Memᴰ}
 use mathlib.Core.Logic.{_≢_}
-use mathlib.Core.Path.{_≡_, sym, ap, _∙_, subst}
+use mathlib.Core.Path.{_≡_, sym, _∙_, subst}
 use native.Mathlib.Nat.{le-trans}
 use native.Mathlib.Omega.{arith}
 use borrow.Author.Tests.{not-true, eqb-false}
@@ -13,58 +13,45 @@ use Rattle.lattice.specs.declared.shape.Shape.{Shape}
 use Rattle.lattice.specs.Shape.{Accepted, cellsOf}
 use Rattle.lattice.specs.Cell.{Cell, cellAt, cellNumber}
 use Rattle.lattice.specs.Cluster.{Cluster, AtMost}
-use Rattle.lattice.specs.Class.{layoutOf}
 use Rattle.lattice.proofs.theory.ClusterPaths.{together-near}
 use Rattle.lattice.proofs.theory.Pigeonhole.{count-covered}
 use Rattle.lattice.proofs.theorems.Numbering.{numbering}
-use Rattle.codec.specs.Field.{fieldOf, differences}
+use Rattle.codec.specs.Field.{fieldOf, isCell, differences}
 use Rattle.codec.specs.Payload.{Bytes}
 use Rattle.codec.specs.Plan.{planBytes}
-use Rattle.codec.specs.Encode.{encodedField}
+use Rattle.codec.specs.Encode.{WrittenFrom}
 use Rattle.codec.specs.Damage.{damaged, damagedField, WithinPromise}
 use Rattle.codec.specs.Correct.{correctLeaves}
 use Rattle.codec.specs.theorems.Told.{DamageTold, DamageDiffers}
 use Rattle.codec.proofs.theory.Damage.{damaged-selected, damaged-kept, damaged-flipped}
 use Rattle.codec.proofs.theory.FieldLists.{getD-listOf}
-use Rattle.codec.proofs.theory.WrittenCells.{written-cells}
+use Rattle.codec.proofs.theory.WrittenFields.{written}
 use Rattle.codec.proofs.theory.CellValues.{cell-most}
-use Rattle.codec.proofs.theory.EncodedField.{encoded-cells}
 use Rattle.codec.proofs.theorems.Recovery.{recovery}
 
-module _ (s : Shape) (p : List ℕ) (selected : Cell → Bool) (i : ℕ) (h : i < cellsOf s) where
+module _ (s : Shape) (F : List ℕ) (selected : Cell → Bool) (i : ℕ) (h : i < cellsOf s) where
   -- a cell of the damaged field
-  held : fieldOf (damagedField s p selected) i ≡ damaged (fieldOf (encodedField s p)) (λ j. selected (cellAt s j)) i
-  held = getD-listOf (damaged (fieldOf (encodedField s p)) (λ j. selected (cellAt s j))) (cellsOf s) i h
+  held : fieldOf (damagedField s F selected) i ≡ damaged (fieldOf F) (λ j. selected (cellAt s j)) i
+  held = getD-listOf (damaged (fieldOf F) (λ j. selected (cellAt s j))) (cellsOf s) i h
 
-  stays : selected (cellAt s i) ≡ false → fieldOf (damagedField s p selected) i ≡ fieldOf (encodedField s p) i
-  stays e = held ∙ damaged-kept (fieldOf (encodedField s p)) (λ j. selected (cellAt s j)) i e
+  stays : selected (cellAt s i) ≡ false → fieldOf (damagedField s F selected) i ≡ fieldOf F i
+  stays e = held ∙ damaged-kept (fieldOf F) (λ j. selected (cellAt s j)) i e
 
-  differs : selected (cellAt s i) ≡ true → fieldOf (damagedField s p selected) i ≢ fieldOf (encodedField s p) i
-  differs e same =
-      omega (
-        arith,
-        same,
-        held,
-        damaged-flipped (fieldOf (encodedField s p)) (λ j. selected (cellAt s j)) i e,
-        written-cells s p i h,
-        cell-most _ (encoded-cells (layoutOf s) p (cellsOf s) i h),
-      )
+  differs : isCell (fieldOf F i) ≡ true → selected (cellAt s i) ≡ true → fieldOf (damagedField s F selected) i ≢ fieldOf F i
+  differs cell e same =
+      omega (arith, same, held, damaged-flipped (fieldOf F) (λ j. selected (cellAt s j)) i e, cell-most _ cell)
 
-module _ (s : Shape) (p : List ℕ) (S : Cell → Type 0) (cluster : Cluster s S) (small : AtMost (s .strength) S)
+module _ (s : Shape) (F : List ℕ) (S : Cell → Type 0) (cluster : Cluster s S) (small : AtMost (s .strength) S)
     (selected : Cell → Bool) (inside : (x : Cell) → selected x ≡ true → S x) where
-  F : List ℕ
-  F = encodedField s p
-
   G : List ℕ
-  G = damagedField s p selected
+  G = damagedField s F selected
 
   -- a cell that differs was selected, so it lies in the cluster
   harmed : (i : ℕ) → i < cellsOf s → fieldOf G i ≢ fieldOf F i → S (cellAt s i)
-  unfolding F G
+  unfolding G
   harmed i h other =
       inside (cellAt s i)
-      (damaged-selected (fieldOf (encodedField s p)) (λ j. selected (cellAt s j)) i
-      (λ e. other (held s p selected i h ∙ e)))
+      (damaged-selected (fieldOf F) (λ j. selected (cellAt s j)) i (λ e. other (held s F selected i h ∙ e)))
 
   -- the cells that differ are among those of the cluster
   found : (i : ℕ) → i < cellsOf s → not (eqb (fieldOf G i) (fieldOf F i)) ≡ true
@@ -88,27 +75,31 @@ module _ (s : Shape) (p : List ℕ) (S : Cell → Type 0) (cluster : Cluster s S
 -- Theorem. Where the damage lies in one cluster of at most t cells, correcting flips at most t cells, any two of them less than t
 -- apart.
 pub damageTold : DamageTold
-unfolding F G
+unfolding G
 damageTold =
     record {
       within = within;
-      beyond = λ s G accepted other p long bytes S cluster small selected inside e.
+      beyond = λ s G accepted other p F long bytes from S cluster small selected inside e.
           other
           (subst (λ (g : List ℕ). WithinPromise s g (correctLeaves s g)) (sym e)
-          (within s accepted p long bytes S cluster small selected inside));
+          (within s accepted p F long bytes from S cluster small selected inside));
     }
   where
-    within : (s : Shape) → Accepted s → (p : List ℕ) → length p ≡ planBytes s → Bytes p
+    within : (s : Shape) → Accepted s → (p F : List ℕ) → length p ≡ planBytes s → Bytes p → WrittenFrom s p F
         → (S : Cell → Type 0) → Cluster s S → AtMost (s .strength) S
         → (selected : Cell → Bool) → ((x : Cell) → selected x ≡ true → S x)
-        → WithinPromise s (damagedField s p selected) (correctLeaves s (damagedField s p selected))
-    within s accepted p long bytes S cluster small selected inside =
+        → WithinPromise s (damagedField s F selected) (correctLeaves s (damagedField s F selected))
+    within s accepted p F long bytes from S cluster small selected inside =
         let buffer : List ℕ = replicate (planBytes s) 0 in
         let back =
-        recovery s accepted p long bytes S cluster small selected inside buffer (length-replicate (planBytes s) 0) in
-        subst (λ (f : List ℕ). WithinPromise s (damagedField s p selected) f) (sym (back .corrected-field))
-        (told s p S cluster small selected inside)
+        recovery s accepted p F long bytes from S cluster small selected inside buffer (length-replicate (planBytes s) 0) in
+        subst (λ (f : List ℕ). WithinPromise s (damagedField s F selected) f) (sym (back .corrected-field))
+        (told s F S cluster small selected inside)
 
--- Theorem. A selected cell of a damaged field differs from the field written, and the others do not.
+-- Theorem. The selected cells of a field that was written differ after the damage, and the others do not.
 pub damageDiffers : DamageDiffers
-damageDiffers = record { selected = differs; others = stays }
+damageDiffers =
+    record {
+      selected = λ s p F from selected i h. differs s F selected i h (written s p F from .lawful .cells i h);
+      others = stays;
+    }

@@ -11,7 +11,7 @@ use Rattle.lattice.specs.Class.{layoutOf}
 use Rattle.codec.specs.Field.{fieldOf, listOf, Same, differences}
 use Rattle.codec.specs.Payload.{Bytes, heldPayload}
 use Rattle.codec.specs.Plan.{planBytes}
-use Rattle.codec.specs.Encode.{encodedField}
+use Rattle.codec.specs.Encode.{WrittenFrom}
 use Rattle.codec.specs.Decode.{correctedField, decodeNumber, decodeLeaves}
 use Rattle.codec.specs.Correct.{correctNumber, correctLeaves}
 use Rattle.codec.specs.Reach.{Readable, RightInReach}
@@ -24,35 +24,27 @@ use Rattle.codec.proofs.theory.Differences.{differences-self, differenc
 use Rattle.codec.proofs.theory.FieldLists.{listOf-same, list-field, listOf-fieldOf, cells-same}
 use Rattle.codec.proofs.theory.HeldPayload.{carries-held}
 use Rattle.codec.proofs.theory.ReadFields.{cells-readable, means, correct-leaves}
+use Rattle.codec.proofs.theory.WrittenFields.{written}
 use Rattle.codec.proofs.theorems.Reading.{decodeMeaning, correctMeaning}
 use Rattle.codec.proofs.theorems.Recovery.{recoveryByClass}
-use Rattle.codec.proofs.theorems.Writing.{encodeMeaning}
 use Rattle.codec.proofs.theory.OperationNumbers.{correct-taken}
 
 -- no cell selected
 none : Cell → Bool
 none x = false
 
--- with no cell selected the damaged field is the field written
-unharmed : (s : Shape) (p : List ℕ) → damagedField s p none ≡ encodedField s p
+-- with no cell selected the damaged field is the field
+unharmed : (s : Shape) (F : List ℕ) → length F ≡ cellsOf s → damagedField s F none ≡ F
 unfolding damaged none
-unharmed s p =
-    sym (list-field (encodedField s p) (damaged (fieldOf (encodedField s p)) (λ i. false)) (cellsOf s)
-    (encodeMeaning .long s p) (λ i h. refl))
+unharmed s F long = sym (list-field F (damaged (fieldOf F) (λ i. false)) (cellsOf s) long (λ i h. refl))
 
 -- a field that was written
-written : (s : Shape)
-    → Accepted s
-    → (p : List ℕ)
-    → length p ≡ planBytes s
-    → Bytes p
-    → (buffer : List ℕ)
-    → length buffer ≡ planBytes s
-    → Recovered s p (encodedField s p) (encodedField s p) buffer
+as-written : (s : Shape) → Accepted s → (p F : List ℕ) → length p ≡ planBytes s → Bytes p → WrittenFrom s p F
+    → (buffer : List ℕ) → length buffer ≡ planBytes s → Recovered s p F F buffer
 unfolding none
-written s accepted p long bytes buffer fits =
-    subst (λ (G : List ℕ). Recovered s p (encodedField s p) G buffer) (unharmed s p)
-    (recoveryByClass s accepted p long bytes none (λ i j hi hj si sj same. absurd (true≢false (sym si))) buffer fits)
+as-written s accepted p F long bytes from buffer fits =
+    subst (λ (G : List ℕ). Recovered s p F G buffer) (unharmed s F (written s p F from .long))
+    (recoveryByClass s accepted p F long bytes from none (λ i j hi hj si sj same. absurd (true≢false (sym si))) buffer fits)
 
 module _ (s : Shape) (field : List ℕ) (success : correctNumber s field ≡ 0) where
   readable : Readable s field
@@ -93,7 +85,7 @@ module _ (s : Shape) (field : List ℕ) (success : correctNumber s field ≡ 0) 
     payload-of G r near =
         let m = decodeMeaning s buffer G r fits in
         let ok = m .success .1 (found .0, near, found .2) in
-        carries-held (layoutOf s) (found .0) (decodeLeaves s buffer G) (m .bytes ok)
+        carries-held (layoutOf s) (found .0) (near .lawful .cells) (decodeLeaves s buffer G) (m .bytes ok)
         (m .long ok ∙ plan-bytes s (r .accepted))
         (m .gives (found .0) near (found .2))
 
@@ -125,7 +117,7 @@ pub nothingToCorrect : NothingToCorrect
 unfolding M
 nothingToCorrect =
     record {
-      written = written;
+      written = as-written;
       corrected = λ s field e buffer fits. (read-back s field e buffer fits, again s field e buffer fits);
       count = differences-self;
     }

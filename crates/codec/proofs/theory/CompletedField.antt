@@ -31,7 +31,7 @@ module _ (L : Layout) (d : Field) where
       twice true v w z = refl
       twice false v w z = refl
 
-  pub completed-cells : (m : ℕ) → Cells d m → Cells (completed L d) m
+  completed-cells : (m : ℕ) → Cells d m → Cells (completed L d) m
   completed-cells m c i l = cond-cell (holdsData L i) _ _ (c i l) (most-cell _ (omega arith))
 
   -- every class is a codeword

@@ -28,14 +28,11 @@ getD-listOf f (suc n) i l =
 pub getD-listOf-behind : (f : Field) (n i : ℕ) → n ≤ i → getD (listOf f n) i 0 ≡ 0
 getD-listOf-behind f n i l = List·getD-eq-default (listOf f n) 0 (omega (arith, length-listOf f n))
 
--- buffers are the same exactly when the fields are
+-- buffers are the same where the fields are
 pub listOf-same : (f g : Field) (n : ℕ) → Same f g n → listOf f n ≡ listOf g n
 listOf-same f g zero p = refl
 listOf-same f g (suc n) p =
     ap₂ (λ (l : List ℕ) (v : ℕ). l ++ (v ∷ [])) (listOf-same f g n (λ i l. p i (omega arith))) (p n (le-refl _))
-
-pub same-listOf : (f g : Field) (n : ℕ) → listOf f n ≡ listOf g n → Same f g n
-same-listOf f g n p i l = sym (getD-listOf f n i l) ∙ ap (λ (k : List ℕ). getD k i 0) p ∙ getD-listOf g n i l
 
 -- a buffer of n cells is the field's when its cells are
 pub list-field : (l : List ℕ) (f : Field) (n : ℕ) → length l ≡ n → Same (fieldOf l) f n → l ≡ listOf f n

@@ -30,8 +30,7 @@ pub record FieldMeans (s : Shape) (f : Field) : Type 0 where
   pub wrong : (fieldNumber s f ≡ 7) ↔ WrongInReach s f
   pub cells : Cells (correctedField s f) (cellsOf s)
   pub corrected : (g : Field) → NearestTo s f g → Same (correctedField s f) g (cellsOf s)
-  pub carries : (g : Field) → NearestTo s f g → PaddingRight (layoutOf s) g
-      → Carries (layoutOf s) g (heldPayload (layoutOf s) (correctedField s f))
+  pub carries : (g : Field) → NearestTo s f g → Carries (layoutOf s) g (heldPayload (layoutOf s) (correctedField s f))
   pub count : (g : Field) → NearestTo s f g → correctedCount s f ≡ differences f g (cellsOf s)
 
 -- the two tests that are left where every cell is 0, 1 or erased and no class has three erasures
@@ -85,15 +84,14 @@ module _ (s : Shape) (accepted : Accepted s) (f : Field) (received : Received f 
   nearest-wrong g near wrong e =
       wrong (padding-right-same (layoutOf s) (correctedField s f) g (nearest-here g near) (corrected-right e))
 
-  -- the corrected field is a field of cells, and the payload that it holds is carried by the nearest one
+  -- the corrected field is a field of cells, and the nearest one has the bits of the payload that it holds
   cells-corrected : Cells (correctedField s f) (cellsOf s)
   cells-corrected = corrected-cells (layoutOf s) (tagsAt s) f received
 
-  nearest-carries : (g : Field) → NearestTo s f g → PaddingRight (layoutOf s) g
-      → Carries (layoutOf s) g (heldPayload (layoutOf s) (correctedField s f))
-  nearest-carries g near padding =
+  nearest-carries : (g : Field) → NearestTo s f g → Carries (layoutOf s) g (heldPayload (layoutOf s) (correctedField s f))
+  nearest-carries g near =
       carries-same (layoutOf s) (correctedField s f) g _ (nearest-here g near)
-      (held-carries (layoutOf s) (correctedField s f) cells-corrected (corrected-right (nearest-right g near padding)))
+      (held-carries (layoutOf s) (correctedField s f) cells-corrected)
 
   number-is : (a b : Bool) → reach ≡ a → right ≡ b → fieldNumber s f ≡ unless a 6 (unless b 7 0)
   unfolding number-of

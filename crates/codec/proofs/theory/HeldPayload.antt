@@ -10,13 +10,10 @@ use lib.Pow.{pow-mono}
 use Rattle.lattice.specs.Position.{Layout}
 use Rattle.lattice.specs.Check.{holdsData}
 use Rattle.codec.specs.Field.{Field, Cells, Same}
-use Rattle.codec.specs.Payload.{Bytes, payloadBytes, rank, payloadBit, dataValue, encoded, Carries, PaddingRight, heldByte}
-use Rattle.codec.specs.Payload.{heldPayload}
+use Rattle.codec.specs.Payload.{Bytes, payloadBytes, rank, payloadBit, Carries, heldByte, heldPayload}
 use Rattle.codec.proofs.theory.CellValues.{cell-most}
-use Rattle.codec.proofs.theory.EncodedField.{encoded-carries}
 use Rattle.codec.proofs.theory.FieldLists.{length-listOf, getD-listOf, getD-listOf-behind, listOf-same}
 use Rattle.codec.proofs.theory.HeldByte.{DataCells, bitsOf, byte-below, byte-bit, byte-same}
-use Rattle.codec.proofs.theory.PayloadBits.{value-bit, value-padding, data-value-most}
 use Rattle.codec.proofs.theory.Ranks.{bytes-most, rank-all, rank-some}
 use Rattle.codec.proofs.theorems.Payload.{bitsTell}
 
@@ -75,47 +72,29 @@ module _ (L : Layout) where
   pub held-bytes : (f : Field) → Cells f (L .cells) → Bytes (heldPayload L f)
   held-bytes f c = bytes f (data-cells f c)
 
-  -- a field with right padding carries the payload that it holds
-  pub held-carries : (f : Field) → Cells f (L .cells) → PaddingRight L f → Carries L f (heldPayload L f)
-  held-carries f c p i l h = go (decLt (rank L i) (8 * payloadBytes L))
-    where
-      go : Dec (rank L i < 8 * payloadBytes L) → f i ≡ dataValue (payloadBytes L) (heldPayload L f) (rank L i)
-      go (yes r) = sym (value-bit (payloadBytes L) _ (rank L i) r ∙ bits f (data-cells f c) i l h r)
-      go (no r) =
-          let q : 8 * payloadBytes L ≤ rank L i = omega arith in
-          p i l h q ∙ sym (value-padding (payloadBytes L) _ (rank L i) q)
+  -- a field has the bits of the payload that it holds
+  pub held-carries : (f : Field) → Cells f (L .cells) → Carries L f (heldPayload L f)
+  held-carries f c i l h r = sym (held-bit f c i l h r)
 
-  -- a field that carries a payload holds it
-  pub carries-held : (f : Field) (p : List ℕ) → Bytes p → length p ≡ payloadBytes L → Carries L f p → heldPayload L f ≡ p
-  carries-held f p b l c = bitsTell (heldPayload L f) p (bytes f cells) b (held-length f ∙ sym l) bit
+  -- a field that has a payload's bits holds it
+  pub carries-held : (f : Field) → Cells f (L .cells) → (p : List ℕ) → Bytes p → length p ≡ payloadBytes L → Carries L f p
+      → heldPayload L f ≡ p
+  carries-held f cells p b l c = bitsTell (heldPayload L f) p (held-bytes f cells) b (held-length f ∙ sym l) bit
     where
-      cells : DataCells L f (L .cells)
-      cells i r h = omega (arith, c i r h, data-value-most (payloadBytes L) p (rank L i))
-
       at : (k : ℕ) → k < 8 * payloadBytes L → (i : ℕ) × (i < L .cells) × (holdsData L i ≡ true) × (rank L i ≡ k)
           → payloadBit (heldPayload L f) k ≡ payloadBit p k
       at k m r =
+          let own : rank L (r .0) < 8 * payloadBytes L = omega (arith, r .3) in
           ap (payloadBit (heldPayload L f)) (sym (r .3))
-          ∙ bits f cells (r .0) (r .1) (r .2) (omega (arith, r .3))
-          ∙ c (r .0) (r .1) (r .2)
-          ∙ ap (dataValue (payloadBytes L) p) (r .3)
-          ∙ value-bit (payloadBytes L) p k m
+          ∙ held-bit f cells (r .0) (r .1) (r .2) own
+          ∙ c (r .0) (r .1) (r .2) own
+          ∙ ap (payloadBit p) (r .3)
 
       bit : (k : ℕ) → k < 8 * length (heldPayload L f) → payloadBit (heldPayload L f) k ≡ payloadBit p k
       bit k m =
           let q : k < 8 * payloadBytes L = omega (arith, held-length f) in
           at k q (rank-some L k (omega (arith, bytes-most L)))
 
-  -- the field written from a payload holds it
-  pub encoded-held : (p : List ℕ) → Bytes p → length p ≡ payloadBytes L → heldPayload L (encoded L p) ≡ p
-  encoded-held p b l = carries-held (encoded L p) p b l (encoded-carries L p)
-
-  -- so two payloads that give the same field are equal
-  pub encoded-different : (p q : List ℕ) → Bytes p → Bytes q → length p ≡ payloadBytes L → length q ≡ payloadBytes L
-      → Same (encoded L p) (encoded L q) (L .cells) → p ≡ q
-  encoded-different p q a b l m s =
-      sym (encoded-held p a l) ∙ held-same (encoded L p) (encoded L q) s ∙ encoded-held q b m
-
   -- only the cells of the field matter
   pub carries-same : (f g : Field) (p : List ℕ) → Same f g (L .cells) → Carries L f p → Carries L g p
-  carries-same f g p s c i l h = sym (s i l) ∙ c i l h
+  carries-same f g p s c i l h r = sym (s i l) ∙ c i l h r

@@ -13,22 +13,21 @@ use Rattle.lattice.specs.Class.{layoutOf}
 use Rattle.codec.specs.Field.{fieldOf, differences}
 use Rattle.codec.specs.Payload.{Bytes}
 use Rattle.codec.specs.Plan.{planBytes}
-use Rattle.codec.specs.Encode.{encodedField}
+use Rattle.codec.specs.Encode.{encodedField, WrittenFrom}
 use Rattle.codec.specs.Decode.{decodeNumber, decodeCount, decodeLeaves}
 use Rattle.codec.specs.Correct.{correctNumber, correctCount, correctLeaves}
 use Rattle.codec.specs.theorems.Worked.{strip}
 use Rattle.codec.specs.Damage.{erasedField, selectedCells, Recovered, TwoInEachClass}
 
--- Theorem. Where at most two cells of each class of a field that was written are erased, and no other is touched, the payload and
--- the field come back, and the count is the number of erased cells.
+-- Theorem. Where at most two cells of each class of a field that was written, now or before, are erased, and no other is touched,
+-- the payload and the field come back, and the count is the number of erased cells.
 abbrev pub RefillByClass : Type 0
 RefillByClass =
     (s : Shape) → Accepted s
-    → (p : List ℕ) → length p ≡ planBytes s → Bytes p
+    → (p F : List ℕ) → length p ≡ planBytes s → Bytes p → WrittenFrom s p F
     → (selected : Cell → Bool) → TwoInEachClass (layoutOf s) (λ i. selected (cellAt s i))
     → (buffer : List ℕ) → length buffer ≡ planBytes s
-    → let F = encodedField s p in
-    let G = erasedField s p selected in
+    → let G = erasedField s F selected in
     Recovered s p F G buffer × (differences (fieldOf F) (fieldOf G) (cellsOf s) ≡ selectedCells s selected)
 
 -- Theorem. So it is for every shape that the plan accepts, every payload of the plan's length, any two clusters of the field of
@@ -36,12 +35,11 @@ RefillByClass =
 abbrev pub Refill : Type 1
 Refill =
     (s : Shape) → Accepted s
-    → (p : List ℕ) → length p ≡ planBytes s → Bytes p
+    → (p F : List ℕ) → length p ≡ planBytes s → Bytes p → WrittenFrom s p F
     → (S T : Cell → Type 0) → Cluster s S → AtMost (s .strength) S → Cluster s T → AtMost (s .strength) T
     → (selected : Cell → Bool) → ((x : Cell) → selected x ≡ true → S x ⊎ T x)
     → (buffer : List ℕ) → length buffer ≡ planBytes s
-    → let F = encodedField s p in
-    let G = erasedField s p selected in
+    → let G = erasedField s F selected in
     Recovered s p F G buffer × (differences (fieldOf F) (fieldOf G) (cellsOf s) ≡ selectedCells s selected)
 
 -- two classes by turns: 10 by 1 of strength 2
@@ -82,10 +80,13 @@ pub record ErasureExamples : Type 0 where
   pub ten-before-six : (decodeNumber turns [] (0 ∷ 2 ∷ 0 ∷ 2 ∷ 1 ∷ 2 ∷ 0 ∷ 0 ∷ 1 ∷ 0 ∷ []) ≡ 10)
       × (correctNumber turns (0 ∷ 2 ∷ 0 ∷ 2 ∷ 1 ∷ 2 ∷ 0 ∷ 0 ∷ 1 ∷ 0 ∷ []) ≡ 10)
       × (decodeNumber turns [] (0 ∷ 2 ∷ 0 ∷ 2 ∷ 1 ∷ 0 ∷ 0 ∷ 0 ∷ 1 ∷ 0 ∷ []) ≡ 6)
-  -- of 2 2 1 both erased cells become 1, and the third, a padding cell, is no 0; of 1 1 2 the padding cell becomes 1
-  pub seven : (decodeNumber (strip 3) [] (2 ∷ 2 ∷ 1 ∷ []) ≡ 7)
-      × (decodeNumber (strip 3) [] (1 ∷ 1 ∷ 2 ∷ []) ≡ 7)
-      × (correctNumber (strip 3) (2 ∷ 2 ∷ 1 ∷ []) ≡ 7)
+  -- of 0 2 1 1 2 both erased cells become 1, and the padding, the third and the fifth cell, is 1 1; of 1 0 2 1 1 it becomes 0 1
+  pub seven : (decodeNumber (strip 5) [] (0 ∷ 2 ∷ 1 ∷ 1 ∷ 2 ∷ []) ≡ 7)
+      × (decodeNumber (strip 5) [] (1 ∷ 0 ∷ 2 ∷ 1 ∷ 1 ∷ []) ≡ 7)
+      × (correctNumber (strip 5) (0 ∷ 2 ∷ 1 ∷ 1 ∷ 2 ∷ []) ≡ 7)
+  -- padding that was not read is filled as it was written: 1 0, or the zeros from before
+  pub filled-padding : (correctLeaves (strip 5) (1 ∷ 1 ∷ 2 ∷ 0 ∷ 2 ∷ []) ≡ 1 ∷ 1 ∷ 1 ∷ 0 ∷ 0 ∷ [])
+      × (correctLeaves (strip 5) (0 ∷ 0 ∷ 2 ∷ 0 ∷ 2 ∷ []) ≡ 0 ∷ 0 ∷ 0 ∷ 0 ∷ 0 ∷ [])
   -- one class of 12 cells with the payload a5: the field, and the cells at positions 3 and 10, 6 and 7, 5 and 6, 12 erased
   pub twelve : encodedField (strip 12) (165 ∷ []) ≡ 1 ∷ 1 ∷ 1 ∷ 0 ∷ 0 ∷ 1 ∷ 0 ∷ 0 ∷ 0 ∷ 1 ∷ 0 ∷ 1 ∷ []
   pub both : Refilled (1 ∷ 1 ∷ 2 ∷ 0 ∷ 0 ∷ 1 ∷ 0 ∷ 0 ∷ 0 ∷ 2 ∷ 0 ∷ 1 ∷ []) 2

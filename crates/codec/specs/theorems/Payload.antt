@@ -1,11 +1,11 @@
 -- The theorems on payloads and padding.
-use Prim.Native.Nat.{ℕ, _*_, _<_, _≤_}
+use Prim.Native.Nat.{ℕ, _+_, _*_, _<_, _≤_}
 use mathlib.Core.List.{List}
 use mathlib.Core.Path.{_≡_}
 use lib.ListN.{length}
 use Rattle.lattice.specs.Position.{Layout}
 use Rattle.lattice.specs.Counting.{count}
-use Rattle.codec.specs.Payload.{Bytes, payloadBit, isPadding, padding}
+use Rattle.codec.specs.Payload.{Bytes, payloadBit, isPadding, padding, earlierPadding}
 
 -- Theorem. A payload is told by its bits: two of one length with the same bits are one.
 abbrev pub BitsTell : Type 0
@@ -17,6 +17,8 @@ BitsTell =
 abbrev pub PaddingFew : Type 0
 PaddingFew = (L : Layout) → count (isPadding L) (L .cells) ≤ 7
 
--- Theorem. Padding is 0.
-abbrev pub PaddingIsZero : Type 0
-PaddingIsZero = (j : ℕ) → padding j ≡ 0
+-- Theorem. The padding's cells 2j and 2j + 1 are 1 and 0, for every j; before, all were 0.
+pub record PaddingPattern : Type 0 where
+  pub even : (j : ℕ) → padding (2 * j) ≡ 1
+  pub odd : (j : ℕ) → padding (2 * j + 1) ≡ 0
+  pub earlier : (j : ℕ) → earlierPadding j ≡ 0

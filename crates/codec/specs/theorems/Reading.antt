@@ -37,8 +37,9 @@ OneNearest =
     (s : Shape) (field : List ℕ) → Readable s field
     → (g h : Field) → NearestTo s (fieldOf field) g → NearestTo s (fieldOf field) h → Same g h (cellsOf s)
 
--- what decoding means: it gives 0 exactly when there is one with right padding, and then leaves the payload that it carries and
--- the number of cells where it differs; 6 exactly when there is none; 7 exactly when there is one with wrong padding
+-- what decoding means: it gives 0 exactly when there is one with right padding, the pattern or zeros, and then leaves the payload
+-- whose bits it has and the number of cells where it differs; 6 exactly when there is none; 7 exactly when there is one with
+-- neither padding
 pub record DecodingMeans (s : Shape) (payload field : List ℕ) : Type 0 where
   pub success : (decodeNumber s payload field ≡ 0) ↔ RightInReach s (fieldOf field)
   pub none : (decodeNumber s payload field ≡ 6) ↔ ((g : Field) → ¬ NearestTo s (fieldOf field) g)

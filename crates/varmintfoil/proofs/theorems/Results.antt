@@ -12,7 +12,7 @@ use Rattle.lattice.specs.DistanceTest.{triplesTried}
 use Rattle.codec.specs.Field.{isCell, isReceived, cellsOk, having, differences}
 use Rattle.codec.specs.Hamming.{tagsOf, flipped}
 use Rattle.codec.specs.Erasure.{erasuresTo, erasedSum, filled, corrected, fewErasures, inReach, allInReach}
-use Rattle.codec.specs.Payload.{payloadBytes, rank, padding, paddingOk, heldPayload}
+use Rattle.codec.specs.Payload.{payloadBytes, rank, padding, earlierPadding, paddedWith, paddingOk, heldPayload}
 use Rattle.codec.specs.Plan.{planClasses, planCapacity, planBytes, planCells}
 use Rattle.codec.specs.Encode.{encodeNumber, encodeLeaves}
 use Rattle.codec.specs.Decode.{fieldNumber, correctedCount, decodeNumber, decodeCount}
@@ -29,7 +29,8 @@ unfolding
     order failsAt outcome testStrengthOk testSettingsOk testNumber verdict foundTriple triplesTried
     isCell isReceived cellsOk having differences tagsOf flipped erasuresTo erasedSum filled corrected
     fewErasures inReach allInReach
-    payloadBytes rank padding paddingOk heldPayload planClasses planCapacity planBytes planCells
+    payloadBytes rank padding earlierPadding paddedWith paddingOk heldPayload
+    planClasses planCapacity planBytes planCells
     encodeNumber encodeLeaves fieldNumber correctedCount decodeNumber decodeCount correctNumber correctCount correctLeaves
 resultExamples =
     record {

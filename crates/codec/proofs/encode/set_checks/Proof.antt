@@ -9,7 +9,7 @@ use borrow.Author.Needs.{needs}
 use Rattle.lattice.specs.Position.{Layout}
 use Rattle.codec.specs.Field.{fieldOf, Same}
 use Rattle.codec.specs.Filling.{checkedTo, ToCheck}
-use Rattle.codec.specs.Payload.{dataField}
+use Rattle.codec.specs.Payload.{padding, dataField}
 use Rattle.codec.proofs.encode.ChecksSet.{checked-none, checked-more, checked-all}
 use Rattle.codec.proofs.encode.set_checks.Statement.{statement}
 use Rattle.codec.proofs.encode.set_checks.Tie as tie
@@ -17,8 +17,8 @@ use Rattle.codec.proofs.encode.set_checks.Tie as tie
 abbrev Inv-loop : tie.InvT-loop
 Inv-loop amount checks places syndromes field₀ k₀ field k =
     (k ≤ amount) × (length field ≡ length field₀)
-    × ((L : Layout) → (p : List ℕ) → ToCheck L p checks places syndromes amount → Same (fieldOf field₀) (dataField L p) (L .cells)
-    → Same (fieldOf field) (checkedTo L p k) (L .cells))
+    × ((L : Layout) → (p : List ℕ) → ToCheck L p checks places syndromes amount
+    → Same (fieldOf field₀) (dataField L padding p) (L .cells) → Same (fieldOf field) (checkedTo L p k) (L .cells))
 
 abbrev μ-loop : tie.MeasureT-loop
 μ-loop amount checks places syndromes field₀ k₀ field k = amount - k

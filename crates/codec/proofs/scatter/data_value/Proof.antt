@@ -19,10 +19,10 @@ padding-value-requires : tie.Need-padding-value-requires
 padding-value-requires c κs = search needs
 
 returns : tie.Need-returns
-returns c = c .payload-bit .ensures ∙ sym (value-bit _ _ _ (omega (arith, c .before .if1 .taken)))
+returns c = c .payload-bit .ensures ∙ sym (value-bit _ _ _ _ (omega (arith, c .before .if1 .taken)))
 
 returns-2 : tie.Need-returns-2
-returns-2 c = c .padding-value .ensures ∙ sym (value-padding _ _ _ (omega (arith, c .before .if1 .left)))
+returns-2 c = c .padding-value .ensures ∙ sym (value-padding _ _ _ _ (omega (arith, c .before .if1 .left)))
 
 pub data-value-spec : {M : Type 1} → statement M
 data-value-spec =
