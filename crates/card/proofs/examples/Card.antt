@@ -18,10 +18,10 @@ use Rattle.codec.specs.Payload.{Bytes}
 use Rattle.codec.specs.Plan.{planBytes}
 use Rattle.codec.specs.Encode.{encodedField}
 use Rattle.codec.specs.Damage.{erasedField}
-use Rattle.codec.proofs.examples.Coding.{accepted, payload, payload-long, payload-bytes}
+use Rattle.codec.proofs.examples.Coding.{accepted, payload, payload-long, payload-bytes, written-from}
 use Rattle.codec.proofs.examples.Erased.{isMate, mates-selected}
-use Rattle.codec.proofs.examples.Windows.{window-payload, window-payload-long, window-payload-bytes, window-written, isEdge}
-use Rattle.codec.proofs.examples.Windows.{window-selected, window-damaged, isEither, windows-selected, windows-erased}
+use Rattle.codec.proofs.examples.Windows.{window-payload, window-payload-long, window-payload-bytes, window-written, window-from}
+use Rattle.codec.proofs.examples.Windows.{isEdge, window-selected, window-damaged, isEither, windows-selected, windows-erased}
 use Rattle.card.specs.declared.header.Header.{Header}
 use Rattle.card.specs.declared.header.HeaderAnswer.the-variants as head
 use Rattle.card.specs.declared.header.WindowLines.the-variants as sides
@@ -82,12 +82,12 @@ unfolding header-first
 card-text = record { first = header-first; card = card; body = Body.payload payload payload-bytes refl }
 
 -- with a cell of each of two clusters erased the card is read
-pub mates-read : answer (fieldCard header (erasedField (shapeOf header) payload isMate))
+pub mates-read : answer (fieldCard header (erasedField (shapeOf header) cells isMate))
     ≡ headerText header ++ (numberLine mendedKey 2 ++ payloadText payload)
 unfolding cellAt
 mates-read =
-    erasedIsRead header card payload payload-long payload-bytes OfThree OfMate three-cluster three-few mate-cluster mate-few
-    isMate mates-selected
+    erasedIsRead header card payload cells payload-long payload-bytes written-from OfThree OfMate three-cluster three-few
+    mate-cluster mate-few isMate mates-selected
 
 -- a card by window: codec's field of 7 columns and 5 rows with a window of 2 rows and 3 columns
 abbrev pub windowHeader : Header
@@ -102,15 +102,15 @@ pub window-read : answer (fieldCard windowHeader window-damaged)
     ++ (numberLine mendedKey (differences (fieldOf window-written) (fieldOf window-damaged) (cellsOf windowField))
     ++ payloadText window-payload)
 window-read =
-    windowIsRead .damaged windowHeader window-card window-rules window-payload window-payload-long window-payload-bytes
-    (negsuc 0) (negsuc 0) isEdge window-selected
+    windowIsRead .damaged windowHeader window-card window-rules window-payload window-written window-payload-long
+    window-payload-bytes window-from (negsuc 0) (negsuc 0) isEdge window-selected
 
 pub windows-read : answer (fieldCard windowHeader windows-erased)
     ≡ headerText windowHeader ++ (numberLine mendedKey 3 ++ payloadText window-payload)
 unfolding cellAt
 windows-read =
-    windowIsRead .erased windowHeader window-card window-rules window-payload window-payload-long window-payload-bytes
-    (negsuc 0) (negsuc 0) (pos 4) (pos 5) isEither windows-selected
+    windowIsRead .erased windowHeader window-card window-rules window-payload window-written window-payload-long
+    window-payload-bytes window-from (negsuc 0) (negsuc 0) (pos 4) (pos 5) isEither windows-selected
 
 -- a payload of the longest answer's field, all 0, whose answer is that long
 pub longest-long : length (blankPayload longestHeader) ≡ planBytes (shapeOf longestHeader)

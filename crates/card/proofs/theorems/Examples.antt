@@ -10,9 +10,10 @@ use Rattle.lattice.specs.Check.{isPower, isCheck, checks, holdsData, capacity}
 use Rattle.codec.specs.Field.{isCell, isReceived, cellsOk, having, differences}
 use Rattle.codec.specs.Hamming.{tagsOf, flipped}
 use Rattle.codec.specs.Erasure.{erasuresTo, fewErasures, erasedSum, filled, corrected, inReach, allInReach}
-use Rattle.codec.specs.Payload.{payloadBytes, rank, payloadBit, padding, dataValue, dataField, encoded, paddingOk, heldPayload}
+use Rattle.codec.specs.Payload.{payloadBytes, rank, payloadBit, padding, earlierPadding, dataValue, dataField, encodedWith}
+use Rattle.codec.specs.Payload.{paddedWith, paddingOk, heldPayload}
 use Rattle.codec.specs.Plan.{planClasses, planCapacity, planBytes, planCells}
-use Rattle.codec.specs.Encode.{encodeNumber, encodedField}
+use Rattle.codec.specs.Encode.{encodeNumber, fieldWith}
 use Rattle.codec.specs.Decode.{fieldNumber, correctedCount, decodeNumber, decodeCount, decodeLeaves}
 use Rattle.card.specs.Text.{digitCount, decimal, numberLine, headerText, hexDigit, payloadText, cellsText, rowText}
 use Rattle.card.specs.Text.{fieldText, refusalText}
@@ -30,9 +31,9 @@ unfolding
     sizeTo position isPower isCheck checks holdsData capacity
     isCell isReceived cellsOk having differences tagsOf flipped
     erasuresTo fewErasures erasedSum filled corrected inReach allInReach
-    payloadBytes rank payloadBit padding dataValue dataField encoded paddingOk heldPayload
+    payloadBytes rank payloadBit padding earlierPadding dataValue dataField encodedWith paddedWith paddingOk heldPayload
     planClasses planCapacity planBytes planCells
-    encodeNumber encodedField
+    encodeNumber fieldWith
     fieldNumber correctedCount decodeNumber decodeCount decodeLeaves
     digitCount decimal numberLine headerText hexDigit payloadText cellsText rowText fieldText refusalText
     keyAt numberEnds numberAt lineAt optionalAt headerOf isHex hexValue payloadOk payloadOf isCellDigit rowOk rowsOk cellsOfRows
@@ -42,10 +43,15 @@ cardExamples =
       written = refl;
       read = refl;
       damaged = refl;
+      first-printed = refl;
+      first-damaged = refl;
       erased = refl;
+      first-erased = refl;
       erased-row = refl;
       zeros-written = refl;
       zeros-read = refl;
+      black-padding = refl;
+      white-padding = refl;
       key-order = refl;
       leading-zero = refl;
       six-digits = refl;
@@ -71,6 +77,7 @@ cardExamples =
       many-erasures = refl;
       out-of-reach = refl;
       wrong-padding = refl;
+      mixed-padding = refl;
       erasures-first = refl;
       erased-out-of-reach = refl;
     }

@@ -20,9 +20,10 @@ use Rattle.lattice.proofs.theory.Counting.{count-mono}
 use Rattle.codec.specs.Field.{isCell, isReceived, cellsOk, having, differences}
 use Rattle.codec.specs.Hamming.{tagsOf, flipped}
 use Rattle.codec.specs.Erasure.{erasuresTo, fewErasures, erasedSum, filled, corrected, inReach, allInReach}
-use Rattle.codec.specs.Payload.{payloadBytes, rank, payloadBit, padding, dataValue, dataField, encoded, paddingOk, heldPayload}
+use Rattle.codec.specs.Payload.{payloadBytes, rank, payloadBit, padding, earlierPadding, dataValue, dataField, encodedWith}
+use Rattle.codec.specs.Payload.{paddedWith, paddingOk, heldPayload}
 use Rattle.codec.specs.Plan.{planClasses, planCapacity, planBytes, planCells}
-use Rattle.codec.specs.Encode.{encodeNumber, encodedField}
+use Rattle.codec.specs.Encode.{encodeNumber, fieldWith}
 use Rattle.codec.specs.Decode.{fieldNumber, correctedCount, decodeNumber, decodeCount, decodeLeaves}
 use Rattle.codec.proofs.theorems.Plan.{planMeaning}
 use Rattle.card.specs.Text.{ascii, digitCount, decimal, numberLine, headerText, hexDigit, payloadText, cellsText, rowText}
@@ -99,9 +100,9 @@ unfolding
     sizeTo position isPower isCheck checks holdsData capacity
     isCell isReceived cellsOk having differences tagsOf flipped
     erasuresTo fewErasures erasedSum filled corrected inReach allInReach
-    payloadBytes rank payloadBit padding dataValue dataField encoded paddingOk heldPayload
+    payloadBytes rank payloadBit padding earlierPadding dataValue dataField encodedWith paddedWith paddingOk heldPayload
     planClasses planCapacity planBytes planCells
-    encodeNumber encodedField
+    encodeNumber fieldWith
     fieldNumber correctedCount decodeNumber decodeCount decodeLeaves
     digitCount decimal numberLine headerText hexDigit payloadText cellsText rowText fieldText refusalText
     keyAt numberEnds numberAt lineAt optionalAt headerOf isHex hexValue payloadOk payloadOf isCellDigit rowOk rowsOk cellsOfRows
@@ -110,6 +111,8 @@ programExamples =
     record {
       written = refl;
       read = refl;
+      earlier = refl;
+      earlier-read = refl;
       window-written = refl;
       window-read = refl;
       input = refl;

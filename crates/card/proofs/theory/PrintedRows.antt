@@ -1,6 +1,7 @@
 -- Card texts there and back: what is printed of a payload is read again, and so are rows from which decoding gives it back.
 use Prim.Native.Nat.{ℕ}
 use mathlib.Core.List.{List, _++_}
+use mathlib.Core.Logic.{inl}
 use mathlib.Core.Path.{_≡_, refl, _∙_, ap}
 use native.Mathlib.Nat.{le-of-lt}
 use lib.ListN.{length}
@@ -8,7 +9,7 @@ use Rattle.lattice.specs.Shape.{cellsOf}
 use Rattle.codec.specs.Field.{fieldOf, differences}
 use Rattle.codec.specs.Payload.{Bytes}
 use Rattle.codec.specs.Plan.{planBytes}
-use Rattle.codec.specs.Encode.{encodedField}
+use Rattle.codec.specs.Encode.{encodedField, WrittenFrom}
 use Rattle.codec.specs.Decode.{decodeNumber, decodeCount, decodeLeaves}
 use Rattle.codec.specs.Damage.{Recovered}
 use Rattle.codec.proofs.theory.Accepted.{encode-number}
@@ -80,6 +81,14 @@ module _ (h : Header) (card : CardHeader h) where
   read-recovered p F G n back count =
       read G (back .decoded-number) ∙ read-text h G p n (back .decoded-count ∙ count) (back .decoded-payload)
 
+  -- so the rows of a field that was written, now or before, are answered with its payload
+  pub read-whole : (p F : List ℕ) → length p ≡ planBytes (shapeOf h) → Bytes p → WrittenFrom (shapeOf h) p F
+      → answer (fieldCard h F) ≡ headerText h ++ (numberLine mendedKey 0 ++ payloadText p)
+  read-whole p F long bytes from =
+      read-recovered p F F 0
+      (nothingToCorrect .written (shapeOf h) (card .accepted) p F long bytes from (blankPayload h) (blank-payload h))
+      (nothingToCorrect .count (fieldOf F) (cellsOf (shapeOf h)))
+
   -- with the line of the classes taken out, what is printed of a payload is the card of the field written, and is read back
   pub read-back : (p : List ℕ) → length p ≡ planBytes (shapeOf h) → Bytes p → ReadBack h p
   unfolding writtenText
@@ -89,8 +98,5 @@ module _ (h : Header) (card : CardHeader h) where
         rest = fieldText h F;
         printed = printed p long bytes;
         rows = refl;
-        read =
-            read-recovered p F F 0
-            (nothingToCorrect .written (shapeOf h) (card .accepted) p long bytes (blankPayload h) (blank-payload h))
-            (nothingToCorrect .count (fieldOf F) (cellsOf (shapeOf h)));
+        read = read-whole p F long bytes (inl refl);
       }

@@ -29,10 +29,21 @@ flat w h = record { columns = w; rows = h; planes = 1; strength = 3; window = si
 pub record ProgramExamples : Type 0 where
   pub written :
       Answers (lines ++ "payload=0b3c71e64a\n")
-      (lines ++ "classes=7\nrow=1000001\nrow=1011000\nrow=0000101\nrow=1010000\nrow=1001111\n"
-      ++ "row=0001110\nrow=0011110\nrow=1001100\nrow=0110010\nrow=0101000\n")
+      (lines ++ "classes=7\nrow=1000001\nrow=1010000\nrow=0000101\nrow=1010000\nrow=1001111\n"
+      ++ "row=0001110\nrow=0011110\nrow=1101100\nrow=0110010\nrow=0101010\n")
   -- three cells lost: row 2, column 3 in both planes, and its neighbour in the second
   pub read :
+      Answers
+      (lines ++ "row=1000001\nrow=1010000\nrow=0001101\nrow=1010000\nrow=1001111\n"
+      ++ "row=0001110\nrow=0011110\nrow=1100000\nrow=0110010\nrow=0101010\n")
+      (lines ++ "mended=3\npayload=0b3c71e64a\n")
+  -- the rows that were printed before, whole and with the same cells lost
+  pub earlier :
+      Answers
+      (lines ++ "row=1000001\nrow=1011000\nrow=0000101\nrow=1010000\nrow=1001111\n"
+      ++ "row=0001110\nrow=0011110\nrow=1001100\nrow=0110010\nrow=0101000\n")
+      (lines ++ "mended=0\npayload=0b3c71e64a\n")
+  pub earlier-read :
       Answers
       (lines ++ "row=1000001\nrow=1011000\nrow=0001101\nrow=1010000\nrow=1001111\n"
       ++ "row=0001110\nrow=0011110\nrow=1000000\nrow=0110010\nrow=0101000\n")
