@@ -13,6 +13,8 @@ use crate::layout::NO_CELL;
 use crate::layout::lay_out;
 use crate::settings;
 use crate::write;
+use crate::write::PATTERN;
+use crate::write::ZEROS;
 use lattice::shape::Shape;
 
 // The value of an unread cell.
@@ -194,6 +196,16 @@ fn spelt(layout: Layout, field: Buffer) -> Buffer {
     spelt
 }
 
+// Whether the cells that a capacity leaves over spell the first bits of the pattern or of the zeros.
+fn is_filler(spelt: u8, capacity: usize) -> bool {
+    let missing = 8 - capacity % 8;
+    let bits = spelt as u16;
+    if bits == (PATTERN as u16) >> missing {
+        return true;
+    }
+    bits == (ZEROS as u16) >> missing
+}
+
 // Mends the first `cells` of a field; there is no payload, and none is asked for. The figure: the count.
 pub fn mend(shape: Shape, field: Buffer, cells: usize) -> Answer
     ensures { λ r. ⌜ (r .number ≤ 11) × (getD (r .figures) 0 0 ≤ 512) ⌝ }
@@ -205,19 +217,21 @@ pub fn mend(shape: Shape, field: Buffer, cells: usize) -> Answer
     if is_soiled(cells, field) {
         return answer::leaving(5, field);
     }
-    let layout = lay_out(shape).layout;
+    let laid = lay_out(shape);
+    let layout = laid.layout;
     let m = settings::settings_of(shape).m;
     if too_many_unread(layout, m, field) {
         return answer::leaving(10, field);
     }
     let found = mend_classes(layout, m, field);
-    let mended = found.buffer;
-    if spelt(layout, mended)[CELLS - 1] != 0 {
-        if found.number == 0 {
-            return answer::leaving(7, field);
-        }
+    if found.number != 0 {
+        return found;
     }
-    found
+    let mended = found.buffer;
+    if is_filler(spelt(layout, mended)[CELLS - 1], laid.capacity) {
+        return found;
+    }
+    answer::leaving(7, field)
 }
 
 // The start of a buffer, before what is left of another.

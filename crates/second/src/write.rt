@@ -1,5 +1,5 @@
 // Writing: the payload's bits and the filler, and then, class by class, the check cells by search.
-ghost use Prim.Native.Nat.{_≤_};
+ghost use Prim.Native.Nat.{_<_, _≤_};
 use crate::answer;
 use crate::answer::Answer;
 use crate::answer::Buffer;
@@ -12,17 +12,20 @@ use crate::layout::lay_out;
 use crate::settings;
 use lattice::shape::Shape;
 
-// Bit k of a payload of so many bytes, the highest bit of a byte first, and past its end the filler.
-fn bit(payload: Buffer, bytes: usize, filler: u8, k: usize) -> u8 {
+// The filler, as a byte behind the payload: its first bits stand in the cells that are left over, of which there are at most 7.
+// Document 02 has 1, 0, 1, 0 and on.
+pub const PATTERN: u8 = 0xaa;
+
+// Document 01 has zeros, which are read too.
+pub const ZEROS: u8 = 0;
+
+// Bit k of a payload of so many bytes with the filler behind it, the highest bit of a byte first.
+fn bit(payload: Buffer, bytes: usize, filler: u8, k: usize) -> u8
+    requires { ⌜ k < 512 ⌝ }
+{
     let q = k / 8;
-    if CELLS <= q {
-        return filler;
-    }
-    if q < bytes {
-        (payload[q] >> (7 - k % 8)) % 2
-    } else {
-        filler
-    }
+    let byte = if q < bytes { payload[q] } else { filler };
+    (byte >> (7 - k % 8)) % 2
 }
 
 // The cells that hold no check, in byte order; a check cell is 0 for now.
@@ -107,8 +110,8 @@ pub(crate) fn refusal(shape: Shape, asked: usize, bytes: usize, cells: usize) ->
     0
 }
 
-// Writes the first `bytes` of a payload into the first `cells` of a field, where those are the lengths of the plan, with cells
-// past the payload that hold `filler`: document 01 has them 0. What lies behind the field stays.
+// Writes the first `bytes` of a payload into the first `cells` of a field, where those are the lengths of the plan, with the
+// first bits of a filler in the cells past the payload. What lies behind the field stays.
 pub fn write(
     shape: Shape,
     payload: Buffer,
