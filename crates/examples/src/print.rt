@@ -42,31 +42,49 @@ pub(crate) const PAYLOAD: usize = 23;
 
 pub(crate) const ROWS: usize = 24;
 
-pub(crate) const WHOLE_CARD: usize = 25;
+pub(crate) const THAT_CARD: usize = 25;
 
-pub(crate) const DAMAGED_CARD: usize = 26;
+pub(crate) const FIRST_PRINTED: usize = 26;
 
-pub(crate) const TWO_CLUSTERS: usize = 27;
+pub(crate) const A_CARD: usize = 27;
 
-pub(crate) const AND_FIRST_ROW: usize = 28;
+pub(crate) const WHOLE: usize = 28;
 
-pub(crate) const FIRST_ROW: usize = 29;
+pub(crate) const FOURTH_10001: usize = 29;
 
-pub(crate) const BEYOND_THE_CLASS: usize = 30;
+pub(crate) const FOURTH_00001: usize = 30;
 
-pub(crate) const LAST_CLASS: usize = 31;
+pub(crate) const TWO_CLUSTERS: usize = 31;
 
-pub(crate) const BYTE_ORDER: usize = 32;
+pub(crate) const AND_FIRST_ROW: usize = 32;
 
-pub(crate) const WINDOW: usize = 33;
+pub(crate) const FIRST_ROW: usize = 33;
 
-pub(crate) const WRITTEN_BY_WINDOW: usize = 34;
+pub(crate) const BEYOND_THE_CLASS: usize = 34;
 
-pub(crate) const TORN_CORNERS: usize = 35;
+pub(crate) const LAST_CLASS: usize = 35;
 
-pub(crate) const TORN_EDGE: usize = 36;
+pub(crate) const BYTE_ORDER: usize = 36;
 
-pub(crate) const TWO_WINDOWS: usize = 37;
+pub(crate) const WINDOW: usize = 37;
+
+pub(crate) const WRITTEN_BY_WINDOW: usize = 38;
+
+pub(crate) const TORN_CORNERS: usize = 39;
+
+pub(crate) const TORN_EDGE: usize = 40;
+
+pub(crate) const TWO_WINDOWS: usize = 41;
+
+pub(crate) const ROW_01111: usize = 42;
+
+pub(crate) const ROW_111000: usize = 43;
+
+pub(crate) const ROW_111: usize = 44;
+
+pub(crate) const ROW_000: usize = 45;
+
+pub(crate) const MENDED: usize = 46;
 
 // A letter of a form, or number k. Gives which number is next.
 fn letter(letter: u8, numbers: Figures, k: usize) -> usize
@@ -106,18 +124,20 @@ pub(crate) fn say(form: usize, numbers: Figures) {
         : # and not #, case #, part #; figures|\x20# # # # # #|\n|\
         # by # in #, strength #|: |accepted, classes #, capacity #, bytes #, cells #|refusal #|\
         , row #, plane #, column #: |class #|count #|payload a5 on a card: written| |#|\
-        , payload %; mended |, rows|that card: read |\
-        that card with third row 10010 and fourth 00001: read |\
-        that card with two clusters of three cells unread: read |\
-        that card with its first row unread too: read |\
-        that card with its first row unread alone: read |\
-        that card with cells 2 and 4 of class 0 turned over: read |\
-        that card with cells 2 and 4 of class 4 turned over: read |\
-        a card with cells 1, 2 and 3 of class 0 alone: read |\
+        , payload %; mended |, rows|that card|the card as first printed|a card|: read |\
+        \x20with third row 10010 and fourth 10001: read |\
+        \x20with third row 10010 and fourth 00001: read |\
+        \x20with two clusters of three cells unread: read |\
+        \x20with its first row unread too: read |\
+        \x20with its first row unread alone: read |\
+        \x20with cells 2 and 4 of class 0 turned over: read |\
+        \x20with cells 2 and 4 of class 4 turned over: read |\
+        \x20with cells 1, 2 and 3 of class 0 alone: read |\
         , window # by #|payload a5 on a card with a window of 2 by 3: written|\
-        that card with three cells aslant turned over: read |\
-        that card with its last two cells turned over: read |\
-        that card with cells of two windows unread: read ",
+        \x20with three cells aslant turned over: read |\
+        \x20with its last two cells turned over: read |\
+        \x20with cells of two windows unread: read |\
+        , row 01111: read |, row 111000: read |, row 111: read |, row 000: read |; mended ",
         form,
         numbers,
     );

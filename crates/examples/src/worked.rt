@@ -1,5 +1,6 @@
 // The worked examples of document 01 that are not proved, a case for each error that it lists, and cards of document 02: with
-// unread cells, and with a window. A line each.
+// unread cells, with a window, and with each padding that is read and some that are not. A line each.
+ghost use Prim.Native.Nat.{_≤_};
 use crate::cases::damage::erased;
 use crate::cases::damage::turned;
 use crate::cases::shapes::shape_of;
@@ -13,6 +14,7 @@ use lattice::shape::Window;
 use second::answer::Answer;
 use second::answer::Buffer;
 use second::answer::CELLS;
+use second::write::ZEROS;
 
 // The number of a refusal, or the figures in a form.
 fn show(form: usize, a: Answer) {
@@ -88,9 +90,10 @@ fn read(shape: Shape, card: Buffer) {
     say(print::PAYLOAD, [read.buffer[0] as usize, 0, 0, 0, 0, 0]);
 }
 
-// And then it is mended.
-fn read_and_mend_by(shape: Shape, name: usize, card: Buffer) {
+// And then it is mended. Its name is followed by what was done to it.
+fn read_and_mend_by(shape: Shape, name: usize, done: usize, card: Buffer) {
     say(name, [0; 6]);
+    say(done, [0; 6]);
     read(shape, card);
     let mended = given::correct(shape, card, CARD);
     show(print::COUNT, mended);
@@ -99,8 +102,8 @@ fn read_and_mend_by(shape: Shape, name: usize, card: Buffer) {
     show_rows(rows);
 }
 
-fn read_and_mend(name: usize, card: Buffer) {
-    read_and_mend_by(CARD_SHAPE, name, card);
+fn read_and_mend(name: usize, done: usize, card: Buffer) {
+    read_and_mend_by(CARD_SHAPE, name, done, card);
 }
 
 fn class(s: Shape, row: usize, plane: usize, column: usize) {
@@ -119,18 +122,24 @@ pub(crate) fn run() {
     edge(256, 256, 1, 33);
     edge(256, 16, 16, 8);
     edge(256, 16, 16, 9);
-    // The card of the payload a5, as encode writes it, whole and with three cells turned over.
+    // The card of the payload a5, as encode writes it.
     let card = given::encode(CARD_SHAPE, [0xa5; CELLS], 1, [0; CELLS], CARD).buffer;
     say(print::WRITTEN, [0; 6]);
     show_rows(card);
-    read_and_mend(print::WHOLE_CARD, card);
-    read_and_mend(
-        print::DAMAGED_CARD,
-        turned(turned(turned(card, 12), 13), 17),
-    );
-    erasures(card);
+    damaged(print::THAT_CARD, print::FOURTH_10001, card);
     errors(card);
+    // The card as document 01 prints it, whose padding is zeros.
+    let first = second::write::write(CARD_SHAPE, [0xa5; CELLS], 1, ZEROS, [0; CELLS], CARD).buffer;
+    damaged(print::FIRST_PRINTED, print::FOURTH_00001, first);
+    paddings();
     windows();
+}
+
+// A card whole, with three cells turned over, and with erased cells.
+fn damaged(name: usize, three: usize, card: Buffer) {
+    read_and_mend(name, print::WHOLE, card);
+    read_and_mend(name, three, turned(turned(turned(card, 12), 13), 17));
+    erasures(name, card);
 }
 
 // The first row of a card erased.
@@ -139,12 +148,12 @@ fn without_first_row(card: Buffer) -> Buffer {
 }
 
 // Two clusters of three cells erased, the first row erased as well, and the first row alone.
-fn erasures(card: Buffer) {
+fn erasures(name: usize, card: Buffer) {
     let one = erased(erased(erased(card, 0), 1), 5);
     let two = erased(erased(erased(one, 18), 19), 24);
-    read_and_mend(print::TWO_CLUSTERS, two);
-    read_and_mend(print::AND_FIRST_ROW, without_first_row(two));
-    read_and_mend(print::FIRST_ROW, without_first_row(card));
+    read_and_mend(name, print::TWO_CLUSTERS, two);
+    read_and_mend(name, print::AND_FIRST_ROW, without_first_row(two));
+    read_and_mend(name, print::FIRST_ROW, without_first_row(card));
 }
 
 // A case for each error.
@@ -157,15 +166,52 @@ fn errors(card: Buffer) {
     class(shape_of(5, 5, 1, 4), 2, 0, 0);
     // 3: the cell that an exclusive or above n names, in the next class. The second and the fourth cell of class 0 are turned
     // over, so the exclusive or is 6, and the class has 5 cells.
-    read_and_mend(print::BEYOND_THE_CLASS, turned(turned(card, 8), 19));
+    read_and_mend(
+        print::THAT_CARD,
+        print::BEYOND_THE_CLASS,
+        turned(turned(card, 8), 19),
+    );
     // 4: a payload that is filled before the last class is known to be in reach. Here the last class is out of reach.
-    read_and_mend(print::LAST_CLASS, turned(turned(card, 7), 18));
+    read_and_mend(
+        print::THAT_CARD,
+        print::LAST_CLASS,
+        turned(turned(card, 7), 18),
+    );
     // 5: positions counted along columns. In byte order the three cells are at positions 1, 2 and 3 of class 0, which is
     // lawful; along columns they would be at 1, 4 and 2.
     read_and_mend(
+        print::A_CARD,
         print::BYTE_ORDER,
         turned(turned(turned([0; CELLS], 0), 8), 11),
     );
+}
+
+// A row at strength 1 with room for no payload is read and mended.
+fn row(columns: u16, digits: usize, field: Buffer)
+    requires { ⌜ columns ≤ 256 ⌝ }
+{
+    let shape = shape_of(columns, 1, 1, 1);
+    let cells = columns as usize;
+    sizes(shape);
+    say(digits, [0; 6]);
+    show(
+        print::COUNT,
+        given::decode(shape, [0; CELLS], 0, field, cells),
+    );
+    say(print::MENDED, [0; 6]);
+    show(print::COUNT, given::correct(shape, field, cells));
+    say(print::END_LINE, [0; 6]);
+}
+
+// Lawful rows: the padding 1, 1 is refused, and so is 1, 0, 0; a padding of one cell is 1 or 0.
+fn paddings() {
+    let zeros = [0; CELLS];
+    let three = turned(turned(turned(zeros, 0), 1), 2);
+    let four = turned(turned(turned(turned(zeros, 1), 2), 3), 4);
+    row(5, print::ROW_01111, four);
+    row(6, print::ROW_111000, three);
+    row(3, print::ROW_111, three);
+    row(3, print::ROW_000, zeros);
 }
 
 // A card of the same size that a window of 2 rows by 3 columns rules: written, with three cells aslant turned over, with cells
@@ -176,11 +222,16 @@ fn torn() {
     say(print::WRITTEN_BY_WINDOW, [0; 6]);
     show_rows(card);
     let aslant = turned(turned(turned(card, 6), 12), 8);
-    read_and_mend_by(shape, print::TORN_CORNERS, aslant);
-    read_and_mend_by(shape, print::TORN_EDGE, turned(turned(card, 23), 24));
+    read_and_mend_by(shape, print::THAT_CARD, print::TORN_CORNERS, aslant);
+    read_and_mend_by(
+        shape,
+        print::THAT_CARD,
+        print::TORN_EDGE,
+        turned(turned(card, 23), 24),
+    );
     let one = erased(erased(erased(card, 0), 6), 2);
     let two = erased(erased(erased(one, 17), 23), 19);
-    read_and_mend_by(shape, print::TWO_WINDOWS, two);
+    read_and_mend_by(shape, print::THAT_CARD, print::TWO_WINDOWS, two);
 }
 
 // Windows at the edge: their plans.

@@ -2,6 +2,7 @@
 ghost use Prim.Native.Nat.{_<_, _≤_};
 use crate::cases::damage;
 use crate::cases::erasures;
+use crate::cases::padding;
 use crate::cases::random;
 use crate::cases::shapes;
 use crate::given;
@@ -11,6 +12,8 @@ use lattice::shape::Shape;
 use second::answer::Answer;
 use second::answer::Buffer;
 use second::answer::CELLS;
+use second::write::PATTERN;
+use second::write::ZEROS;
 
 // The length of the lent field in a case: the plan's, or another one.
 fn field_length(case: usize, cells: usize) -> usize
@@ -49,11 +52,18 @@ fn way(case: usize) -> usize {
     }
 }
 
-// What the cells past the payload hold in a case: 0, but for those with wrong filler.
-fn filler(case: usize) -> u8 {
+// The padding of a case's field, as the first bits of a byte: the pattern or, as often, zeros; but any bits in a fifth of the
+// fields, and in all of the cases with wrong padding.
+fn padding_of(case: usize, x: u64) -> u8 {
+    let any = (x % 256) as u8;
+    let kind = x / 256 % 5;
     match case {
-        8 | 9 | 21 => 1,
-        _ => 0,
+        8 | 9 | 21 => any,
+        _ => match kind {
+            0 | 1 => PATTERN,
+            2 | 3 => ZEROS,
+            _ => any,
+        },
     }
 }
 
@@ -70,26 +80,49 @@ fn damaged(shape: Shape, cells: usize, case: usize, x: u64, written: Buffer) -> 
     erasures::erase(shape, cells, case - ERASURES, x, written)
 }
 
-// Part v of the cases of shape k: a payload is written, and a field, written and damaged, is read and mended.
+// Part v of the cases of shape k, where a field is there: it is read, into a lent payload, and mended.
+pub(crate) fn received(
+    tally: Tally,
+    shape: Shape,
+    field: Buffer,
+    cells: usize,
+    payload: Buffer,
+    bytes: usize,
+    k: usize,
+    v: usize,
+) -> Tally
+    requires { ⌜ (cells ≤ 512) × (bytes ≤ 512) ⌝ }
+{
+    let given = given::decode(shape, payload, bytes, field, cells);
+    let expected = second::read::read(shape, payload, bytes, field, cells);
+    let read = tally::compare(tally, tally::READ, given, expected, k, v);
+    let given = given::correct(shape, field, cells);
+    let expected = second::read::mend(shape, field, cells);
+    tally::compare(read, tally::MEND, given, expected, k, v)
+}
+
+// Part v of the cases of shape k: a payload is written, and a field, written with some padding and damaged, is read and mended.
 fn case(tally: Tally, shape: Shape, cells: usize, bytes: usize, k: usize, v: usize) -> Tally
     requires { ⌜ (0 < cells) × (cells ≤ 512) × (bytes ≤ 512) ⌝ }
 {
     let x = random::seed(k, v);
     let payload = random::buffer(x, 256);
     let before = random::buffer(random::next(x), 256);
-    let written = second::write::write(shape, payload, bytes, filler(v), before, cells).buffer;
+    let written = second::write::write(
+        shape,
+        payload,
+        bytes,
+        padding_of(v, x),
+        before,
+        cells,
+    ).buffer;
     let field = damaged(shape, cells, v, x, written);
     let m = field_length(v, cells);
     let n = payload_length(v, bytes);
     let given = given::encode(shape, payload, n, before, m);
-    let expected = second::write::write(shape, payload, n, 0, before, m);
+    let expected = second::write::write(shape, payload, n, PATTERN, before, m);
     let wrote = tally::compare(tally, tally::WRITE, given, expected, k, v);
-    let given = given::decode(shape, before, n, field, m);
-    let expected = second::read::read(shape, before, n, field, m);
-    let read = tally::compare(wrote, tally::READ, given, expected, k, v);
-    let given = given::correct(shape, field, m);
-    let expected = second::read::mend(shape, field, m);
-    tally::compare(read, tally::MEND, given, expected, k, v)
+    received(wrote, shape, field, m, before, n, k, v)
 }
 
 // Some coordinate of a side, and now and then the first one past it.
@@ -159,15 +192,21 @@ pub(crate) fn length(plan: Answer, i: usize) -> usize
     if n < CELLS { n } else { CELLS }
 }
 
-// All that is compared of one shape. Where the plan's lengths are not those of a small field, others are lent.
+// All that is compared of one shape. Where the plan's lengths are not those of a small field, others are lent. With the last
+// shapes every padding is tried.
 fn all_of(before: Tally, shape: Shape, k: usize) -> Tally {
     let expected = second::placing::plan(shape);
     let planned = tally::compare(before, tally::PLAN, given::plan(shape), expected, k, 0);
     let cells = length(expected, 3);
+    let bytes = length(expected, 2);
     if cells == 0 {
         return cases(planned, shape, 7, 1, k);
     }
-    cases(planned, shape, cells, length(expected, 2), k)
+    let coded = cases(planned, shape, cells, bytes, k);
+    if k < shapes::FOR_PADDING as usize {
+        return coded;
+    }
+    padding::all(coded, shape, cells, bytes, length(expected, 1) % 8, k)
 }
 
 pub(crate) fn all(before: Tally) -> Tally {

@@ -1,6 +1,7 @@
-// Flat shapes, stacks, refused shapes and, from their own module, shapes with a window.
+// Flat shapes, stacks, refused shapes and, from their own modules, shapes with a window and for each number of padding cells.
 ghost use Prim.Native.Nat.{_<_, _≤_};
 use crate::cases::fields::length;
+use crate::cases::padding;
 use crate::cases::random;
 use crate::cases::windows;
 use lattice::shape::Shape;
@@ -30,10 +31,12 @@ const FLAT_EDGES: u16 = 192;
 
 const STACK_EDGES: u16 = 48;
 
-// How many have no window, and how many there are.
+// How many have no window, how many come before those for every padding, and how many there are.
 const PLAIN: u16 = FLAT + STACKS + ODD + FLAT_EDGES + STACK_EDGES;
 
-pub(crate) const SHAPES: u16 = PLAIN + windows::SHAPES;
+pub(crate) const FOR_PADDING: u16 = PLAIN + windows::SHAPES;
+
+pub(crate) const SHAPES: u16 = FOR_PADDING + padding::SHAPES;
 
 // A flat shape of some sides from `low` on.
 fn small(low: u16, columns: usize, rows: usize, x: u64, t: u16) -> Shape
@@ -161,7 +164,8 @@ fn edge_case(k: u16) -> Shape {
     edge(j % 6, 2 + j % 2, j / 6 + 1)
 }
 
-// Shape k: the flat ones, the stacks, the odd ones, those at the edges of the classes, and those with a window.
+// Shape k: the flat ones, the stacks, the odd ones, those at the edges of the classes, those with a window, and those for
+// every padding.
 pub(crate) fn shape(k: u16) -> Shape {
     if k < FLAT {
         return flat(k);
@@ -175,5 +179,8 @@ pub(crate) fn shape(k: u16) -> Shape {
     if k < PLAIN {
         return edge_case(k - FLAT - STACKS - ODD);
     }
-    windows::shape(k - PLAIN)
+    if k < FOR_PADDING {
+        return windows::shape(k - PLAIN);
+    }
+    padding::shape(k - FOR_PADDING)
 }

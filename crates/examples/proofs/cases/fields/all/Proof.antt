@@ -5,10 +5,10 @@ use Rattle.examples.proofs.cases.fields.all.Statement.{statement}
 use Rattle.examples.proofs.cases.fields.all.Tie as tie
 
 abbrev Inv-loop : tie.InvT-loop
-Inv-loop tally₀ k₀ tally k = k ≤ 577
+Inv-loop tally₀ k₀ tally k = k ≤ 598
 
 abbrev μ-loop : tie.MeasureT-loop
-μ-loop tally₀ k₀ tally k = 577 - k
+μ-loop tally₀ k₀ tally k = 598 - k
 
 pub all-spec : {M : Type 1} → statement M
 all-spec =
