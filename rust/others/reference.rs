@@ -1,5 +1,5 @@
-//! The reference implementation: document 01, sentence by sentence, and the erased (unread) cells and the windows (oblong damage) of
-//! document 02, in plain Rust.
+//! The reference implementation: document 01, sentence by sentence, and the erased (unread) cells, the windows (oblong damage) and the
+//! padding (filler) of document 02, in plain Rust.
 //!
 //! It is written to be read and to be compared with, not to be fast. A class is corrected by search, not by its syndrome: the class
 //! as it is and with each one cell flipped is tried, and the codeword among them is taken. Where cells of a class are erased, both
@@ -280,9 +280,10 @@ fn put_class(field: &mut [u8], class: &[usize], values: &[u8]) {
 }
 
 /// The field whose classes are all codewords, with the given bits in the cells that hold no check.
-pub fn field_of_bits(shape: &Shape, bits: &[u8]) -> Vec<u8> {
-    let mut field = vec![0; cells(shape)];
-    put_class(&mut field, &data_cells(shape), bits);
+fn field_of_bits(shape: &Shape, bits: &[u8]) -> Vec<u8> {
+    let (mut field, data) = (vec![0; cells(shape)], data_cells(shape));
+    assert_eq!(bits.len(), data.len());
+    put_class(&mut field, &data, bits);
     for class in classes(shape) {
         let mut values = take_class(&field, &class);
         fill_checks(&mut values);
@@ -300,6 +301,31 @@ fn bits_of(payload: &[u8]) -> Vec<u8> {
 /// The bytes of some bits, highest first; eight bits each.
 fn bytes_of(bits: &[u8]) -> Vec<u8> {
     bits.chunks_exact(8).map(|eight| eight.iter().fold(0, |byte, &bit| byte * 2 + bit)).collect()
+}
+
+/// The padding (filler) of so many cells, as it is written: the bits 1, 0 again and again, cut to its length.
+fn written_padding(cells: usize) -> Vec<u8> {
+    [1, 0].into_iter().cycle().take(cells).collect()
+}
+
+/// The padding of so many cells as it was written before.
+fn earlier_padding(cells: usize) -> Vec<u8> {
+    vec![0; cells]
+}
+
+/// Right padding: all of it is as it is written, or all of it as it was written before.
+fn is_right_padding(padding: &[u8]) -> bool {
+    padding == written_padding(padding.len()) || padding == earlier_padding(padding.len())
+}
+
+/// The field of a payload with a padding, whatever it is, behind the payload's last bit.
+pub fn field_with(shape: &Shape, payload: &[u8], padding: &[u8]) -> Vec<u8> {
+    field_of_bits(shape, &[&bits_of(payload), padding].concat())
+}
+
+/// The field of a payload as it was written before.
+pub fn earlier_field(shape: &Shape, payload: &[u8]) -> Vec<u8> {
+    field_with(shape, payload, &earlier_padding(data_cells(shape).len() % 8))
 }
 
 /// The field of the codewords that the classes stand for, if each stands for one.
@@ -344,13 +370,11 @@ pub fn encode(shape: &Shape, payload: &[u8], field: &mut [u8]) -> Result<(), Num
     if field.len() != plan.cells {
         return Err(4);
     }
-    let mut bits = bits_of(payload);
-    bits.resize(plan.capacity, 0);
-    field.copy_from_slice(&field_of_bits(shape, &bits));
+    field.copy_from_slice(&field_with(shape, payload, &written_padding(plan.capacity % 8)));
     Ok(())
 }
 
-/// The field of codewords in reach, its padding (filler) tested, and its payload: 5, 10, 6, 7.
+/// The field of codewords in reach, its padding tested and left as it is, and its payload: 5, 10, 6, 7.
 fn restore(shape: &Shape, field: &[u8]) -> Result<(Vec<u8>, Vec<u8>), Number> {
     if field.iter().any(|&cell| cell > ERASED) {
         return Err(5);
@@ -362,7 +386,7 @@ fn restore(shape: &Shape, field: &[u8]) -> Result<(Vec<u8>, Vec<u8>), Number> {
     let corrected = corrected_field(&classes, field).ok_or(6usize)?;
     let bits = take_class(&corrected, &data_cells(shape));
     let (payload, padding) = bits.split_at(bits.len() / 8 * 8);
-    if padding.iter().any(|&cell| cell != 0) {
+    if !is_right_padding(padding) {
         return Err(7);
     }
     let payload = bytes_of(payload);

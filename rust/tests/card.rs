@@ -67,18 +67,39 @@ fn window_lines(columns: &str, rows: &str, planes: &str, strength: &str, p: &str
 /// The worked card's first four lines.
 const HEAD: &str = "columns=5\nrows=5\nplanes=1\nstrength=3\n";
 
+/// The worked card: written, and read as it is written and as it was written before, whole and with three cells lost.
 #[test]
 fn the_worked_card() {
     assert_output(
         b"columns=5\nrows=5\nplanes=1\nstrength=3\npayload=a5\n",
-        "columns=5\nrows=5\nplanes=1\nstrength=3\nclasses=5\nrow=11011\nrow=00101\nrow=10100\nrow=00101\nrow=10100\n",
-        "the whole card",
+        "columns=5\nrows=5\nplanes=1\nstrength=3\nclasses=5\nrow=10011\nrow=00101\nrow=10100\nrow=10101\nrow=10110\n",
+        "written",
     );
-    assert_output(
-        b"columns=5\nrows=5\nplanes=1\nstrength=3\nrow=11011\nrow=00101\nrow=10010\nrow=00001\nrow=10100\n",
-        "columns=5\nrows=5\nplanes=1\nstrength=3\nmended=3\npayload=a5\n",
-        "the damaged card",
-    );
+    assert_read(&card_of(["10011", "00101", "10100", "10101", "10110"]), 0, "a5", "whole");
+    assert_read(&card_of(["10011", "00101", "10010", "10001", "10110"]), 3, "a5", "damaged");
+    assert_read(&card_of(["11011", "00101", "10100", "00101", "10100"]), 0, "a5", "as it was written before");
+    assert_read(&card_of(["11011", "00101", "10010", "00001", "10100"]), 3, "a5", "as it was written before, damaged");
+}
+
+/// A card of 7 by 5 in two planes, where no number is another's, in the same ways.
+#[test]
+fn a_card_of_two_planes() {
+    let head = first_lines("7", "5", "2", "3");
+    // By padding the second, eighth and tenth row differ, and by the damage the third and the eighth.
+    let card = |second: &str, third: &str, eighth: &str, tenth: &str| {
+        let first_plane = format!("row=1000001\nrow={second}\nrow={third}\nrow=1010000\nrow=1001111\n");
+        first_plane + &format!("row=0001110\nrow=0011110\nrow={eighth}\nrow=0110010\nrow={tenth}\n")
+    };
+    let written = card("1010000", "0000101", "1101100", "0101010");
+    let payload = "0b3c71e64a";
+    assert_output(format!("{head}payload={payload}\n").as_bytes(), &format!("{head}classes=7\n{written}"), "written");
+    assert_read(&(head.clone() + &written), 0, payload, "whole");
+    let damaged = card("1010000", "0001101", "1100000", "0101010");
+    assert_read(&(head.clone() + &damaged), 3, payload, "damaged");
+    let earlier = card("1011000", "0000101", "1001100", "0101000");
+    assert_read(&(head.clone() + &earlier), 0, payload, "as it was written before");
+    let damaged = card("1011000", "0001101", "1000000", "0101000");
+    assert_read(&(head.clone() + &damaged), 3, payload, "as it was written before, damaged");
 }
 
 #[test]
@@ -129,9 +150,28 @@ fn refused_strengths() {
 fn refused_payloads_and_fields() {
     assert_refusal(&format!("{HEAD}payload=\n"), 3, "an empty payload");
     assert_refusal(&format!("{HEAD}payload=a5a5\n"), 3, "a long payload");
-    assert_refusal("columns=2\nrows=1\nplanes=1\nstrength=1\nrow=11\n", 6, "cells 1 1");
-    assert_refusal("columns=3\nrows=1\nplanes=1\nstrength=1\nrow=111\n", 7, "one data cell, which is padding");
-    assert_refusal("columns=3\nrows=1\nplanes=1\nstrength=1\nrow=101\n", 7, "padding that correction leaves at 1");
+    assert_refusal(&strip("11"), 6, "cells 1 1");
+    assert_refusal(&strip("01111"), 7, "padding 1 1");
+}
+
+/// A card of one row and one class.
+fn strip(row: &str) -> String {
+    first_lines(&row.len().to_string(), "1", "1", "1") + &format!("row={row}\n")
+}
+
+/// Cells 3, 5 and 6 of a class are padding: as it is written, as it was written before, and of another value.
+#[test]
+fn padding_of_cards() {
+    for (row, what) in [("000", "0"), ("111", "1"), ("00000", "0 0"), ("11100", "1 0"), ("000000", "0 0 0"), ("101101", "1 0 1")]
+    {
+        assert_read(&strip(row), 0, "", &format!("padding {what}"));
+    }
+    assert_read(&strip("101"), 1, "", "padding that correction leaves at 1");
+    assert_read(&strip("00100"), 1, "", "padding that correction leaves at 0 0");
+    assert_refusal(&strip("11111"), 7, "padding that correction leaves at 1 1");
+    for (row, what) in [("10011", "0 1"), ("111000", "1 0 0"), ("011110", "1 1 0"), ("010101", "0 0 1")] {
+        assert_refusal(&strip(row), 7, &format!("padding {what}"));
+    }
 }
 
 /// The worked card's first four lines with rows of its own.
@@ -146,23 +186,24 @@ fn assert_read(text: &str, mended: usize, payload: &str, what: &str) {
 
 #[test]
 fn erased_cells() {
-    assert_read(&card_of(["22011", "20101", "10100", "00122", "10102"]), 6, "a5", "two clusters apart");
-    assert_read(&card_of(["11011", "02201", "12200", "02101", "10100"]), 5, "a5", "two clusters that touch");
-    assert_read(&card_of(["11011", "02201", "10200", "00221", "10100"]), 5, "a5", "two clusters that overlap");
-    assert_read(&card_of(["22222", "00101", "10100", "00101", "10100"]), 5, "a5", "the first row");
-    assert_read(&card_of(["11011", "00101", "10100", "00101", "10102"]), 1, "a5", "the last cell");
-    assert_read(&card_of(["21011", "00100", "10100", "00101", "10100"]), 2, "a5", "a cell, and one flipped in another class");
-    assert_refusal(&card_of(["21011", "00111", "10100", "00101", "10100"]), 6, "a cell, and one flipped in its class");
-    assert_refusal(&card_of(["22222", "20101", "10100", "00122", "10102"]), 10, "three cells of a class");
+    assert_read(&card_of(["22011", "20101", "10100", "10122", "10112"]), 6, "a5", "two clusters apart");
+    assert_read(&card_of(["10011", "02201", "12200", "12101", "10110"]), 5, "a5", "two clusters that touch");
+    assert_read(&card_of(["10011", "02201", "10200", "10221", "10110"]), 5, "a5", "two clusters that overlap");
+    assert_read(&card_of(["22222", "00101", "10100", "10101", "10110"]), 5, "a5", "the first row");
+    assert_read(&card_of(["10011", "00101", "10100", "10101", "10112"]), 1, "a5", "the last cell");
+    assert_read(&card_of(["20011", "00100", "10100", "10101", "10110"]), 2, "a5", "a cell, and one flipped in another class");
+    assert_refusal(&card_of(["20011", "00111", "10100", "10101", "10110"]), 6, "a cell, and one flipped in its class");
+    assert_refusal(&card_of(["22222", "20101", "10100", "10122", "10112"]), 10, "three cells of a class");
     assert_refusal(&card_of(["22222", "22222", "22222", "22222", "22222"]), 10, "every cell");
-    let small = |w: usize, row: &str| first_lines(&w.to_string(), "1", "1", "1") + &format!("row={row}\n");
-    assert_read(&small(2, "02"), 1, "", "cells 0 2");
-    assert_read(&small(2, "22"), 2, "", "cells 2 2");
-    assert_refusal(&small(2, "12"), 6, "cells 1 2");
-    assert_refusal(&small(3, "222"), 10, "cells 2 2 2");
-    assert_refusal(&small(3, "112"), 7, "padding that filling makes 1");
-    assert_refusal(&small(4, "3222"), 8, "cells 3 2 2 2");
-    assert_refusal(&(small(3, "222") + "x"), 8, "8 before 10");
+    assert_read(&card_of(["22011", "20101", "10100", "00122", "10102"]), 6, "a5", "as it was written before, two clusters");
+    assert_read(&strip("02"), 1, "", "cells 0 2");
+    assert_read(&strip("22"), 2, "", "cells 2 2");
+    assert_refusal(&strip("12"), 6, "cells 1 2");
+    assert_refusal(&strip("222"), 10, "cells 2 2 2");
+    assert_read(&strip("112"), 1, "", "padding that filling makes 1");
+    assert_refusal(&strip("01112"), 7, "padding that filling makes 1 1");
+    assert_refusal(&strip("3222"), 8, "cells 3 2 2 2");
+    assert_refusal(&(strip("222") + "x"), 8, "8 before 10");
     // The first class of two is out of reach, and then the second has three erased cells.
     let two = |row: &str| first_lines("8", "1", "1", "2") + &format!("row={row}\n");
     assert_refusal(&two("10000010"), 6, "the first class out of reach");
@@ -224,11 +265,11 @@ fn windows_that_are_given_as_zeros() {
     let zeros = "window_rows=0\nwindow_columns=0\n";
     assert_output(
         format!("{HEAD}{zeros}payload=a5\n").as_bytes(),
-        &format!("{HEAD}{zeros}classes=5\nrow=11011\nrow=00101\nrow=10100\nrow=00101\nrow=10100\n"),
+        &format!("{HEAD}{zeros}classes=5\nrow=10011\nrow=00101\nrow=10100\nrow=10101\nrow=10110\n"),
         "written",
     );
     assert_read(
-        &format!("{HEAD}{zeros}row=11011\nrow=00101\nrow=10010\nrow=00001\nrow=10100\n"),
+        &format!("{HEAD}{zeros}row=10011\nrow=00101\nrow=10010\nrow=10001\nrow=10110\n"),
         3,
         "a5",
         "read, with three cells lost",
@@ -385,7 +426,6 @@ fn faults_in_the_first_lines() {
 
 #[test]
 fn faults_in_the_later_lines() {
-    let rows = "row=11011\nrow=00101\nrow=10100\nrow=00101\nrow=10100\n";
     for (rest, what) in [
         ("", "nothing"),
         ("\n", "an empty line"),
@@ -409,36 +449,36 @@ fn faults_in_the_later_lines() {
         ("payload=a5\nx", "a byte after"),
         ("payload=a5\n\0", "a zero byte after"),
         ("payload=a5\npayload=a5\n", "a second payload"),
-        ("payload=a5\nrow=11011\n", "a row after the payload"),
+        ("payload=a5\nrow=10011\n", "a row after the payload"),
         ("payload=\npayload=a5\n", "a second payload after one of the wrong length"),
-        ("classes=5\nrow=11011\nrow=00101\nrow=10100\nrow=00101\nrow=10100\n", "what the program prints"),
-        ("row=11013\nrow=00101\nrow=10100\nrow=00101\nrow=10100\n", "a digit 3"),
-        ("row=11011\nrow=00101\nrow=10100\nrow=00101\nrow=10109\n", "a digit 9 in the last row"),
-        ("row=22222\nrow=22222\nrow=10100\nrow=00101\nrow=10103\n", "8 before 10"),
-        ("row=11011\nrow=00101\nrow=10100\nrow=00101\nrow=1010/\n", "the byte before 0 in the last row"),
-        ("row=11011\nrow=0010\nrow=10100\nrow=00101\nrow=10100\n", "a short row"),
-        ("row=11011\nrow=001011\nrow=10100\nrow=00101\nrow=10100\n", "a long row"),
-        ("row=11011\nrow=001011\nrow=1010\nrow=00101\nrow=10100\n", "a long row and a short one"),
-        ("row=\nrow=00101\nrow=10100\nrow=00101\nrow=10100\n", "an empty row"),
-        ("row=11011\nrow=00101\nrow=10100\nrow=00101\n", "a row too few"),
-        ("row=11011\nrow=00101\nrow=10100\nrow=00101\nrow=10100\nrow=00000\n", "a row too many"),
-        ("row=11011\nrow=00101\nrow=10100\nrow=00101\nrow=10100\n\n", "an empty line after the rows"),
-        ("row=11011\nrow=00101\nrow=10100\nrow=00101\nrow=10100", "the last line feed missing after a row"),
-        ("row=11011\nrow=00101\nrow=10100\nrow=00101\nrow=10100\r\n", "a carriage return in the last row"),
-        ("row=11011\r\nrow=00101\nrow=10100\nrow=00101\nrow=10100\n", "a carriage return in the first row"),
-        ("row=11011\nrow=00101\npayload=a5\n", "a payload among the rows"),
-        ("row=11011\nrow=00101\nrow=10100\nrow=00101\nrow=10100\npayload=a5\n", "a payload after the rows"),
-        ("row=11011\nrows=00101\nrow=10100\nrow=00101\nrow=10100\n", "another key among the rows"),
-        ("row=1101100101\nrow=10100\nrow=00101\nrow=10100\n", "two rows in a line"),
+        ("classes=5\nrow=10011\nrow=00101\nrow=10100\nrow=10101\nrow=10110\n", "what the program prints"),
+        ("row=10013\nrow=00101\nrow=10100\nrow=10101\nrow=10110\n", "a digit 3"),
+        ("row=10011\nrow=00101\nrow=10100\nrow=10101\nrow=10119\n", "a digit 9 in the last row"),
+        ("row=22222\nrow=22222\nrow=10100\nrow=10101\nrow=10113\n", "8 before 10"),
+        ("row=10011\nrow=00101\nrow=10100\nrow=10101\nrow=1011/\n", "the byte before 0 in the last row"),
+        ("row=10011\nrow=0010\nrow=10100\nrow=10101\nrow=10110\n", "a short row"),
+        ("row=10011\nrow=001011\nrow=10100\nrow=10101\nrow=10110\n", "a long row"),
+        ("row=10011\nrow=001011\nrow=1010\nrow=10101\nrow=10110\n", "a long row and a short one"),
+        ("row=\nrow=00101\nrow=10100\nrow=10101\nrow=10110\n", "an empty row"),
+        ("row=10011\nrow=00101\nrow=10100\nrow=10101\n", "a row too few"),
+        ("row=10011\nrow=00101\nrow=10100\nrow=10101\nrow=10110\nrow=00000\n", "a row too many"),
+        ("row=10011\nrow=00101\nrow=10100\nrow=10101\nrow=10110\n\n", "an empty line after the rows"),
+        ("row=10011\nrow=00101\nrow=10100\nrow=10101\nrow=10110", "the last line feed missing after a row"),
+        ("row=10011\nrow=00101\nrow=10100\nrow=10101\nrow=10110\r\n", "a carriage return in the last row"),
+        ("row=10011\r\nrow=00101\nrow=10100\nrow=10101\nrow=10110\n", "a carriage return in the first row"),
+        ("row=10011\nrow=00101\npayload=a5\n", "a payload among the rows"),
+        ("row=10011\nrow=00101\nrow=10100\nrow=10101\nrow=10110\npayload=a5\n", "a payload after the rows"),
+        ("row=10011\nrows=00101\nrow=10100\nrow=10101\nrow=10110\n", "another key among the rows"),
+        ("row=1001100101\nrow=10100\nrow=10101\nrow=10110\n", "two rows in a line"),
         ("row=11111\nrow=11111\nrow=11111\nrow=11111\nrow=11110\nx", "8 before 6"),
         ("payload=a5a5\nx", "8 before 3, a byte after"),
         ("payload=a5a5a\n", "8 before 3, an odd number of digits"),
     ] {
         assert_refusal(&format!("{HEAD}{rest}"), 8, what);
     }
-    assert_refusal(&format!("columns=3\nrows=1\nplanes=1\nstrength=1\nrow=111\n{rows}"), 8, "8 before 7");
+    assert_refusal(&(strip("01111") + "x"), 8, "8 before 7");
     assert_refusal(
-        "columns=5\nrows=5\nplanes=2\nstrength=3\nrow=11011\nrow=00101\nrow=10100\nrow=00101\nrow=10100\n",
+        "columns=5\nrows=5\nplanes=2\nstrength=3\nrow=10011\nrow=00101\nrow=10100\nrow=10101\nrow=10110\n",
         8,
         "one plane of two",
     );
@@ -501,7 +541,7 @@ fn all_kinds() -> Vec<String> {
     let zeros = "00".repeat(Numbers::of_strength(4, 256, 16, 8).plan().unwrap().bytes);
     vec![
         format!("{HEAD}payload=a5\n"),
-        format!("{HEAD}row=11011\nrow=00101\nrow=10010\nrow=00001\nrow=10100\n"),
+        format!("{HEAD}row=10011\nrow=00101\nrow=10010\nrow=10001\nrow=10110\n"),
         window_lines("4", "256", "16", "8", "0", "0") + &format!("payload={zeros}\n"),
         window_lines("5", "5", "1", "0", "2", "3") + "payload=a5\n",
         window_lines("2", "1", "1", "0", "1", "1") + "row=01\n",
@@ -510,10 +550,11 @@ fn all_kinds() -> Vec<String> {
         first_lines("257", "1", "1", "1") + "payload=\n",
         first_lines("5", "5", "1", "33") + "payload=a5\n",
         format!("{HEAD}payload=\n"),
-        first_lines("2", "1", "1", "1") + "row=11\n",
-        first_lines("3", "1", "1", "1") + "row=111\n",
-        first_lines("2", "1", "1", "1") + "row=22\n",
-        first_lines("3", "1", "1", "1") + "row=222\n",
+        strip("11"),
+        strip("111"),
+        strip("01111"),
+        strip("22"),
+        strip("222"),
         format!("{HEAD}payload=A5\n"),
         String::new(),
         "\n".repeat(100_000),

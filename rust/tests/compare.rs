@@ -177,6 +177,11 @@ fn edges_of_the_classes() {
 }
 
 #[test]
+fn every_padding() {
+    padding::try_every_value::<Proved>();
+}
+
+#[test]
 fn clusters_are_undone() {
     undo_clusters::<Proved>(TIMES);
 }

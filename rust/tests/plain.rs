@@ -43,6 +43,11 @@ fn edges_of_the_classes() {
 }
 
 #[test]
+fn every_padding() {
+    padding::try_every_value::<Plain>();
+}
+
+#[test]
 fn clusters_are_undone() {
     undo_clusters::<Plain>(10_000);
     undo_clusters::<Reference>(10_000);

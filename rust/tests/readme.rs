@@ -60,7 +60,7 @@ fn the_commands() {
         std::os::unix::fs::symlink(root().join(name), folder.join(name)).unwrap();
     }
     let commands = commands();
-    assert_eq!(commands.len(), 11, "the README's commands: {commands:?}");
+    assert_eq!(commands.len(), 12, "the README's commands: {commands:?}");
     for (command, expected) in &commands {
         // The C program is built in a folder of its own, so that nothing is left in the repository.
         let place = if command.starts_with("cc ") { folder.clone() } else { root() };

@@ -1,23 +1,41 @@
-//! The reference implementation against the examples of documents 01 and 02, against what is promised of erased cells and of windows,
-//! and against itself where a class is small enough to try everything.
+//! The reference implementation against the examples of documents 01 and 02, against what is promised of padding, of erased cells and of
+//! windows, and against itself where a class is small enough to try everything.
 
 mod common;
 
 use common::reference::*;
-use common::{codec, erasures, reference, windows, Codec, Numbers};
+use common::{codec, erasures, padding, reference, windows, Codec, Numbers};
 
 codec!(Reference, reference, s => (s));
 
-const CARD: &str = "columns=5\nrows=5\nplanes=1\nstrength=3\npayload=a5\n";
-const WRITTEN: &str =
-    "columns=5\nrows=5\nplanes=1\nstrength=3\nclasses=5\nrow=11011\nrow=00101\nrow=10100\nrow=00101\nrow=10100\n";
-const DAMAGED: &str = "columns=5\nrows=5\nplanes=1\nstrength=3\nrow=11011\nrow=00101\nrow=10010\nrow=00001\nrow=10100\n";
-const READ: &str = "columns=5\nrows=5\nplanes=1\nstrength=3\nmended=3\npayload=a5\n";
+/// The worked card's first lines, and those that are written behind them.
+const HEAD: &str = "columns=5\nrows=5\nplanes=1\nstrength=3\n";
+const WRITTEN: &str = "classes=5\nrow=10011\nrow=00101\nrow=10100\nrow=10101\nrow=10110\n";
 
+/// What the card program says to a text.
+fn answer(text: &str) -> String {
+    String::from_utf8(card(text.as_bytes())).unwrap()
+}
+
+/// What it says to the worked card with these rows.
+fn answer_to_rows(rows: [&str; 5]) -> String {
+    let rows: String = rows.iter().map(|row| format!("row={row}\n")).collect();
+    answer(&format!("{HEAD}{rows}"))
+}
+
+/// The worked card's payload, with so many cells mended.
+fn read(mended: usize) -> String {
+    format!("{HEAD}mended={mended}\npayload=a5\n")
+}
+
+/// The worked card as it is written, and as it was written before; each whole, and with three cells lost.
 #[test]
 fn the_worked_card() {
-    assert_eq!(String::from_utf8(card(CARD.as_bytes())).unwrap(), WRITTEN);
-    assert_eq!(String::from_utf8(card(DAMAGED.as_bytes())).unwrap(), READ);
+    assert_eq!(answer(&format!("{HEAD}payload=a5\n")), format!("{HEAD}{WRITTEN}"));
+    assert_eq!(answer_to_rows(["10011", "00101", "10100", "10101", "10110"]), read(0));
+    assert_eq!(answer_to_rows(["10011", "00101", "10010", "10001", "10110"]), read(3));
+    assert_eq!(answer_to_rows(["11011", "00101", "10100", "00101", "10100"]), read(0));
+    assert_eq!(answer_to_rows(["11011", "00101", "10010", "00001", "10100"]), read(3));
 }
 
 #[test]
@@ -57,24 +75,36 @@ fn the_examples_with_erased_cells() {
     assert_read(2, &[2, 2], Ok(2), &[0, 0]);
     assert_read(3, &[2, 2, 2], Err(10), &[2, 2, 2]);
     assert_read(4, &[3, 2, 2, 2], Err(5), &[3, 2, 2, 2]);
-    assert_read(3, &[1, 1, 2], Err(7), &[1, 1, 2]);
+    assert_read(3, &[1, 1, 2], Ok(1), &[1, 1, 1]);
+    assert_read(5, &[0, 1, 1, 1, 2], Err(7), &[0, 1, 1, 1, 2]);
 }
 
-/// The worked card with other rows.
-fn card_of_rows(rows: [&str; 5]) -> String {
-    let rows: String = rows.iter().map(|row| format!("row={row}\n")).collect();
-    let text = format!("columns=5\nrows=5\nplanes=1\nstrength=3\n{rows}");
-    String::from_utf8(card(text.as_bytes())).unwrap()
+/// One padding cell may hold either value; of two or three, cells 3, 5 and 6 of a class, all are as they are written or all are 0.
+#[test]
+fn the_examples_of_padding() {
+    assert_read(3, &[0, 0, 0], Ok(0), &[0, 0, 0]);
+    assert_read(3, &[1, 1, 1], Ok(0), &[1, 1, 1]);
+    assert_read(3, &[1, 1, 0], Ok(1), &[1, 1, 1]);
+    assert_read(5, &[0, 0, 0, 0, 0], Ok(0), &[0, 0, 0, 0, 0]);
+    assert_read(5, &[1, 1, 1, 0, 0], Ok(0), &[1, 1, 1, 0, 0]);
+    assert_read(5, &[1, 0, 0, 1, 1], Err(7), &[1, 0, 0, 1, 1]);
+    assert_read(5, &[0, 1, 1, 1, 1], Err(7), &[0, 1, 1, 1, 1]);
+    assert_read(5, &[0, 0, 1, 0, 0], Ok(1), &[0, 0, 0, 0, 0]);
+    assert_read(6, &[1, 0, 1, 1, 0, 1], Ok(0), &[1, 0, 1, 1, 0, 1]);
+    assert_read(6, &[1, 1, 1, 0, 0, 0], Err(7), &[1, 1, 1, 0, 0, 0]);
 }
 
 #[test]
 fn cards_with_erased_cells() {
-    let head = "columns=5\nrows=5\nplanes=1\nstrength=3\n";
-    let two_clusters = ["22011", "20101", "10100", "00122", "10102"];
-    assert_eq!(card_of_rows(two_clusters), format!("{head}mended=6\npayload=a5\n"));
-    assert_eq!(card_of_rows(["22222", "20101", "10100", "00122", "10102"]), "refusal=10\n");
-    assert_eq!(card_of_rows(["22222", "00101", "10100", "00101", "10100"]), format!("{head}mended=5\npayload=a5\n"));
-    assert_eq!(card_of_rows(["11011", "00101", "10100", "00101", "10103"]), "refusal=8\n");
+    assert_eq!(answer_to_rows(["22011", "20101", "10100", "10122", "10112"]), read(6));
+    assert_eq!(answer_to_rows(["22222", "20101", "10100", "10122", "10112"]), "refusal=10\n");
+    assert_eq!(answer_to_rows(["22222", "00101", "10100", "10101", "10110"]), read(5));
+    assert_eq!(answer_to_rows(["10011", "00101", "10100", "10101", "10113"]), "refusal=8\n");
+}
+
+#[test]
+fn every_padding() {
+    padding::try_every_value::<Reference>();
 }
 
 #[test]
@@ -160,17 +190,13 @@ fn every_class_once_in_a_window() {
 
 #[test]
 fn cards_with_a_window() {
-    let answer = |text: &str| String::from_utf8(card(text.as_bytes())).unwrap();
     let head = "columns=5\nrows=5\nplanes=1\nstrength=0\nwindow_rows=2\nwindow_columns=3\n";
     let written = answer(&format!("{head}payload=a5\n"));
     assert!(written.starts_with(&format!("{head}classes=6\n")), "{written}");
     let rows = written.replace("classes=6\n", "");
     assert_eq!(answer(&rows), format!("{head}mended=0\npayload=a5\n"));
     let zeros = "window_rows=0\nwindow_columns=0\n";
-    assert_eq!(
-        answer(&CARD.replace("payload", &format!("{zeros}payload"))),
-        WRITTEN.replace("classes", &format!("{zeros}classes"))
-    );
+    assert_eq!(answer(&format!("{HEAD}{zeros}payload=a5\n")), format!("{HEAD}{zeros}{WRITTEN}"));
     assert_eq!(answer(&format!("{}payload=a5\n", head.replace("window_rows=2\n", ""))), "refusal=8\n");
     assert_eq!(answer(&format!("{}payload=a5\n", head.replace("strength=0", "strength=3"))), "refusal=11\n");
 }

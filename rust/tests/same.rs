@@ -43,3 +43,8 @@ fn edges_of_the_classes() {
 fn windows_near_the_limits() {
     windows::compare_near_the_limits::<Same>();
 }
+
+#[test]
+fn every_padding() {
+    padding::try_every_value::<Same>();
+}

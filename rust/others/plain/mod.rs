@@ -88,9 +88,11 @@ fn examine(layout: &Layout, field: &[u8]) -> Result<Vec<usize>, usize> {
     let damaged = (0..classes).filter(|&class| syndromes[class] > 0);
     let mut damage: Vec<usize> = damaged.map(|class| layout.cell_at(class, syndromes[class] as usize)).collect();
     damage.sort_unstable();
-    // The last data cells, those that fill no byte, are 0 after correction.
-    let padding = layout.last_data_cells(layout.capacity % 8);
-    if padding.into_iter().any(|cell| field[cell] != u8::from(damage.contains(&cell))) {
+    // The last data cells, those that fill no byte, from the last on: after correction they hold the padding, or zeros.
+    let last = layout.capacity % 8;
+    let values = layout.last_data_cells(last).map(|cell| field[cell] ^ u8::from(damage.contains(&cell)));
+    let held = values.enumerate().fold(0, |held, (i, value)| held | value << i);
+    if held != 0 && held != words::PADDING >> (8 - last) {
         return Err(7);
     }
     Ok(damage)

@@ -41,7 +41,10 @@ pub fn take(cells: &[u8; 64]) -> u64 {
     bits
 }
 
-/// Sixty-four bits of the payload from a bit on, with 0 after its end.
+/// The padding, a bit a cell, from its first cell on.
+pub const PADDING: u8 = 0b1010_1010;
+
+/// Sixty-four bits of the payload from a bit on, with the padding after its end.
 #[inline(always)]
 fn read(payload: &[u8], rank: usize) -> u64 {
     let (byte, shift) = (rank / 8, rank % 8);
@@ -52,7 +55,7 @@ fn read(payload: &[u8], rank: usize) -> u64 {
     if let Some(bytes) = payload.get(byte..byte + 9) {
         return nine(bytes);
     }
-    let mut bytes = [0; 9];
+    let mut bytes = [PADDING; 9];
     let rest = payload.get(byte..).unwrap_or(&[]);
     bytes[..rest.len()].copy_from_slice(rest);
     nine(&bytes)
@@ -86,7 +89,7 @@ fn without_checks(mut bits: u64, mut checks: u64) -> (u64, usize) {
     (bits, count)
 }
 
-/// Writes the payload's bits into the cells that are no checks, and 0 into all others.
+/// Writes the payload's bits and the padding into the cells that are no checks, and 0 into all others.
 pub fn scatter(payload: &[u8], checks: &[u64], field: &mut [u8]) {
     let mut rank = 0;
     let mut words = field.chunks_exact_mut(64);

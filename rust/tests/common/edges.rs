@@ -74,12 +74,11 @@ pub fn edge_shapes() -> Vec<Numbers> {
     flat.chain(stacks).collect()
 }
 
-/// A field written with its padding 0, then with some cells of a hole turned over.
+/// A field with right padding, then with some cells of a hole turned over.
 fn field_with_hole(random: &mut Random, shape: &Numbers) -> Vec<u8> {
     let plan = shape.plan().unwrap();
-    let mut data = random.bits(plan.capacity);
-    data[plan.bytes * 8..].fill(0);
-    let mut field = reference::field_of_bits(shape, &data);
+    let (payload, padding) = (random.bytes(plan.bytes), padding::right(random, plan.capacity % 8));
+    let mut field = reference::field_with(shape, &payload, &padding);
     for cell in hole(random, shape) {
         field[cell] ^= u8::from(!random.once_in(4));
     }

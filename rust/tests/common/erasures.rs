@@ -1,6 +1,7 @@
 //! Erased cells, those that were not read: fields with some, and what must come of them.
 
 use super::clusters::{any_place, bytes_of, grown, joined, Place};
+use super::damage::{assert_refused, assert_undone, erased, written};
 use super::reference::{self, ERASED};
 use super::*;
 
@@ -64,12 +65,6 @@ pub fn of_one_class(random: &mut Random, shape: &Numbers, n: usize) -> Vec<usize
     (0..n).map(|_| class.swap_remove(random.below(class.len()))).collect()
 }
 
-/// The cells after the payload's last bit.
-pub fn padding(shape: &Numbers) -> Vec<usize> {
-    let plan = shape.plan().unwrap();
-    reference::data_cells(shape)[plan.bytes * 8..].to_vec()
-}
-
 /// Erases cells of a field: one, a cluster or two, some of a class, the padding, or cells by chance.
 pub fn erase_some(random: &mut Random, shape: &Numbers, field: &mut [u8]) {
     let lie = random.pick(&[Lie::Apart, Lie::Touching, Lie::Overlapping]);
@@ -81,52 +76,12 @@ pub fn erase_some(random: &mut Random, shape: &Numbers, field: &mut [u8]) {
             let n = random.from(1, 4);
             of_one_class(random, shape, n)
         }
-        8 => padding(shape),
+        8 => padding::cells(shape),
         _ => (0..random.from(1, field.len())).map(|_| random.below(field.len())).collect(),
     };
     for cell in cells {
         field[cell] = ERASED;
     }
-}
-
-/// A payload and its field, as an implementation writes it.
-pub fn written<C: Codec>(random: &mut Random, shape: &Numbers) -> (Vec<u8>, Vec<u8>) {
-    let plan = shape.plan().unwrap();
-    let payload = random.bytes(plan.bytes);
-    let mut field = random.bytes(plan.cells);
-    guards::encode::<C>(shape, &payload, &mut field).unwrap();
-    (payload, field)
-}
-
-/// A damaged field is read as the payload and corrected to the field, with the count of the cells where it differs.
-pub fn assert_undone<C: Codec>(random: &mut Random, shape: &Numbers, payload: &[u8], field: &[u8], damaged: &[u8]) {
-    let count = reference::differences(damaged, field);
-    let mut read = random.bytes(payload.len());
-    assert_eq!(guards::decode::<C>(shape, &mut read, damaged), Ok(count), "{shape:?} {damaged:?}");
-    assert_eq!(read, payload, "{shape:?} {damaged:?}");
-    let mut corrected = damaged.to_vec();
-    assert_eq!(guards::correct::<C>(shape, &mut corrected), Ok(count), "{shape:?} {damaged:?}");
-    assert_eq!(corrected, field, "{shape:?} {damaged:?}");
-}
-
-/// A field is refused with a number, by decode and by correct, which leave every byte.
-fn assert_refused<C: Codec>(random: &mut Random, shape: &Numbers, field: &[u8], number: usize) {
-    let before = random.bytes(shape.plan().unwrap().bytes);
-    let mut read = before.clone();
-    assert_eq!(guards::decode::<C>(shape, &mut read, field), Err(number), "{shape:?} {field:?}");
-    assert_eq!(read, before, "{shape:?} {field:?}");
-    let mut corrected = field.to_vec();
-    assert_eq!(guards::correct::<C>(shape, &mut corrected), Err(number), "{shape:?} {field:?}");
-    assert_eq!(corrected, field, "{shape:?} {field:?}");
-}
-
-/// A field with some cells erased.
-pub fn erased(field: &[u8], cells: &[usize]) -> Vec<u8> {
-    let mut field = field.to_vec();
-    for &cell in cells {
-        field[cell] = ERASED;
-    }
-    field
 }
 
 /// A whole field with two clusters erased, as they may lie, then two and three cells of a class, against the reference.
@@ -191,25 +146,25 @@ pub fn erase_classes<C: Codec>(times: usize) {
     assert!(refused >= 100 || outside::fewer());
 }
 
-/// Erased padding is filled, with 0 where the others are as they were written, and 7 looks at it after filling.
+/// Erased padding is filled with what it was, and 7 looks at it after filling.
 pub fn erase_padding<C: Codec>(times: usize) {
     let mut random = outside::random(14);
     let (mut filled, mut refused) = (0, 0);
     for _ in 0..outside::rounds(times) {
         let shape = lawful_shape(&mut random, C::WINDOWS);
-        let (padding, plan) = (padding(&shape), shape.plan().unwrap());
-        let classes = reference::classes(&shape);
-        if padding.is_empty() || classes.iter().any(|class| class.iter().filter(|cell| padding.contains(cell)).count() > 2) {
+        let (cells, classes) = (padding::cells(&shape), reference::classes(&shape));
+        if cells.is_empty() || classes.iter().any(|class| class.iter().filter(|cell| cells.contains(cell)).count() > 2) {
             continue;
         }
         let (payload, field) = written::<C>(&mut random, &shape);
-        assert_undone::<C>(&mut random, &shape, &payload, &field, &erased(&field, &padding));
+        assert_undone::<C>(&mut random, &shape, &payload, &field, &erased(&field, &cells));
         filled += 1;
-        let mut data = random.bits(plan.capacity);
-        data[plan.bytes * 8 + random.below(padding.len())] = 1;
-        let field = reference::field_of_bits(&shape, &data);
-        assert_refused::<C>(&mut random, &shape, &erased(&field, &padding), 7);
-        refused += 1;
+        let any = random.bits(cells.len());
+        if !padding::is_right(&any) {
+            let field = reference::field_with(&shape, &payload, &any);
+            assert_refused::<C>(&mut random, &shape, &erased(&field, &cells), 7);
+            refused += 1;
+        }
     }
     println!("padding: {filled} filled, {refused} refused");
     assert!(filled >= 100 && refused >= 100 || outside::fewer());

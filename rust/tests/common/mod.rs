@@ -3,10 +3,12 @@
 #![allow(dead_code)]
 
 pub mod clusters;
+pub mod damage;
 pub mod edges;
 pub mod erasures;
 pub mod guards;
 pub mod outside;
+pub mod padding;
 pub mod random;
 #[path = "../../others/reference.rs"]
 pub mod reference;
@@ -152,15 +154,13 @@ pub fn length(random: &mut Random, planned: usize) -> usize {
     random.pick(&other)
 }
 
-/// A field that was encoded, perhaps with padding that is not 0, then damaged within or beyond the strength; or garbage. A byte of
-/// garbage, or of a bad cell, may be that of an erased one.
+/// A field with right padding mostly, sometimes with any, then damaged within or beyond the strength; or garbage. A byte of garbage, or
+/// of a bad cell, may be that of an erased one.
 fn damaged_field(random: &mut Random, shape: &Numbers) -> Vec<u8> {
     let plan = shape.plan().unwrap();
-    let mut data = random.bits(plan.capacity);
-    if !random.once_in(5) {
-        data[plan.bytes * 8..].fill(0);
-    }
-    let mut field = reference::field_of_bits(shape, &data);
+    let (payload, length) = (random.bytes(plan.bytes), plan.capacity % 8);
+    let padding = if random.once_in(4) { random.bits(length) } else { padding::right(random, length) };
+    let mut field = reference::field_with(shape, &payload, &padding);
     let flips = match random.below(12) {
         0 => Vec::new(),
         1..=5 => hole(random, shape),
@@ -390,7 +390,8 @@ pub fn compare_corrections<C: Codec>(times: usize) {
     });
 }
 
-/// The largest shapes: encoded, then decoded and corrected whole, damaged within the promise and beyond it, and with erased cells.
+/// The largest shapes: encoded, then decoded and corrected whole, damaged within the promise and beyond it, with other padding, and with
+/// erased cells.
 pub fn compare_large<C: Codec>() {
     let mut random = outside::random(6);
     let mut tally = Tally::default();
@@ -402,14 +403,12 @@ pub fn compare_large<C: Codec>() {
         guards::encode::<C>(&shape, &payload, &mut field).unwrap();
         let (hole, larger) = (hole(&mut random, &shape), cluster(&mut random, &shape, 3 * shape.extent()));
         for cells in [Vec::new(), hole, larger] {
-            let mut damaged = field.clone();
-            for cell in cells {
-                damaged[cell] ^= 1;
-            }
+            let damaged = damage::flipped(&field, &cells);
             let lent = random.bytes(plan.bytes);
             compare_decode::<C>(&shape, &lent, &damaged, &mut tally);
             compare_correct::<C>(&shape, &damaged, &mut tally);
         }
+        padding::try_some_values::<C>(&mut random, &shape, &payload);
         if C::ERASURES {
             erasures::compare_erased::<C>(&mut random, &shape, &field, &mut tally);
         }
@@ -435,19 +434,13 @@ pub fn compare_long_classes<C: Codec>() {
         if C::ERASURES {
             erasures::compare_erased::<C>(&mut random, &shape, &field, &mut tally);
         }
-        let cell = random.below(2000);
-        field[cell] ^= 1;
-        compare_decode::<C>(&shape, &random.bytes(plan.bytes), &field, &mut tally);
-        compare_correct::<C>(&shape, &field, &mut tally);
-        // The last cell, without the search.
-        field[cell] ^= 1;
-        let whole = field.clone();
-        field[plan.cells - 1] ^= 1;
-        let mut read = random.bytes(plan.bytes);
-        assert_eq!(guards::decode::<C>(&shape, &mut read, &field), Ok(1));
-        assert_eq!(read, payload);
-        assert_eq!(guards::correct::<C>(&shape, &mut field), Ok(1));
-        assert_eq!(field, whole);
+        let damaged = damage::flipped(&field, &[random.below(2000)]);
+        compare_decode::<C>(&shape, &random.bytes(plan.bytes), &damaged, &mut tally);
+        compare_correct::<C>(&shape, &damaged, &mut tally);
+        // The last cell and the padding, without the search.
+        let damaged = damage::flipped(&field, &[plan.cells - 1]);
+        damage::assert_undone::<C>(&mut random, &shape, &payload, &field, &damaged);
+        padding::try_some_values::<C>(&mut random, &shape, &payload);
     }
 }
 
@@ -457,21 +450,10 @@ pub fn undo_clusters<C: Codec>(times: usize) {
     let mut tally = Tally::default();
     for _ in 0..outside::rounds(times) {
         let shape = lawful_shape(&mut random, C::WINDOWS);
-        let plan = shape.plan().unwrap();
-        let payload = random.bytes(plan.bytes);
-        let mut field = random.bytes(plan.cells);
-        guards::encode::<C>(&shape, &payload, &mut field).unwrap();
-        let mut damaged = field.clone();
+        let (payload, field) = damage::written::<C>(&mut random, &shape);
         let hit = hole(&mut random, &shape);
-        let flips = some_of(&mut random, &hit);
-        for &cell in &flips {
-            damaged[cell] ^= 1;
-        }
-        let mut read = random.bytes(plan.bytes);
-        assert_eq!(guards::decode::<C>(&shape, &mut read, &damaged), Ok(flips.len()), "{shape:?} {payload:?} {flips:?}");
-        assert_eq!(read, payload, "{shape:?} {flips:?}");
-        assert_eq!(guards::correct::<C>(&shape, &mut damaged), Ok(flips.len()), "{shape:?} {payload:?} {flips:?}");
-        assert_eq!(damaged, field, "{shape:?} {payload:?} {flips:?}");
+        let cells = some_of(&mut random, &hit);
+        damage::assert_undone::<C>(&mut random, &shape, &payload, &field, &damage::flipped(&field, &cells));
         tally.note(&shape, 0);
     }
     tally.assert_stacks("clusters");

@@ -1,7 +1,7 @@
 //! Windows: shapes that they rule, damage inside one of them, also where it hangs over the field's edge, and what must come of it.
 
 use super::clusters::{any_place, bytes_of, grown, joined, Place};
-use super::erasures::{assert_undone, erased, written};
+use super::damage::{assert_undone, erased, flipped, written, written_now_and_before};
 use super::*;
 use std::collections::BTreeSet;
 
@@ -70,15 +70,6 @@ pub fn any_window(random: &mut Random, shape: &Numbers) -> Vec<usize> {
 fn hangs_over(shape: &Numbers, (row, column): Corner) -> [bool; 4] {
     let past = |first: isize, side: usize, length: usize| first + side as isize > length as isize;
     [row < 0, past(row, shape.p, shape.h), column < 0, past(column, shape.q, shape.w)]
-}
-
-/// A field with some cells flipped.
-fn flipped(field: &[u8], cells: &[usize]) -> Vec<u8> {
-    let mut field = field.to_vec();
-    for &cell in cells {
-        field[cell] ^= 1;
-    }
-    field
 }
 
 /// Any cells of any one window are undone, and counted: windows inside the field and over each of its edges.
@@ -166,13 +157,15 @@ pub fn undo_every_set<C: Codec>(side: usize, window: usize, others: &[(usize, us
     let mut sets = 0;
     let others = others.iter().map(|&(w, h, p, q)| Numbers::of_window(w, h, p, q));
     for shape in small_shapes(side, window).into_iter().chain(others) {
-        let (payload, field) = written::<C>(&mut random, &shape);
+        let (payload, fields) = written_now_and_before::<C>(&mut random, &shape);
         for corner in corners(&shape) {
             let cells = cells_of(&shape, corner);
             for set in 0..1usize << cells.len() {
                 let chosen: Vec<usize> = (0..cells.len()).filter(|i| set >> i & 1 == 1).map(|i| cells[i]).collect();
-                assert_undone::<C>(&mut random, &shape, &payload, &field, &flipped(&field, &chosen));
-                assert_undone::<C>(&mut random, &shape, &payload, &field, &erased(&field, &chosen));
+                for field in &fields {
+                    assert_undone::<C>(&mut random, &shape, &payload, field, &flipped(field, &chosen));
+                    assert_undone::<C>(&mut random, &shape, &payload, field, &erased(field, &chosen));
+                }
                 sets += 1;
             }
         }
@@ -184,10 +177,12 @@ pub fn undo_every_set<C: Codec>(side: usize, window: usize, others: &[(usize, us
 pub fn fill_every_two<C: Codec>(side: usize, window: usize) {
     let mut random = outside::random(20);
     for shape in small_shapes(side, window) {
-        let (payload, field) = written::<C>(&mut random, &shape);
+        let (payload, fields) = written_now_and_before::<C>(&mut random, &shape);
         for (one, other) in corners(&shape).flat_map(|one| corners(&shape).map(move |other| (one, other))) {
             let cells = [cells_of(&shape, one), cells_of(&shape, other)].concat();
-            assert_undone::<C>(&mut random, &shape, &payload, &field, &erased(&field, &cells));
+            for field in &fields {
+                assert_undone::<C>(&mut random, &shape, &payload, field, &erased(field, &cells));
+            }
         }
     }
 }
@@ -217,12 +212,14 @@ pub fn undo_every_patch<C: Codec>(side: usize, most: usize) {
     let mut random = outside::random(21);
     for t in 1..=most {
         let shape = Numbers::of_window(side, side, t, t);
-        let (payload, field) = written::<C>(&mut random, &shape);
+        let (payload, fields) = written_now_and_before::<C>(&mut random, &shape);
         let patches = every_patch(&shape, t);
         println!("{} patches of at most {t} cells", patches.len());
         for patch in patches {
             let cells = bytes_of(&shape, &Vec::from_iter(patch));
-            assert_undone::<C>(&mut random, &shape, &payload, &field, &flipped(&field, &cells));
+            for field in &fields {
+                assert_undone::<C>(&mut random, &shape, &payload, field, &flipped(field, &cells));
+            }
         }
     }
 }
