@@ -14,6 +14,9 @@
  * erased, 2, a cell that was not read. The cell (row, plane, column) is byte (plane * H + row) * W + column. A payload has the number of
  * bytes that varmintfoil_plan gives.
  *
+ * Padding is the cells after the payload's last bit that hold no check, at most 7. It is written as 1, 0, 1, 0 and on, from its first
+ * cell in byte order. Before version 0.4.0 it was written as zeros: such a field is read too, and corrected to the field with zeros.
+ *
  * Every function takes any numbers at all. It answers the number VARMINTFOIL_OK for success, or the number of the first refusal that
  * applies, in the order in which they are listed with it. On a refusal every other figure of the answer is 0 and no byte of any lent
  * buffer has changed.
@@ -32,9 +35,9 @@
 #include <stdint.h>
 
 #define VARMINTFOIL_VERSION_MAJOR 0
-#define VARMINTFOIL_VERSION_MINOR 3
+#define VARMINTFOIL_VERSION_MINOR 4
 #define VARMINTFOIL_VERSION_PATCH 0
-#define VARMINTFOIL_VERSION "0.3.0"
+#define VARMINTFOIL_VERSION "0.4.0"
 
 /* The numbers that the functions give. The card program gives 8 besides, for a fault of form. */
 #define VARMINTFOIL_OK 0                 /* success */
@@ -45,7 +48,7 @@
 #define VARMINTFOIL_OUTSIDE_SHAPE 4      /* a row, plane or column outside the shape, in varmintfoil_class */
 #define VARMINTFOIL_BAD_CELL 5           /* a cell above 2 */
 #define VARMINTFOIL_OUT_OF_REACH 6       /* some class that stands for no codeword, in the words of varmintfoil_decode */
-#define VARMINTFOIL_BAD_PADDING 7        /* padding, the cells after the payload's last bit, that is not 0 after correction */
+#define VARMINTFOIL_BAD_PADDING 7        /* padding that is neither 1, 0, 1, 0 and on nor all zeros after correction */
 #define VARMINTFOIL_BAD_SETTINGS 9       /* settings of the distance test outside its limits */
 #define VARMINTFOIL_TOO_MANY_ERASURES 10 /* some class with three erased cells or more */
 #define VARMINTFOIL_BAD_WINDOW 11        /* strength 0 and p or q 0, p * q above 512 or D above 1; another strength and p or q not 0 */

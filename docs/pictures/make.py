@@ -79,8 +79,8 @@ def classes(t, table):
 
 def cluster():
     t, (m, b) = 3, settings(3)
-    written = ["11011", "00101", "10100", "00101", "10100"]
-    damaged = ["11011", "00101", "10010", "00001", "10100"]
+    written = ["10011", "00101", "10100", "10101", "10110"]
+    damaged = ["10011", "00101", "10010", "10001", "10110"]
     lost = {(r, c) for r in range(5) for c in range(5) if written[r][c] != damaged[r][c]}
     assert len({class_of(t, r, c) for r, c in lost}) == len(lost), "a lost cell shares its class with another"
     top, gap, side = 50, 60, 5 * CELL

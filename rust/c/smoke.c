@@ -16,6 +16,15 @@ static void expect(int holds, const char *what) {
 static const varmintfoil_shape_t card = {.columns = 5, .rows = 5, .planes = 1, .strength = 3};
 
 static const uint8_t written[25] = {
+    1, 0, 0, 1, 1,
+    0, 0, 1, 0, 1,
+    1, 0, 1, 0, 0,
+    1, 0, 1, 0, 1,
+    1, 0, 1, 1, 0,
+};
+
+/* The card as it was written before, with zeros for padding. */
+static const uint8_t earlier[25] = {
     1, 1, 0, 1, 1,
     0, 0, 1, 0, 1,
     1, 0, 1, 0, 0,
@@ -68,6 +77,24 @@ static void the_classes(void) {
     expect(answer.number == VARMINTFOIL_OUTSIDE_SHAPE && answer.class_index == 0, "row 5 lies outside the shape");
 }
 
+/* Does a card read a5 whole, and with three cells lost, two in the third row and one below them, and is it then corrected? */
+static int is_read(const uint8_t *whole) {
+    uint8_t before[1] = {0x3c}, after[1] = {0x3c};
+    uint8_t field[25];
+    varmintfoil_count_t clean, damaged, corrected;
+
+    memcpy(field, whole, 25);
+    clean = varmintfoil_decode(card, before, 1, field, 25);
+    field[12] = 0;
+    field[13] = 1;
+    field[17] = 0;
+    damaged = varmintfoil_decode(card, after, 1, field, 25);
+    corrected = varmintfoil_correct(card, field, 25);
+    return clean.number == VARMINTFOIL_OK && clean.count == 0 && before[0] == 0xa5
+        && damaged.number == VARMINTFOIL_OK && damaged.count == 3 && after[0] == 0xa5
+        && corrected.number == VARMINTFOIL_OK && corrected.count == 3 && memcmp(field, whole, 25) == 0;
+}
+
 static void the_card(void) {
     uint8_t payload[1] = {0xa5};
     uint8_t field[25];
@@ -79,17 +106,8 @@ static void the_card(void) {
     expect(field[0] == 9 && field[24] == 9, "a refusal changes nothing");
     expect(varmintfoil_encode(card, payload, 1, field, 25) == VARMINTFOIL_OK, "encode succeeds");
     expect(memcmp(field, written, 25) == 0, "the field of a5");
-
-    /* The third row 10010 and the fourth 00001. */
-    field[12] = 0;
-    field[13] = 1;
-    field[17] = 0;
-    payload[0] = 0x3c;
-    count = varmintfoil_decode(card, payload, 1, field, 25);
-    expect(count.number == VARMINTFOIL_OK && count.count == 3 && payload[0] == 0xa5, "the damaged card reads a5 with 3 mended");
-    count = varmintfoil_correct(card, field, 25);
-    expect(count.number == VARMINTFOIL_OK && count.count == 3, "the damaged card is corrected in 3 cells");
-    expect(memcmp(field, written, 25) == 0, "the corrected card is the written one");
+    expect(is_read(written), "the card is read, and corrected in 3 cells");
+    expect(is_read(earlier), "so is the card as it was written before");
 
     field[7] = 3;
     payload[0] = 0x3c;
@@ -141,10 +159,13 @@ static void the_window(void) {
 }
 
 static void the_padding(void) {
-    varmintfoil_shape_t three = VARMINTFOIL_SHAPE(.columns = 3, .rows = 1, .planes = 1, .strength = 1);
-    uint8_t cells[3] = {1, 1, 1};
-    varmintfoil_count_t count = varmintfoil_correct(three, cells, 3);
-    expect(count.number == VARMINTFOIL_BAD_PADDING && count.count == 0, "the codeword 1 1 1 holds a 1 as padding");
+    varmintfoil_shape_t strip = VARMINTFOIL_SHAPE(.columns = 3, .rows = 1, .planes = 1, .strength = 1);
+    uint8_t one[3] = {1, 1, 1}, two[5] = {0, 1, 1, 1, 1};
+    varmintfoil_count_t count = varmintfoil_correct(strip, one, 3);
+    expect(count.number == VARMINTFOIL_OK && count.count == 0, "the codeword 1 1 1 holds a 1 as padding");
+    strip.columns = 5;
+    count = varmintfoil_correct(strip, two, 5);
+    expect(count.number == VARMINTFOIL_BAD_PADDING && count.count == 0, "the codeword 0 1 1 1 1 holds 1 1 as padding");
 }
 
 static void no_bytes(void) {

@@ -1,6 +1,6 @@
 /* How much stack each function takes: it is run on a stack painted with one byte, and the lowest byte that changed is looked for. All
  * bytes below the caller's own count, arguments in memory and the return address among them; printed is the most over some shapes,
- * each with a cell flipped and with one erased. */
+ * each with a cell flipped and with one erased, and with its padding as it is written and as it was written before. */
 #include "varmintfoil.h"
 
 #include <stdio.h>
@@ -93,11 +93,15 @@ static const varmintfoil_shape_t shapes[] = {
 int main(void) {
     for (size_t i = 0; i < sizeof calls / sizeof *calls; i++) {
         size_t most = 0;
-        for (size_t j = 0; j < 2 * (sizeof shapes / sizeof *shapes); j++) {
+        for (size_t j = 0; j < 4 * (sizeof shapes / sizeof *shapes); j++) {
             size_t now;
-            shape = shapes[j / 2];
+            shape = shapes[j / 4];
             plan();
             encode();
+            if (j / 2 % 2 == 1) {
+                /* The payload is zeros, and so was its field. */
+                memset(field, 0, cells);
+            }
             field[0] = j % 2 == 0 ? field[0] ^ 1 : VARMINTFOIL_ERASED;
             now = taken(calls[i].call);
             if (now == 0) {

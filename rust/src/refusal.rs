@@ -20,7 +20,7 @@ pub enum Refusal {
     BadCell,
     /// 6: some class with no codeword in reach.
     OutOfReach,
-    /// 7: padding that is not 0 after correction.
+    /// 7: padding that is neither 1, 0, 1, 0 and on nor all zeros after correction.
     BadPadding,
     /// 8: a fault of form in a card text, or a card too large for it.
     BadForm,
@@ -83,7 +83,7 @@ impl fmt::Display for Refusal {
             Refusal::OutsideShape => "the row, plane or column lies outside the shape",
             Refusal::BadCell => "a cell is above 2",
             Refusal::OutOfReach => "the field is damaged beyond correction: some class has no codeword in reach",
-            Refusal::BadPadding => "the cells after the payload are not 0 after correction",
+            Refusal::BadPadding => "the padding is neither 1, 0, 1, 0 and on nor all zeros after correction",
             Refusal::BadForm => "the card text is malformed or too large",
             Refusal::BadSettings => "the settings are outside the limits: m from 1 to 4,096, b and c below m",
             Refusal::TooManyErasures => "some class has three erasures or more",

@@ -156,6 +156,8 @@ pub fn class_of(shape: &Shape, row: usize, plane: usize, column: usize) -> Resul
 }
 
 /// The field of a payload, or `PayloadLength`.
+///
+/// The cells after the payload's last bit that hold no check, its padding, are 1, 0, 1, 0 and on, from the first in byte order.
 pub fn encode(shape: &Shape, payload: &[u8]) -> Result<Vec<u8>, Refusal> {
     let mut field = vec![0; shape.cells()];
     encode_into(shape, payload, &mut field)?;
@@ -171,7 +173,7 @@ pub fn encode_into(shape: &Shape, payload: &[u8], field: &mut [u8]) -> Result<()
 /// `TooManyErasures`, `OutOfReach`, `BadPadding`.
 ///
 /// A class with one or two erased cells is read as the codeword that agrees with every cell that was read, and any other as the
-/// codeword that differs in at most one cell.
+/// codeword that differs in at most one cell. Zeros for padding, as they were written before version 0.4.0, are read too.
 pub fn decode(shape: &Shape, field: &[u8]) -> Result<Decoded, Refusal> {
     let mut payload = vec![0; shape.payload_bytes()];
     let mended = decode_into(shape, field, &mut payload)?;
@@ -185,7 +187,21 @@ pub fn decode_into(shape: &Shape, field: &[u8], payload: &mut [u8]) -> Result<us
 }
 
 /// Corrects a field where it lies and gives the number of cells changed, erased ones among them, or refuses as `decode` does. The
-/// corrected field holds no erased cell.
+/// corrected field holds no erased cell; where it has zeros for padding, it keeps them.
+///
+/// ```
+/// use varmintfoil::{correct, encode, Refusal, Shape};
+///
+/// let shape = Shape::new(3, 1, 1, 1)?;
+/// assert_eq!((shape.capacity(), shape.payload_bytes()), (1, 0));
+/// assert_eq!(encode(&shape, &[])?, [1, 1, 1]);
+///
+/// // Written before, and a cell flipped.
+/// let mut earlier = [0, 1, 0];
+/// assert_eq!(correct(&shape, &mut earlier)?, 1);
+/// assert_eq!(earlier, [0, 0, 0]);
+/// # Ok::<(), Refusal>(())
+/// ```
 pub fn correct(shape: &Shape, field: &mut [u8]) -> Result<usize, Refusal> {
     let answer = ffi::correct(shape.numbers, field);
     check(answer.number).map(|()| answer.count)
