@@ -1,4 +1,4 @@
-//! Padding, the cells after the payload's last bit: fields with any value of it, and what must come of them.
+//! Padding, the cells that hold neither payload nor check: fields with any value of it, and what must come of them.
 
 use super::damage::{assert_refused, assert_undone, encoded, erased, flipped};
 use super::*;
