@@ -3,9 +3,10 @@ pub mod Numbering
 pub mod Clusters
 pub mod Refused
 mod Classes
-mod Distance
+pub mod Distance
 pub mod Labels
 pub mod Windows
+pub mod Used
 pub mod Capacity
 mod Order
 mod Testing

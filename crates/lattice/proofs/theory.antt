@@ -38,6 +38,7 @@ pub mod ClassRemainder
 pub mod Points
 mod FlatLattice
 pub mod FlatPlane
+pub mod FlatPair
 pub mod StackTable
 pub mod WindowCells
 -- positions, checks and the capacity
@@ -49,6 +50,7 @@ pub mod BitLength
 pub mod PowerTest
 pub mod CapacityByClass
 pub mod CapacityGiven
+pub mod UsedClasses
 pub mod Runs
 -- the distance test
 pub mod Scan

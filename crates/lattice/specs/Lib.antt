@@ -14,6 +14,7 @@ pub mod Window
 pub mod Position
 pub mod Class
 pub mod Check
+pub mod Used
 pub mod Endless
 pub mod Order
 pub mod DistanceTest

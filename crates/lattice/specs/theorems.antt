@@ -6,6 +6,7 @@ pub mod Classes
 pub mod Distance
 pub mod Labels
 pub mod Windows
+pub mod Used
 pub mod Capacity
 pub mod Order
 pub mod Testing

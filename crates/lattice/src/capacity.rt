@@ -1,4 +1,4 @@
-// The capacity of a field: the sizes of its classes, and the cells of each that hold no check.
+// The capacity of a field: the sizes of its classes, and the cells of each that hold no check; and the classes that hold a cell.
 ghost use mathlib.Core.Path.{_≡_};
 ghost use mathlib.Core.Logic.{_≢_};
 ghost use Prim.Native.Nat.{ℕ, _+_, _<_, _≤_};
@@ -8,6 +8,7 @@ ghost use Rattle.lattice.specs.Shape.{maxClasses, shapeNumber, Accepted,
 ghost use Rattle.lattice.specs.Class.{layoutOf};
 ghost use Rattle.lattice.specs.Sizes.{HoldsSizes};
 ghost use Rattle.lattice.specs.Check.{isPower, isCheck, checks, dataCells, capacity, dataIn};
+ghost use Rattle.lattice.specs.Used.{usedOf, usedIn};
 use crate::by_lines::sizes_by;
 use crate::refusal::Tested;
 use crate::shape::Shape;
@@ -84,6 +85,25 @@ pub fn data_in(sizes: &[u32; Shape::MAX_CLASSES], classes: usize) -> usize
     sum
 }
 
+// The number of classes that hold at least one cell, where `sizes` holds the size of each of that many classes; 0 for more than
+// there can be.
+pub fn used_in(sizes: &[u32; Shape::MAX_CLASSES], classes: usize) -> usize
+    ensures { λ r. ⌜ (classes ≤ maxClasses → r ≡ usedIn (now (sizes .entry)) classes) ⌝ }
+{
+    if classes > Shape::MAX_CLASSES {
+        return 0;
+    }
+    let mut used: usize = 0;
+    let mut a = 0;
+    while a < classes {
+        if 0 < sizes[a] {
+            used += 1;
+        }
+        a += 1;
+    }
+    used
+}
+
 impl Shape {
     // The number of cells that hold no check; 0 for a shape that the constructor refuses.
     pub fn capacity(self) -> usize
@@ -92,5 +112,14 @@ impl Shape {
         let mut sizes = [0u32; Shape::MAX_CLASSES];
         class_sizes(self, &mut sizes);
         data_in(&sizes, self.classes())
+    }
+
+    // The number of classes that hold at least one cell; 0 for a shape that the constructor refuses.
+    pub fn used_classes(self) -> usize
+        ensures { λ r. ⌜ r ≡ figure (shapeNumber self) (usedOf self) ⌝ }
+    {
+        let mut sizes = [0u32; Shape::MAX_CLASSES];
+        class_sizes(self, &mut sizes);
+        used_in(&sizes, self.classes())
     }
 }

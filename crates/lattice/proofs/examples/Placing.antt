@@ -1,5 +1,5 @@
 -- Examples that meet the hypotheses of the theorems on placing, each in the field of 5 columns, 5 rows and 1 plane of strength 3.
-use Prim.Native.Nat.{ℕ, _≤_, _<_}
+use Prim.Native.Nat.{ℕ, _+_, _≤_, _<_}
 use mathlib.Core.List.{[], _∷_, List·Memᴰ·head, List·Memᴰ·tail}
 use mathlib.Core.Logic.{_≢_}
 use mathlib.Core.Path.{_≡_, refl, sym, ap, _∙_, subst⁻¹}
@@ -15,9 +15,11 @@ use Rattle.lattice.specs.Cluster.{apart, by-row, by-column, Linked, stay
 use Rattle.lattice.specs.Labelling.{labels, Separates}
 use Rattle.lattice.specs.Class.{minusMod, classWith, classesOf, classOf, classAt, classNumber, inside}
 use Rattle.lattice.specs.Endless.{pointOf, HasClass}
+use Rattle.lattice.specs.theorems.Distance.{PairAt}
 use Rattle.lattice.proofs.theory.ByteNumbers.{same-cell}
 use Rattle.lattice.proofs.theory.ClassRemainder.{class-point}
 use Rattle.lattice.proofs.theory.ClassBelow.{class-below}
+use Rattle.lattice.proofs.theorems.Distance.{distanceAttained}
 use Rattle.lattice.proofs.theorems.Labels.{labelsNeeded}
 use Rattle.lattice.proofs.examples.ThreeCells.{Among, cluster-of-three, at-most-three}
 
@@ -40,6 +42,13 @@ wide = lit≤ tt
 
 pub high : field .strength ≤ field .rows
 high = lit≤ tt
+
+-- both sides are even above it
+pub wider : field .strength + 1 ≤ field .columns
+wider = lit≤ tt
+
+pub higher : field .strength + 1 ≤ field .rows
+higher = lit≤ tt
 
 -- two different cells of the field of one class
 abbrev pub corner : Cell
@@ -138,3 +147,7 @@ classes-below i h = class-below field accepted (cellAt field i)
 pub corner-given : classNumber field corner ≡ 0
 unfolding classNumber inside shapeNumber sizeOk strengthOk windowOk isNone maxStrength inRange
 corner-given = refl
+
+-- so there are two cells of one class at distance 3 in it
+pub nearest : PairAt field 3
+nearest = distanceAttained field flat strong wider higher

@@ -15,8 +15,9 @@ use Rattle.lattice.specs.Shape.{Accepted}
 use Rattle.lattice.specs.Cell.{Cell, cell, InField}
 use Rattle.lattice.specs.Cluster.{distance}
 use Rattle.lattice.specs.Class.{classOf}
-use Rattle.lattice.specs.theorems.Distance.{FlatDistance, StackDistance, ClassDistance}
+use Rattle.lattice.specs.theorems.Distance.{FlatDistance, StackDistance, ClassDistance, DistanceAttained}
 use Rattle.lattice.proofs.theory.FlatPlane.{near-is-one}
+use Rattle.lattice.proofs.theory.FlatPair.{flat-pair}
 use Rattle.lattice.proofs.theory.StackTable.{holdsFor, row-holds, row-accepted}
 use Rattle.lattice.proofs.theory.Limits.{strength-stack}
 use Rattle.lattice.proofs.theory.Placements.{either}
@@ -79,3 +80,8 @@ classDistance s accepted x y hx hy same other = either s (λ z. omega arith) (λ
     go : 1 ≤ s .strength → Dec (s .planes ≡ 1) → s .strength ≤ distance x y
     go some (yes d) = flat s accepted some x y hx hy same other d
     go some (no d) = stack s accepted some x y hx hy same other d
+
+-- Theorem. On a flat field with t at least 1 and both sides at least t + 1, there are two cells of one class at distance exactly
+-- t.
+pub distanceAttained : DistanceAttained
+distanceAttained = flat-pair

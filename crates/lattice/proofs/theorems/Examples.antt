@@ -5,6 +5,8 @@ use Rattle.lattice.specs.Shape.{isNone, maxStrength, sizeOk, strengthOk,
 use Rattle.lattice.specs.Settings.{oddSettings, evenSettings, flatSettings, stackTable, stackSettings, settingsFor}
 use Rattle.lattice.specs.Cell.{cellNumber, cellAt}
 use Rattle.lattice.specs.Class.{minusMod, classWith, windowClass, classesOf, classOf, inside, classNumber, classGiven}
+use Rattle.lattice.specs.Cluster.{apart, distance}
+use Rattle.lattice.specs.Used.{isUsed, usedClasses}
 use Rattle.lattice.specs.Position.{sizeTo, position}
 use Rattle.lattice.specs.Check.{isPower, isCheck, dataCells, holdsData, capacity}
 use Rattle.lattice.specs.Order.{order}
@@ -18,6 +20,7 @@ unfolding
     inRange maxStrength sizeOk strengthOk windowOk isNone shapeNumber
     oddSettings evenSettings flatSettings stackTable stackSettings settingsFor
     cellNumber cellAt minusMod classWith windowClass classesOf classOf inside classNumber classGiven
+    isUsed usedClasses apart distance
     sizeTo position isPower isCheck dataCells holdsData capacity
     testStrengthOk testSettingsOk testNumber order failsAt outcome verdict foundTriple triplesTried
 placingExamples =
@@ -26,6 +29,8 @@ placingExamples =
       stack-rows = (refl, refl, refl, refl, refl, refl, refl);
       stack-numbers = (refl, refl, refl, refl, refl, refl, refl, refl);
       flat-classes = (refl, refl, refl);
+      used-classes = (refl, refl, refl, refl, refl, refl, refl);
+      nearest-pair = (refl, refl, refl);
       byte-number = refl;
       positions = (refl, refl);
       check-positions = (refl, refl, refl, refl, refl, refl, refl);

@@ -6,7 +6,7 @@ use mathlib.Core.List.{List, [], _∷_, map, Memᴰ·cast, Memᴰ·map}
 use mathlib.Core.List.{List·Memᴰ, List·Memᴰ·head, List·Memᴰ·tail, List·Memᴰ·not-nil, List·Memᴰ·cases-cons}
 use mathlib.Core.Logic.{_≢_, ⊎-elim}
 use mathlib.Core.Path.{_≡_, refl, ap, _∙_, sym}
-use native.Mathlib.Nat.{not-suc-le-zero}
+use native.Mathlib.Nat.{not-suc-le-zero, le-antisymm}
 use native.Mathlib.Decide.{ℕ-discrete}
 use native.Mathlib.Omega.{arith}
 use borrow.Author.Tests.{eqb-true, eqb-false}
@@ -194,6 +194,18 @@ hits-sound f (suc n) x m = go (f n) refl (hits-sound f n x) m
     go true e before k = ⊎-elim (λ q. (omega arith, ap f q ∙ e)) (λ r. later (before r)) (List·Memᴰ·cases-cons k)
     go false e before k = later (before k)
 
+hits-complete : (f : ℕ → Bool) (n x : ℕ) → x < n → f x ≡ true → List·Memᴰ x (hits f n)
+unfolding hits
+hits-complete f zero x l p = absurd (not-suc-le-zero l)
+hits-complete f (suc n) x l p = go (f n) refl (ℕ-discrete x n) (hits-complete f n x)
+  where
+    go : (b : Bool) → f n ≡ b → Dec (x ≡ n) → (x < n → f x ≡ true → List·Memᴰ x (hits f n))
+        → List·Memᴰ x (cond b (n ∷ hits f n) (hits f n))
+    go true e (yes q) rest = List·Memᴰ·head q
+    go true e (no q) rest = List·Memᴰ·tail (rest (omega arith) p)
+    go false e (yes q) rest = absurd (false≢true (sym e ∙ ap f (sym q) ∙ p))
+    go false e (no q) rest = rest (omega arith) p
+
 hits-distinct : (f : ℕ → Bool) (n : ℕ) → Distinct (hits f n)
 unfolding hits
 hits-distinct f zero = tt
@@ -209,3 +221,24 @@ pub count-covered : {A : Type 0} (g : A → ℕ) (f : ℕ → Bool) (n : ℕ) (l
 count-covered g f n l h =
     rw (← hits-length f n)
     (covered-length g (hits f n) l (hits-distinct f n) (λ x m. let r = hits-sound f n x m in h x (r .0) (r .1)))
+
+-- Where the values of f at the numbers below n are below m, and a test passes just these of the numbers below m, as many pass as
+-- f has different values.
+pub count-values : (f : ℕ → ℕ) (test : ℕ → Bool) (m n : ℕ) → ((i : ℕ) → i < n → f i < m)
+    → ((a : ℕ) → test a ≡ true → ValueBelow f n a) → ((i : ℕ) → i < n → test (f i) ≡ true)
+    → count test m ≡ differentValues f n
+count-values f test m n below sound complete = le-antisymm few many
+  where
+    few : count test m ≤ differentValues f n
+    few =
+        rw (← hits-length test m)
+        (different-values-many f n (hits test m) (hits-distinct test m) (λ x k. sound x (hits-sound test m x k .1)))
+
+    passed : (x : ℕ) → List·Memᴰ x (values f n) → List·Memᴰ x (hits test m)
+    passed x k =
+        let r = values-sound f n x k in
+        hits-complete test m x (rw (r .2) (below (r .0) (r .1))) (rw (r .2) (complete (r .0) (r .1)))
+
+    many : differentValues f n ≤ count test m
+    many =
+        rw (← values-length f n, ← hits-length test m) (pigeonhole (values f n) (hits test m) (values-distinct f n) passed)

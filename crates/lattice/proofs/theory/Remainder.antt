@@ -1,6 +1,6 @@
 -- Remainders: numbers with one remainder differ by a multiple, and the remainder of a difference.
 use Prim.Native.Nat.{ℕ, zero, suc, _+_, _-_, _*_, _/_, _%_, _<_, _≤_}
-use mathlib.Core.Path.{_≡_, sym, _∙_, ap, ap₂}
+use mathlib.Core.Path.{_≡_, refl, sym, _∙_, ap, ap₂}
 use native.Mathlib.Nat.{mul-comm, mul-sub, add-mod, mod-add-div, mod-lt, add-mul-mod-self-left, mod-add-mod, mod-eq-of-lt}
 use native.Mathlib.Nat.{lt-of-not-le}
 use native.Mathlib.Decide.{decLe}
@@ -72,3 +72,10 @@ module _ (m : ℕ) (some : 0 < m) where
       sym (mod-eq-of-lt l)
       ∙ cancel-same r (minusMod a z m) z m (e ∙ sym (minus-adds a z))
       ∙ mod-eq-of-lt (minus-below a z)
+
+  -- two differences leave one remainder where the sums crosswise do
+  pub minus-same : (a z a′ z′ : ℕ) → (a + z′) % m ≡ (a′ + z) % m → minusMod a z m ≡ minusMod a′ z′ m
+  minus-same a z a′ z′ e =
+      minus-only a′ z′ (minusMod a z m) (minus-below a z)
+      (cancel-same (minusMod a z m + z′) a′ z m
+      (ap (λ (n : ℕ). n % m) (omega arith) ∙ add-same (minusMod a z m + z) a z′ z′ m (minus-adds a z) refl ∙ e))

@@ -44,7 +44,7 @@ square-most : (t n : ℕ) → t ≤ n → t * t ≤ n * n
 square-most t n p = mul-le-mul p p
 
 -- every flat strength of at least 1 has at least one class
-flat-some : (t : ℕ) → 1 ≤ t → 1 ≤ flatSettings t .m
+pub flat-some : (t : ℕ) → 1 ≤ t → 1 ≤ flatSettings t .m
 unfolding oddSettings evenSettings
 flat-some t p = go (eqb (t % 2) 1) refl
   where

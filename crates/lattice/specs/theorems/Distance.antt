@@ -1,5 +1,5 @@
 -- The theorems on the distance of cells of one class.
-use Prim.Native.Nat.{ℕ, _≤_}
+use Prim.Native.Nat.{ℕ, _+_, _≤_}
 use mathlib.Core.Logic.{_≢_}
 use mathlib.Core.Path.{_≡_}
 use Rattle.lattice.specs.declared.shape.Shape.{Shape}
@@ -24,3 +24,19 @@ FlatDistance = (t : ℕ) → 1 ≤ t → ApartOnPlane (flatSettings t) t
 -- table.
 abbrev pub StackDistance : Type 0
 StackDistance = (t : ℕ) → 1 ≤ t → t ≤ maxStackStrength → Apart (stackSettings t) t
+
+-- two cells of the field, of one class, at distance d
+pub record PairAt (s : Shape) (d : ℕ) : Type 0 where
+  pub first : Cell
+  pub second : Cell
+  pub first-inside : InField s first
+  pub second-inside : InField s second
+  pub class : classOf s first ≡ classOf s second
+  pub apart : distance first second ≡ d
+
+-- Theorem. The least distance is attained: on every flat field with t at least 1 and both sides at least t + 1, there are two
+-- cells of one class at distance exactly t.
+abbrev pub DistanceAttained : Type 0
+DistanceAttained =
+    (s : Shape) → s .planes ≡ 1 → 1 ≤ s .strength → s .strength + 1 ≤ s .columns → s .strength + 1 ≤ s .rows
+    → PairAt s (s .strength)

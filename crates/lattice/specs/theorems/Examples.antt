@@ -1,5 +1,6 @@
 -- Our own examples of placing, worked by hand: classes that tell row, plane and column apart and each number of the settings,
--- positions and checks, each limit with the number one beyond it, a triple that is found, and the numbers of the refusals.
+-- classes that hold a cell, two cells of one class as near as can be, positions and checks, each limit with the number one beyond
+-- it, a triple that is found, and the numbers of the refusals.
 use Prim.Native.Nat.{ℕ}
 use mathlib.Core.Bool.{true, false}
 use mathlib.Core.Path.{_≡_}
@@ -10,7 +11,9 @@ use Rattle.lattice.specs.Refusal.{refusalNumber}
 use Rattle.lattice.specs.Shape.{window, noWindow, shapeNumber, maxSide, maxPlanes, maxCells, maxFlatStrength}
 use Rattle.lattice.specs.Shape.{maxStackStrength, maxClasses}
 use Rattle.lattice.specs.Cell.{cell, cellNumber}
+use Rattle.lattice.specs.Cluster.{distance}
 use Rattle.lattice.specs.Class.{classNumber, classGiven, classesOf, layoutOf}
+use Rattle.lattice.specs.Used.{usedOf}
 use Rattle.lattice.specs.Position.{position}
 use Rattle.lattice.specs.Check.{isCheck, dataCells, capacity}
 use Rattle.lattice.specs.Order.{triple}
@@ -57,6 +60,22 @@ pub record PlacingExamples : Type 0 where
       (classGiven (sized 1 2 1 4) (cell 1 0 0) ≡ 3)
       × (classGiven (sized 1 13 1 5) (cell 12 0 0) ≡ 5)
       × (classGiven (sized 1 2 1 6) (cell 1 0 0) ≡ 11)
+  -- the classes that hold a cell: all 5 of 5 by 5 at t = 3, and 3 of 13 where 3 columns by 1 row have t = 5; by a window of 512
+  -- rows and 1 column 9 of 512 on 9 by 9; by one of 2 rows and 3 columns 3 of 6 on one row of 5 cells and 2 on one column; and 6
+  -- of 7 in a stack of 3 columns, 1 row and 2 planes at t = 3, where plane 0 has 0, 1, 2 and plane 1 has 4, 5, 6
+  pub used-classes :
+      (usedOf (sized 5 5 1 3) ≡ 5)
+      × (usedOf (sized 3 1 1 5) ≡ 3)
+      × (classesOf (sized 3 1 1 5) ≡ 13)
+      × (usedOf (windowed 9 9 512 1) ≡ 9)
+      × (usedOf (windowed 5 1 2 3) ≡ 3)
+      × (usedOf (windowed 1 5 2 3) ≡ 2)
+      × (usedOf (sized 3 1 2 3) ≡ 6)
+  -- at t = 3 row 0, column 2 and row 1, column 0 are of class 2, and 3 apart
+  pub nearest-pair :
+      (classGiven (sized 5 5 1 3) (cell 0 0 2) ≡ 2)
+      × (classGiven (sized 5 5 1 3) (cell 1 0 0) ≡ 2)
+      × (distance (cell 0 0 2) (cell 1 0 0) ≡ 3)
   -- row 1, plane 1, column 2 of 7 columns, 5 rows, 2 planes: (1 × 5 + 1) × 7 + 2
   pub byte-number : cellNumber (sized 7 5 2 3) (cell 1 1 2) ≡ 44
   -- positions in byte order, from 1: at strength 1 all cells are of one class
