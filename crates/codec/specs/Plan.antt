@@ -1,10 +1,12 @@
--- The plan of a field: its classes, capacity, payload bytes and cells, each 0 where the shape is refused.
+-- The plan of a field: its classes, capacity, payload bytes, cells and classes that hold a cell, each 0 where the shape is
+-- refused.
 use Prim.Native.Nat.{ℕ, _/_}
 use Rattle.lattice.specs.declared.shape.Shape.{Shape}
 use Rattle.lattice.specs.Refusal.{figure}
 use Rattle.lattice.specs.Shape.{shapeNumber, cellsOf}
 use Rattle.lattice.specs.Class.{classesOf, layoutOf}
 use Rattle.lattice.specs.Check.{capacity}
+use Rattle.lattice.specs.Used.{usedOf}
 
 -- the number: the constructor's
 abbrev pub planNumber : Shape → ℕ
@@ -24,3 +26,7 @@ planBytes s = planCapacity s / 8
 
 unfoldable pub planCells : Shape → ℕ
 planCells s = figure (planNumber s) (cellsOf s)
+
+-- the number of classes that hold at least one cell
+unfoldable pub planUsed : Shape → ℕ
+planUsed s = figure (planNumber s) (usedOf s)

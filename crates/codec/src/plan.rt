@@ -1,16 +1,20 @@
 // The plan of a field.
 ghost use mathlib.Core.Path.{_≡_};
 ghost use Rattle.codec.specs.Answer.{IsPlan, planAnswerNumber, planFigures};
+use lattice::capacity::class_sizes;
+use lattice::capacity::data_in;
+use lattice::capacity::used_in;
 use lattice::refusal::Refusal;
 use lattice::refusal::Tested;
 use lattice::shape::Shape;
 
-// The classes m, the capacity K, the payload's bytes and the cells.
+// The classes m, the capacity K, the payload's bytes, the cells, and how many of the classes hold at least one cell.
 pub struct FieldPlan {
     pub classes: usize,
     pub capacity: usize,
     pub bytes: usize,
     pub cells: usize,
+    pub used: usize,
 }
 
 // The plan, or the refusal 1, 2 or 11.
@@ -30,7 +34,7 @@ impl PlanAnswer {
         }
     }
 
-    // The four figures, each 0 beside a refusal.
+    // The five figures, each 0 beside a refusal.
     pub fn figures(self) -> FieldPlan
         ensures { λ r. ⌜ r ≡ planFigures self ⌝ }
     {
@@ -41,6 +45,7 @@ impl PlanAnswer {
                 capacity: 0,
                 bytes: 0,
                 cells: 0,
+                used: 0,
             },
         }
     }
@@ -54,11 +59,16 @@ pub fn plan(shape: Shape) -> PlanAnswer
     if let Tested::Refused(why) = tested {
         return PlanAnswer::Refused(why);
     }
-    let capacity = shape.capacity();
+    let mut sizes = [0u32; Shape::MAX_CLASSES];
+    class_sizes(shape, &mut sizes);
+    let classes = shape.classes();
+    let capacity = data_in(&sizes, classes);
+    let used = used_in(&sizes, classes);
     PlanAnswer::Planned(FieldPlan {
-        classes: shape.classes(),
+        classes,
         capacity,
         bytes: capacity / 8,
         cells: shape.cells(),
+        used,
     })
 }

@@ -7,7 +7,7 @@ use Rattle.lattice.specs.declared.shape.Shape.{Shape}
 use Rattle.lattice.specs.Cell.{Cell}
 use Rattle.lattice.specs.Class.{classNumber, classGiven}
 use Rattle.lattice.specs.DistanceTest.{testNumber, verdict, foundTriple, triplesTried}
-use Rattle.codec.specs.Plan.{planNumber, planClasses, planCapacity, planBytes, planCells}
+use Rattle.codec.specs.Plan.{planNumber, planClasses, planCapacity, planBytes, planCells, planUsed}
 use Rattle.codec.specs.Encode.{encodeNumber, encodeLeaves}
 use Rattle.codec.specs.Decode.{decodeNumber, decodeCount, decodeLeaves}
 use Rattle.codec.specs.Correct.{correctNumber, correctCount, correctLeaves}
@@ -21,13 +21,14 @@ abbrev pub asNumber : Bool → ℕ
 asNumber true = 1
 asNumber false = 0
 
--- the number and the four figures of the plan
+-- the number and the five figures of the plan
 pub record IsPlanResult (s : Shape) (r : PlanResult) : Type 0 where
   pub number : r .number ≡ planNumber s
   pub classes : r .classes ≡ planClasses s
   pub capacity : r .capacity ≡ planCapacity s
   pub bytes : r .bytes ≡ planBytes s
   pub cells : r .cells ≡ planCells s
+  pub used : r .used ≡ planUsed s
 
 -- the number and the class of a cell
 pub record IsClassResult (s : Shape) (x : Cell) (r : ClassResult) : Type 0 where

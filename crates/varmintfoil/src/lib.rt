@@ -23,6 +23,7 @@ pub struct PlanResult {
     pub capacity: usize,
     pub bytes: usize,
     pub cells: usize,
+    pub used: usize,
 }
 
 #[repr(C)]
@@ -54,7 +55,7 @@ fn as_number(verdict: bool) -> usize
     verdict as usize
 }
 
-// The classes, the capacity, the payload's bytes and the cells of a shape, or the refusal 1, 2 or 11.
+// The classes, the capacity, the payload's bytes, the cells and the classes that hold a cell, or the refusal 1, 2 or 11.
 #[no_mangle]
 pub extern "C" fn varmintfoil_plan(shape: ShapeNumbers) -> PlanResult
     ensures { λ r. ⌜ IsPlanResult (shapeFrom shape) r ⌝ }
@@ -67,6 +68,7 @@ pub extern "C" fn varmintfoil_plan(shape: ShapeNumbers) -> PlanResult
         capacity: figures.capacity,
         bytes: figures.bytes,
         cells: figures.cells,
+        used: figures.used,
     }
 }
 

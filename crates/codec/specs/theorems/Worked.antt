@@ -7,7 +7,7 @@ use Rattle.lattice.specs.Shape.{noWindow}
 use Rattle.lattice.specs.theorems.Windows.{windowed}
 use Rattle.lattice.specs.declared.shape.Shape.{Shape}
 use Rattle.codec.specs.Field.{fieldOf, differences}
-use Rattle.codec.specs.Plan.{planClasses, planCapacity, planBytes, planCells}
+use Rattle.codec.specs.Plan.{planClasses, planCapacity, planBytes, planCells, planUsed}
 use Rattle.codec.specs.Encode.{encodeNumber, encodedField, earlierField}
 use Rattle.codec.specs.Decode.{decodeNumber, decodeCount}
 use Rattle.codec.specs.Correct.{correctNumber, correctCount, correctLeaves}
@@ -51,10 +51,20 @@ earlierCells =
 abbrev pub strip : ℕ → Shape
 strip n = record { columns = n; rows = 1; planes = 1; strength = 1; window = noWindow }
 
+-- 3 columns by 1 row of strength 5
+abbrev pub narrow : Shape
+narrow = record { columns = 3; rows = 1; planes = 1; strength = 5; window = noWindow }
+
 -- Theorem. The examples hold.
 pub record CodingExamples : Type 0 where
   -- 7 classes of 10 cells with 4 checks each: 42 data cells, 5 bytes and 2 padding cells
-  pub plan : (planClasses stack ≡ 7) × (planCapacity stack ≡ 42) × (planBytes stack ≡ 5) × (planCells stack ≡ 70)
+  pub plan : (planClasses stack ≡ 7)
+      × (planCapacity stack ≡ 42)
+      × (planBytes stack ≡ 5)
+      × (planCells stack ≡ 70)
+      × (planUsed stack ≡ 7)
+  -- 3 columns by 1 row at t = 5: of 13 classes 3 hold a cell
+  pub narrow : (planClasses narrow ≡ 13) × (planUsed narrow ≡ 3)
   pub written : encodedField stack bytes ≡ cells
   pub earlier : earlierField stack bytes ≡ earlierCells
   -- a class of five cells has room for no byte

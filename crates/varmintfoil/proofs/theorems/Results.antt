@@ -6,6 +6,7 @@ use Rattle.lattice.specs.Cell.{cellAt}
 use Rattle.lattice.specs.Class.{minusMod, classWith, windowClass, classesOf, classOf, inside, classNumber, classGiven}
 use Rattle.lattice.specs.Position.{sizeTo, position}
 use Rattle.lattice.specs.Check.{isPower, isCheck, checks, holdsData, capacity}
+use Rattle.lattice.specs.Used.{isUsed, usedClasses}
 use Rattle.lattice.specs.Order.{order}
 use Rattle.lattice.specs.DistanceTest.{failsAt, outcome, testStrengthOk, testSettingsOk, testNumber, verdict, foundTriple}
 use Rattle.lattice.specs.DistanceTest.{triplesTried}
@@ -13,7 +14,7 @@ use Rattle.codec.specs.Field.{isCell, isReceived, cellsOk, having, differences}
 use Rattle.codec.specs.Hamming.{tagsOf, flipped}
 use Rattle.codec.specs.Erasure.{erasuresTo, erasedSum, filled, corrected, fewErasures, inReach, allInReach}
 use Rattle.codec.specs.Payload.{payloadBytes, rank, padding, earlierPadding, paddedWith, paddingOk, heldPayload}
-use Rattle.codec.specs.Plan.{planClasses, planCapacity, planBytes, planCells}
+use Rattle.codec.specs.Plan.{planClasses, planCapacity, planBytes, planCells, planUsed}
 use Rattle.codec.specs.Encode.{encodeNumber, encodeLeaves}
 use Rattle.codec.specs.Decode.{fieldNumber, correctedCount, decodeNumber, decodeCount}
 use Rattle.codec.specs.Correct.{correctNumber, correctCount, correctLeaves}
@@ -30,16 +31,17 @@ unfolding
     isCell isReceived cellsOk having differences tagsOf flipped erasuresTo erasedSum filled corrected
     fewErasures inReach allInReach
     payloadBytes rank padding earlierPadding paddedWith paddingOk heldPayload
-    planClasses planCapacity planBytes planCells
+    planClasses planCapacity planBytes planCells isUsed usedClasses planUsed
     encodeNumber encodeLeaves fieldNumber correctedCount decodeNumber decodeCount correctNumber correctCount correctLeaves
 resultExamples =
     record {
-      plan = λ r x. (x .number, x .classes, x .capacity, x .bytes, x .cells);
+      plan = λ r x. (x .number, x .classes, x .capacity, x .bytes, x .cells, x .used);
       class = λ r x. (x .number, x .class);
       no-class = λ r x. (x .number, x .class);
-      window-plan = λ r x. (x .number, x .classes, x .capacity, x .bytes, x .cells);
+      window-plan = λ r x. (x .number, x .classes, x .capacity, x .bytes, x .cells, x .used);
+      narrow-plan = λ r x. (x .number, x .classes, x .capacity, x .bytes, x .cells, x .used);
       window-class = λ r x. (x .number, x .class);
-      no-window = λ r x. (x .number, x .classes);
+      no-window = λ r x. (x .number, x .classes, x .used);
       encode = λ last r x. (x .number, x .leaves);
       decode = λ last r x. (x .number, x .count);
       no-decode = λ last r x. (x .number, x .count);

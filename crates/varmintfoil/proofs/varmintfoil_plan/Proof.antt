@@ -24,6 +24,7 @@ returns c =
       capacity = ap (λ (p : FieldPlan). p .capacity) figures ∙ answer .capacity;
       bytes = ap (λ (p : FieldPlan). p .bytes) figures ∙ answer .bytes;
       cells = ap (λ (p : FieldPlan). p .cells) figures ∙ answer .cells;
+      used = ap (λ (p : FieldPlan). p .used) figures ∙ answer .used;
     }
 
 pub varmintfoil-plan-spec : {M : Type 1} → statement M

@@ -16,19 +16,23 @@ use Rattle.varmintfoil.specs.Boundary.{IsDistanceResult}
 
 -- Theorem. The examples hold of whatever meets the contracts.
 pub record ResultExamples : Type 0 where
-  -- 5 by 5 of strength 3 has 5 classes, 10 cells that hold no check, so one byte, and 25 cells
+  -- 5 by 5 of strength 3 has 5 classes, all of which hold a cell, 10 cells that hold no check, so one byte, and 25 cells
   pub plan : (r : PlanResult) → IsPlanResult five r
-      → (r .number ≡ 0) × (r .classes ≡ 5) × (r .capacity ≡ 10) × (r .bytes ≡ 1) × (r .cells ≡ 25)
+      → (r .number ≡ 0) × (r .classes ≡ 5) × (r .capacity ≡ 10) × (r .bytes ≡ 1) × (r .cells ≡ 25) × (r .used ≡ 5)
   -- its row 1 and column 1 have the class (1 − 3 × 1) mod 5, and a row 5 it has not
   pub class : (r : ClassResult) → IsClassResult five (cell 1 0 1) r → (r .number ≡ 0) × (r .«class_index» ≡ 3)
   pub no-class : (r : ClassResult) → IsClassResult five (cell 5 0 1) r → (r .number ≡ 4) × (r .«class_index» ≡ 0)
   -- by a window of 2 rows and 3 columns 5 by 5 has 6 classes and 9 cells that hold no check; row 3 and column 4 have the class
   -- (3 mod 2) × 3 + (4 mod 3)
   pub window-plan : (r : PlanResult) → IsPlanResult (windowed 5 5 2 3) r
-      → (r .number ≡ 0) × (r .classes ≡ 6) × (r .capacity ≡ 9) × (r .bytes ≡ 1) × (r .cells ≡ 25)
+      → (r .number ≡ 0) × (r .classes ≡ 6) × (r .capacity ≡ 9) × (r .bytes ≡ 1) × (r .cells ≡ 25) × (r .used ≡ 6)
+  -- by a window of 3 rows and 1 column 9 by 2 has 3 classes, of which 2 hold 9 cells each, 5 of them with no check
+  pub narrow-plan : (r : PlanResult) → IsPlanResult (windowed 9 2 3 1) r
+      → (r .number ≡ 0) × (r .classes ≡ 3) × (r .capacity ≡ 10) × (r .bytes ≡ 1) × (r .cells ≡ 18) × (r .used ≡ 2)
   pub window-class : (r : ClassResult) → IsClassResult (windowed 5 5 2 3) (cell 3 0 4) r
       → (r .number ≡ 0) × (r .«class_index» ≡ 4)
-  pub no-window : (r : PlanResult) → IsPlanResult (windowed 5 5 0 3) r → (r .number ≡ 11) × (r .classes ≡ 0)
+  pub no-window : (r : PlanResult) → IsPlanResult (windowed 5 5 0 3) r
+      → (r .number ≡ 11) × (r .classes ≡ 0) × (r .used ≡ 0)
   -- 2 by 1 of strength 1 takes no byte; of its cells 0 1 one is mended, and 1 1 are out of reach
   pub encode : (last : List ℕ) (r : ℕ) → IsEncodeResult pair (0 ∷ []) (0 ∷ 1 ∷ []) last r
       → (r ≡ 3) × (last ≡ 0 ∷ 1 ∷ [])

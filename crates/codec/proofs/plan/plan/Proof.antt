@@ -1,9 +1,12 @@
--- `plan` meets its contract: a refusal settles the answer, and else the figures are those of the shape's methods.
-use Prim.Native.Nat.{ℕ, _/_}
-use mathlib.Core.Path.{sym, ap}
+-- `plan` meets its contract: a refusal settles the answer, and else the figures are counted from the sizes of the classes.
+use Prim.Native.Nat.{ℕ, _/_, _≤_}
+use mathlib.Core.Path.{sym, ap, _∙_}
 use borrow.Author.Needs.{needs}
-use Rattle.codec.specs.Plan.{planClasses, planCapacity, planBytes, planCells}
+use Rattle.lattice.specs.Shape.{maxClasses}
 use Rattle.lattice.proofs.theory.Answers.{told, told-none}
+use Rattle.lattice.proofs.theory.CapacityGiven.{classes-given, capacity-given}
+use Rattle.lattice.proofs.theory.UsedClasses.{used-given}
+use Rattle.codec.specs.Plan.{planClasses, planCapacity, planBytes, planCells, planUsed}
 use Rattle.codec.proofs.theory.PlanRefusal.{plan-refused}
 use Rattle.codec.proofs.plan.plan.Statement.{statement}
 use Rattle.codec.proofs.plan.plan.Tie as tie
@@ -22,26 +25,38 @@ returns c =
 enum-told : tie.Need-enum-told
 enum-told c = search needs
 
-capacity-requires : tie.Need-capacity-requires
-capacity-requires c κs = search needs
+class-sizes-requires : tie.Need-class-sizes-requires
+class-sizes-requires c κs = search needs
 
 classes-requires : tie.Need-classes-requires
 classes-requires c κs = search needs
+
+data-in-requires : tie.Need-data-in-requires
+data-in-requires c κs = search needs
+
+used-in-requires : tie.Need-used-in-requires
+used-in-requires c κs = search needs
 
 cells-requires : tie.Need-cells-requires
 cells-requires c κs = search needs
 
 returns-2 : tie.Need-returns-2
-unfolding planClasses planCapacity planBytes planCells
+unfolding planClasses planCapacity planBytes planCells planUsed
 returns-2 c =
-    let capacity2 = c .before .before .capacity in
-    let e = c .before .before .before in
+    let summed = c .before .before .before in
+    let placed = summed .before .before in
+    let sized = placed .before in
+    let e = sized .before .before in
+    let own = placed .classes .ensures in
+    let few : placed .classes .result ≤ maxClasses = rw own (classes-given _) in
+    let capacity = summed .data-in .ensures few ∙ capacity-given _ _ _ (sized .class-sizes .ensures .0) own in
     record {
       number = sym (told-none (e .before .before .tests .ensures) (e .enum-told .given .1));
-      classes = c .before .classes .ensures;
-      capacity = capacity2 .ensures;
-      bytes = ap (λ (k : ℕ). k / 8) (capacity2 .ensures);
+      classes = own;
+      capacity = capacity;
+      bytes = ap (λ (k : ℕ). k / 8) capacity;
       cells = c .cells .ensures;
+      used = c .before .used-in .ensures few ∙ used-given _ _ _ (sized .class-sizes .ensures .0) own;
     }
 
 pub plan-spec : {M : Type 1} → statement M
@@ -52,7 +67,9 @@ plan-spec =
     enum-known-tested
     returns
     enum-told
-    capacity-requires
+    class-sizes-requires
     classes-requires
+    data-in-requires
+    used-in-requires
     cells-requires
     returns-2)
