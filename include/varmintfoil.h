@@ -35,9 +35,9 @@
 #include <stdint.h>
 
 #define VARMINTFOIL_VERSION_MAJOR 0
-#define VARMINTFOIL_VERSION_MINOR 4
+#define VARMINTFOIL_VERSION_MINOR 5
 #define VARMINTFOIL_VERSION_PATCH 0
-#define VARMINTFOIL_VERSION "0.4.0"
+#define VARMINTFOIL_VERSION "0.5.0"
 
 /* The numbers that the functions give. The card program gives 8 besides, for a fault of form. */
 #define VARMINTFOIL_OK 0                 /* success */
@@ -107,6 +107,7 @@ typedef struct {
     size_t capacity; /* the number of cells that hold no check, K */
     size_t bytes;    /* the payload's length, K / 8 rounded down */
     size_t cells;    /* the field's length, W * H * D */
+    size_t used;     /* the number of classes that hold at least one cell; fewer than m where the field is small */
 } varmintfoil_plan_t;
 
 typedef struct {

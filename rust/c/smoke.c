@@ -36,15 +36,20 @@ static void the_plan(void) {
     varmintfoil_plan_t plan = varmintfoil_plan(card);
     expect(plan.number == VARMINTFOIL_OK, "plan succeeds");
     expect(plan.classes == 5 && plan.capacity == 10 && plan.bytes == 1 && plan.cells == 25, "plan of the worked card");
+    expect(plan.used == 5, "all of its classes hold a cell");
     plan = varmintfoil_plan(VARMINTFOIL_SHAPE(.columns = 17, .rows = 241, .planes = 15, .strength = 6));
     expect(plan.number == VARMINTFOIL_OK && plan.classes == 38, "a stack of four different numbers has 38 classes");
-    expect(plan.cells == 61455 && plan.capacity == 61037 && plan.bytes == 7629, "and its figures");
+    expect(plan.cells == 61455 && plan.capacity == 61037 && plan.bytes == 7629 && plan.used == 38, "and its figures");
+    plan = varmintfoil_plan(VARMINTFOIL_SHAPE(.columns = 9, .rows = 9, .planes = 1, .window_rows = 512, .window_columns = 1));
+    expect(plan.classes == 512 && plan.capacity == 45 && plan.bytes == 5 && plan.cells == 81 && plan.used == 9,
+           "of 512 classes 9 hold a cell");
 }
 
 static void the_limits(void) {
     varmintfoil_plan_t plan = varmintfoil_plan(VARMINTFOIL_SHAPE(.columns = 257, .rows = 1, .planes = 1, .strength = 1));
     expect(plan.number == VARMINTFOIL_BAD_SIZE, "257 columns are a bad size");
-    expect(plan.classes == 0 && plan.capacity == 0 && plan.bytes == 0 && plan.cells == 0, "figures of a refusal are 0");
+    expect(plan.classes == 0 && plan.capacity == 0 && plan.bytes == 0 && plan.cells == 0 && plan.used == 0,
+           "figures of a refusal are 0");
     plan = varmintfoil_plan(VARMINTFOIL_SHAPE(.columns = 65537, .rows = 1, .planes = 1, .strength = 1));
     expect(plan.number == VARMINTFOIL_BAD_SIZE, "65,537 columns are not taken for 1");
     plan = varmintfoil_plan(VARMINTFOIL_SHAPE(.columns = SIZE_MAX, .rows = SIZE_MAX, .planes = 1, .strength = 1));

@@ -1,5 +1,5 @@
-//! The reference implementation: document 01, sentence by sentence, and the erased (unread) cells, the windows (oblong damage) and the
-//! padding (filler) of document 02, in plain Rust.
+//! The reference implementation: document 01, sentence by sentence, and the erased (unread) cells, the windows (oblong damage), the
+//! padding (filler) and the classes that hold a cell of document 02, in plain Rust.
 //!
 //! It is written to be read and to be compared with, not to be fast. A class is corrected by search, not by its syndrome: the class
 //! as it is and with each one cell flipped is tried, and the codeword among them is taken. Where cells of a class are erased, both
@@ -15,13 +15,14 @@ pub type Number = usize;
 /// An erased cell: one that was not read.
 pub const ERASED: u8 = 2;
 
-/// What `plan` gives: m, K, payload bytes and cells.
+/// What `plan` gives: m, K, payload bytes, cells and the classes that hold at least one cell.
 #[derive(Clone, Copy, Debug, PartialEq, Eq)]
 pub struct Plan {
     pub classes: usize,
     pub capacity: usize,
     pub bytes: usize,
     pub cells: usize,
+    pub used: usize,
 }
 
 /// What the distance test gives: the verdict, the triple found (or zeros) and the count of triples tried.
@@ -174,6 +175,22 @@ pub fn classes(shape: &Shape) -> Vec<Vec<usize>> {
         }
     }
     classes
+}
+
+/// The number of classes that hold at least one cell: the classes of all cells are collected, each once, by search.
+fn used_classes(shape: &Shape) -> usize {
+    let mut found = Vec::new();
+    for plane in 0..shape.d {
+        for row in 0..shape.h {
+            for column in 0..shape.w {
+                let class = class_in(shape, row, plane, column);
+                if !found.contains(&class) {
+                    found.push(class);
+                }
+            }
+        }
+    }
+    found.len()
 }
 
 // The code in a class
@@ -345,11 +362,12 @@ pub fn differences(one: &[u8], other: &[u8]) -> usize {
 
 // Operations
 
-/// Plan: m, K, payload bytes and cells; 1, 2, 11.
+/// Plan: m, K, payload bytes, cells and the classes that hold at least one cell; 1, 2, 11.
 pub fn plan(shape: &Shape) -> Result<Plan, Number> {
     test(shape)?;
     let capacity = data_cells(shape).len();
-    Ok(Plan { classes: number_of_classes(shape), capacity, bytes: capacity / 8, cells: cells(shape) })
+    let (classes, used) = (number_of_classes(shape), used_classes(shape));
+    Ok(Plan { classes, capacity, bytes: capacity / 8, cells: cells(shape), used })
 }
 
 /// Class of a cell: 1, 2, 11, 4.

@@ -34,6 +34,7 @@ pub struct PlanAnswer {
     pub capacity: usize,
     pub bytes: usize,
     pub cells: usize,
+    pub used: usize,
 }
 
 /// The answer of `class_of`.
@@ -83,7 +84,7 @@ extern "C" {
     fn varmintfoil_distance_test(m: usize, b: usize, c: usize, t: usize) -> DistanceAnswer;
 }
 
-/// Classes, capacity, payload bytes and cells of a shape: 1, 2, 11.
+/// Classes, capacity, payload bytes, cells and classes that hold a cell, of a shape: 1, 2, 11.
 #[must_use]
 pub fn plan(shape: ShapeNumbers) -> PlanAnswer {
     // SAFETY: only numbers pass.

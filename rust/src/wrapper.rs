@@ -16,6 +16,8 @@ pub struct Plan {
     pub bytes: usize,
     /// The number of cells, one byte each.
     pub cells: usize,
+    /// The number of classes that hold at least one cell.
+    pub used: usize,
 }
 
 /// A shape within the limits, with its strength or its window.
@@ -56,9 +58,9 @@ impl Shape {
 
     /// The shape of these numbers, or `BadSize`, then `BadStrength`, then `BadWindow`.
     pub fn of_numbers(numbers: ShapeNumbers) -> Result<Shape, Refusal> {
-        let ffi::PlanAnswer { number, classes, capacity, bytes, cells } = ffi::plan(numbers);
+        let ffi::PlanAnswer { number, classes, capacity, bytes, cells, used } = ffi::plan(numbers);
         check(number)?;
-        Ok(Shape { numbers, plan: Plan { classes, capacity, bytes, cells } })
+        Ok(Shape { numbers, plan: Plan { classes, capacity, bytes, cells, used } })
     }
 
     pub fn columns(&self) -> usize {
@@ -105,6 +107,20 @@ impl Shape {
     /// The number of cells.
     pub fn cells(&self) -> usize {
         self.plan.cells
+    }
+
+    /// The number of classes that hold at least one cell: at most all of them, and fewer in a field that is small for its strength or
+    /// its window.
+    ///
+    /// ```
+    /// use varmintfoil::{Refusal, Shape};
+    ///
+    /// let narrow = Shape::new(3, 1, 1, 5)?;
+    /// assert_eq!((narrow.classes(), narrow.used_classes()), (13, 3));
+    /// # Ok::<(), Refusal>(())
+    /// ```
+    pub fn used_classes(&self) -> usize {
+        self.plan.used
     }
 
     /// The byte of a cell in the field, or `OutsideShape`.

@@ -90,6 +90,21 @@ impl Codec for Wrapper {
     }
 }
 
+/// The plan of a shape by the archive and by the wrapper is the reference's, which is given.
+fn compare_plan(shape: &Numbers) -> Result<reference::Plan, usize> {
+    let answer = shape.plan();
+    let figures = ffi::plan(numbers(shape));
+    let expected = match answer {
+        Ok(plan) => [0, plan.classes, plan.capacity, plan.bytes, plan.cells, plan.used],
+        Err(number) => [number, 0, 0, 0, 0, 0],
+    };
+    let actual = [figures.number, figures.classes, figures.capacity, figures.bytes, figures.cells, figures.used];
+    assert_eq!(actual, expected, "{shape:?}");
+    let wrapped = shape_of(shape).map(|s| [0, s.classes(), s.capacity(), s.payload_bytes(), s.cells(), s.used_classes()]);
+    assert_eq!(wrapped, answer.map(|_| expected), "{shape:?}");
+    answer
+}
+
 #[test]
 fn plans() {
     let mut random = outside::random(1);
@@ -97,16 +112,7 @@ fn plans() {
     let listed = [large_shapes(true), edges::edge_shapes(), edges::window_shapes(), windows::shapes_near_the_limits()].concat();
     for round in 0..outside::rounds(TIMES) {
         let shape = if round < listed.len() { listed[round] } else { any_shape(&mut random, true) };
-        let answer = shape.plan();
-        let figures = ffi::plan(numbers(&shape));
-        let expected = match answer {
-            Ok(plan) => [0, plan.classes, plan.capacity, plan.bytes, plan.cells],
-            Err(number) => [number, 0, 0, 0, 0],
-        };
-        let actual = [figures.number, figures.classes, figures.capacity, figures.bytes, figures.cells];
-        assert_eq!(actual, expected, "{shape:?}");
-        let wrapped = shape_of(&shape).map(|s| [0, s.classes(), s.capacity(), s.payload_bytes(), s.cells()]);
-        assert_eq!(wrapped, answer.map(|_| expected), "{shape:?}");
+        let answer = compare_plan(&shape);
         if let Ok(s) = shape_of(&shape) {
             let Window { rows: p, columns: q } = s.window();
             assert_eq!(Numbers { w: s.columns(), h: s.rows(), d: s.planes(), t: s.strength(), p, q }, shape);
@@ -115,6 +121,35 @@ fn plans() {
     }
     tally.assert_numbers("plan", &[1, 2, 11]);
     tally.assert_stacks("plan");
+}
+
+/// Every flat shape up to 12 by 12 at every strength, stacks of 1 to 6 columns, 1 to 5 rows and 2 to 5 planes at every strength, and
+/// every window of up to 7 rows by 8 columns, and the longest, on fields smaller, equal and larger.
+fn small_shapes() -> Vec<Numbers> {
+    let flat = (1..=12).flat_map(|w| (1..=12).flat_map(move |h| (1..=32).map(move |t| Numbers::of_strength(w, h, 1, t))));
+    let stacks = (1..=6).flat_map(|w| (1..=5).flat_map(move |h| (2..=5).map(move |d| (w, h, d))));
+    let stacks = stacks.flat_map(|(w, h, d)| (1..=8).map(move |t| Numbers::of_strength(w, h, d, t)));
+    let windows = (1..=7).flat_map(|p| (1..=8).map(move |q| (p, q))).chain([(512, 1), (1, 512), (16, 32), (22, 23)]);
+    let ruled = windows.flat_map(|(p, q)| (1..=9).flat_map(move |w| (1..=9).map(move |h| Numbers::of_window(w, h, p, q))));
+    flat.chain(stacks).chain(ruled).collect()
+}
+
+/// The plans of small fields, where some classes hold no cell. Where both sides of a flat field are at least its strength, or those of
+/// its window, all of them do.
+#[test]
+fn plans_of_small_fields() {
+    let shapes = small_shapes();
+    let mut narrow = 0;
+    for shape in &shapes {
+        let plan = compare_plan(shape).unwrap();
+        let (rows, columns) = if shape.is_ruled() { (shape.p, shape.q) } else { (shape.t, shape.t) };
+        if shape.d == 1 && rows <= shape.h && columns <= shape.w {
+            assert_eq!(plan.used, plan.classes, "{shape:?}");
+        }
+        assert!(plan.used <= plan.classes.min(plan.cells), "{shape:?}");
+        narrow += usize::from(plan.used < plan.classes);
+    }
+    assert_eq!((shapes.len(), narrow), (0, 0));
 }
 
 #[test]

@@ -45,7 +45,8 @@ fn the_examples() {
     assert_eq!(class_of(&Shape::of_strength(256, 256, 1, 4), 1, 0, 0), Ok(3));
     assert_eq!(class_of(&Shape::of_strength(256, 256, 1, 5), 12, 0, 0), Ok(5));
     assert_eq!([0, 1, 2, 3, 7, 8].map(checks), [0, 1, 2, 2, 3, 4]);
-    assert_eq!(plan(5, 5, 1, 3), Ok(Plan { classes: 5, capacity: 10, bytes: 1, cells: 25 }));
+    assert_eq!(plan(5, 5, 1, 3), Ok(Plan { classes: 5, capacity: 10, bytes: 1, cells: 25, used: 5 }));
+    assert_eq!(plan(3, 1, 1, 5), Ok(Plan { classes: 13, capacity: 0, bytes: 0, cells: 3, used: 3 }));
     assert_eq!(decode_two(&[0, 1]), Ok(1));
     assert_eq!(decode_two(&[1, 1]), Err(6));
     assert_eq!(distance_test(7, 2, 3, 3), Ok(Distance { holds: true, row: 0, plane: 0, column: 0, tried: 12 }));

@@ -4,6 +4,7 @@ pub(crate) mod erasures;
 pub(crate) mod fields;
 pub(crate) mod numbers;
 pub(crate) mod padding;
+pub(crate) mod plans;
 pub(crate) mod random;
 pub(crate) mod shapes;
 pub(crate) mod tears;

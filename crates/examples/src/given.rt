@@ -36,7 +36,7 @@ pub(crate) fn plan(shape: Shape) -> Answer {
     let p = given.figures();
     answer::of(
         given.number(),
-        [p.classes, p.capacity, p.bytes, p.cells, 0, 0],
+        [p.classes, p.capacity, p.bytes, p.cells, p.used, 0],
     )
 }
 

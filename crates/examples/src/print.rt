@@ -122,7 +122,8 @@ pub(crate) fn say(form: usize, numbers: Figures) {
     one_of(
         b"shape|plan|class|write|read|mend|gauge|: # compared|, # gave #|, # differ\n|\
         : # and not #, case #, part #; figures|\x20# # # # # #|\n|\
-        # by # in #, strength #|: |accepted, classes #, capacity #, bytes #, cells #|refusal #|\
+        # by # in #, strength #|: |accepted, classes #, capacity #, bytes #, cells #, used #|\
+        refusal #|\
         , row #, plane #, column #: |class #|count #|payload a5 on a card: written| |#|\
         , payload %; mended |, rows|that card|the card as first printed|a card|: read |\
         \x20with third row 10010 and fourth 10001: read |\

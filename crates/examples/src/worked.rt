@@ -122,6 +122,7 @@ pub(crate) fn run() {
     edge(256, 256, 1, 33);
     edge(256, 16, 16, 8);
     edge(256, 16, 16, 9);
+    edge(3, 1, 1, 5);
     // The card of the payload a5, as encode writes it.
     let card = given::encode(CARD_SHAPE, [0xa5; CELLS], 1, [0; CELLS], CARD).buffer;
     say(print::WRITTEN, [0; 6]);
@@ -240,6 +241,7 @@ fn windows() {
     planned(ruled(256, 256, 22, 22));
     planned(ruled(256, 256, 23, 23));
     planned(ruled(5, 5, 512, 1));
+    planned(ruled(9, 9, 512, 1));
     planned(ruled(5, 5, 1, 513));
     planned(ruled(5, 5, 0, 3));
     planned(with_window(shape_of(5, 5, 2, 0), 2, 2));

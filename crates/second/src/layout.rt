@@ -14,7 +14,7 @@ pub(crate) const CHECK: u16 = 1024;
 pub(crate) const NO_CELL: u16 = 512;
 
 // The class of the cell that is byte i of a field.
-fn class_of_byte(shape: Shape, i: usize) -> usize
+pub(crate) fn class_of_byte(shape: Shape, i: usize) -> usize
     ensures { λ r. ⌜ r < 512 ⌝ }
 {
     let columns = shape.columns as usize;

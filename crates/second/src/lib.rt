@@ -6,5 +6,6 @@ mod layout;
 pub mod placing;
 pub mod read;
 mod settings;
+mod used;
 mod window;
 pub mod write;

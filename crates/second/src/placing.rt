@@ -5,6 +5,7 @@ use crate::answer;
 use crate::answer::Answer;
 use crate::layout::lay_out;
 use crate::settings;
+use crate::used::used_classes;
 use lattice::shape::Shape;
 
 // The number with which a shape is declined, 0 where it is accepted.
@@ -14,7 +15,7 @@ pub fn shape(shape: Shape) -> usize
     settings::refusal(shape)
 }
 
-// The figures: m, K, payload bytes and cells.
+// The figures: m, K, payload bytes, cells and the classes that hold at least one cell.
 pub fn plan(shape: Shape) -> Answer
     ensures { λ r. ⌜ (r .number ≤ 11) × (getD (r .figures) 0 0 ≤ 512) ⌝ }
 {
@@ -24,7 +25,8 @@ pub fn plan(shape: Shape) -> Answer
     }
     let s = settings::settings_of(shape);
     let k = lay_out(shape).capacity;
-    answer::of(0, [s.m as usize, k, k / 8, settings::cells(shape), 0, 0])
+    let cells = settings::cells(shape);
+    answer::of(0, [s.m as usize, k, k / 8, cells, used_classes(shape), 0])
 }
 
 // The number with which the class of a cell is declined, 0 where the cell lies in an accepted shape.
