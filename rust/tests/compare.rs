@@ -149,7 +149,7 @@ fn plans_of_small_fields() {
         assert!(plan.used <= plan.classes.min(plan.cells), "{shape:?}");
         narrow += usize::from(plan.used < plan.classes);
     }
-    assert_eq!((shapes.len(), narrow), (0, 0));
+    assert_eq!((shapes.len(), narrow), (10_428, 7_062), "all shapes, and those with a class that holds no cell");
 }
 
 #[test]
