@@ -107,7 +107,7 @@ typedef struct {
     size_t capacity; /* the number of cells that hold no check, K */
     size_t bytes;    /* the payload's length, K / 8 rounded down */
     size_t cells;    /* the field's length, W * H * D */
-    size_t used;     /* the number of classes that hold at least one cell; fewer than m where the field is small */
+    size_t used;     /* the number of classes that hold at least one cell, at most m */
 } varmintfoil_plan_t;
 
 typedef struct {

@@ -109,8 +109,8 @@ impl Shape {
         self.plan.cells
     }
 
-    /// The number of classes that hold at least one cell: at most all of them, and fewer in a field that is small for its strength or
-    /// its window.
+    /// The number of classes that hold at least one cell. In a field that is small for its strength or its window it can be fewer than
+    /// all of them.
     ///
     /// ```
     /// use varmintfoil::{Refusal, Shape};

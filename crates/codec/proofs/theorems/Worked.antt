@@ -33,7 +33,7 @@ unfolding
 codingExamples =
     record {
       plan = (refl, refl, refl, refl, refl);
-      narrow = (refl, refl);
+      narrow-plan = (refl, refl);
       written = refl;
       earlier = refl;
       empty = refl;

@@ -64,7 +64,7 @@ pub record CodingExamples : Type 0 where
       × (planCells stack ≡ 70)
       × (planUsed stack ≡ 7)
   -- 3 columns by 1 row at t = 5: of 13 classes 3 hold a cell
-  pub narrow : (planClasses narrow ≡ 13) × (planUsed narrow ≡ 3)
+  pub narrow-plan : (planClasses narrow ≡ 13) × (planUsed narrow ≡ 3)
   pub written : encodedField stack bytes ≡ cells
   pub earlier : earlierField stack bytes ≡ earlierCells
   -- a class of five cells has room for no byte

@@ -43,7 +43,7 @@ wide = lit≤ tt
 pub high : field .strength ≤ field .rows
 high = lit≤ tt
 
--- both sides are even above it
+-- and above it
 pub wider : field .strength + 1 ≤ field .columns
 wider = lit≤ tt
 
@@ -148,6 +148,6 @@ pub corner-given : classNumber field corner ≡ 0
 unfolding classNumber inside shapeNumber sizeOk strengthOk windowOk isNone maxStrength inRange
 corner-given = refl
 
--- so there are two cells of one class at distance 3 in it
+-- two cells of one class of the field at distance exactly 3
 pub nearest : PairAt field 3
 nearest = distanceAttained field flat strong wider higher

@@ -1,4 +1,4 @@
--- The classes that a shape gives, within their limit, and its capacity from the table of its sizes.
+-- The classes that a shape gives, within their limit, what is counted over them, and the capacity from the table of their sizes.
 use Prim.Native.Nat.{ℕ, _<_, _≤_, zero-le}
 use mathlib.Core.List.{List}
 use mathlib.Core.Path.{_≡_, refl, sym, ap, _∙_}

@@ -42,7 +42,7 @@ module _ (L : Layout) where
   used-most m = count-most (λ a. isUsed (size L a)) m
 
   -- from a table of the sizes of m classes
-  pub used-held : (m : ℕ) (xs : List ℕ) → ((a : ℕ) → a < m → getD xs a 0 ≡ size L a) → usedIn xs m ≡ usedClasses L m
+  used-held : (m : ℕ) (xs : List ℕ) → ((a : ℕ) → a < m → getD xs a 0 ≡ size L a) → usedIn xs m ≡ usedClasses L m
   unfolding usedIn usedClasses
   used-held m xs p = count-same _ _ m (λ a l. ap isUsed (p a l))
 
