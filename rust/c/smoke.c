@@ -41,6 +41,7 @@ static void the_plan(void) {
     expect(plan.number == VARMINTFOIL_OK && plan.classes == 38, "a stack of four different numbers has 38 classes");
     expect(plan.cells == 61455 && plan.capacity == 61037 && plan.bytes == 7629 && plan.used == 38, "and its figures");
     plan = varmintfoil_plan(VARMINTFOIL_SHAPE(.columns = 9, .rows = 9, .planes = 1, .window_rows = 512, .window_columns = 1));
+    expect(plan.number == VARMINTFOIL_OK, "a window of 512 rows is accepted");
     expect(plan.classes == 512 && plan.capacity == 45 && plan.bytes == 5 && plan.cells == 81 && plan.used == 9,
            "of 512 classes 9 hold a cell");
 }

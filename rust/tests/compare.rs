@@ -124,7 +124,7 @@ fn plans() {
 }
 
 /// Every flat shape up to 12 by 12 at every strength, stacks of 1 to 6 columns, 1 to 5 rows and 2 to 5 planes at every strength, and
-/// every window of up to 7 rows by 8 columns, and the longest, on fields smaller, equal and larger.
+/// every window of up to 7 rows by 8 columns, and four of 506 or 512 cells, on every field of up to 9 by 9.
 fn small_shapes() -> Vec<Numbers> {
     let flat = (1..=12).flat_map(|w| (1..=12).flat_map(move |h| (1..=32).map(move |t| Numbers::of_strength(w, h, 1, t))));
     let stacks = (1..=6).flat_map(|w| (1..=5).flat_map(move |h| (2..=5).map(move |d| (w, h, d))));

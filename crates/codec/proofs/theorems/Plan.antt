@@ -7,13 +7,14 @@ use Rattle.lattice.proofs.theory.Answers.{beside-zero}
 use Rattle.lattice.proofs.theorems.Labels.{boundAttained}
 use Rattle.lattice.proofs.theorems.Windows.{windowBoundAttained}
 use Rattle.lattice.proofs.theorems.Used.{usedInField}
-use Rattle.codec.specs.Plan.{planNumber, planCapacity, planBytes}
+use Rattle.codec.specs.Plan.{planNumber, planClasses, planCapacity, planBytes, planUsed}
 use Rattle.codec.specs.theorems.Plan.{PlanMeaning}
-use Rattle.codec.proofs.theory.Accepted.{plan-cells, plan-classes, plan-used}
+use Rattle.codec.proofs.theory.Accepted.{figure-mono, plan-cells, plan-classes, plan-used}
 
--- Theorem. The plan's figures are those of the shape, and the lower bound on labels is attained at its classes.
+-- Theorem. The plan's figures are those of the shape, and the lower bound on labels is attained at its classes, all of which hold
+-- a cell there.
 pub planMeaning : PlanMeaning
-unfolding planCapacity planBytes capacity
+unfolding planClasses planCapacity planBytes planUsed capacity
 planMeaning =
     record {
       classes = plan-classes;
@@ -21,7 +22,7 @@ planMeaning =
       bytes = λ s a. ap (λ (k : ℕ). k / 8) (beside-zero (planNumber s) (capacity (layoutOf s)) 0 a);
       cells = plan-cells;
       used = λ s a. plan-used s a ∙ usedInField .labels s a;
-      used-most = λ s a. rw (plan-used s a, plan-classes s a) (usedInField .most s a);
+      used-most = λ s. figure-mono (planNumber s) (usedInField .most s);
       attained = λ s a flat some wide high. boundAttained s a flat some wide high ∙ sym (plan-classes s a);
       window-attained = λ s a z high wide. windowBoundAttained s a z high wide ∙ sym (plan-classes s a);
       all-used = λ s a flat some wide high. plan-used s a ∙ usedInField .all s a flat some wide high ∙ sym (plan-classes s a);

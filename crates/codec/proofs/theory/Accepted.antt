@@ -27,6 +27,11 @@ figure-most : (n x : ℕ) → figure n x ≤ x
 figure-most zero x = le-refl x
 figure-most (suc n) x = omega arith
 
+-- and a larger one is not less beside the same number
+pub figure-mono : {x y : ℕ} (n : ℕ) → x ≤ y → figure n x ≤ figure n y
+figure-mono zero l = l
+figure-mono (suc n) l = le-refl 0
+
 pub plan-classes-most : (s : Shape) → planClasses s ≤ classesOf s
 unfolding planClasses
 plan-classes-most s = figure-most (planNumber s) (classesOf s)

@@ -1,5 +1,5 @@
-// Shapes whose plans alone are compared: every flat shape up to 12 by 12 at every strength, stacks, and windows larger and smaller
-// than their fields.
+// Shapes whose plans alone are compared: every flat shape up to 12 by 12 at every strength, stacks, and windows larger and
+// smaller than their fields.
 use crate::cases::shapes::shape_of;
 use crate::cases::windows::ruled;
 use crate::given;
@@ -16,8 +16,8 @@ const WINDOWS: u16 = 1120;
 
 const SHAPES: u16 = FLAT + STACKS + WINDOWS;
 
-// Shape k: a flat one of 1 to 12 columns and rows; a stack of 1 to 6 columns, 1 to 5 rows and 2 to 5 planes; or 1 to 5 columns and 1
-// to 4 rows with a window of 1 to 7 rows by 1 to 8 columns.
+// Shape k: a flat one of 1 to 12 columns and rows; a stack of 1 to 6 columns, 1 to 5 rows and 2 to 5 planes; or 1 to 5 columns
+// and 1 to 4 rows with a window of 1 to 7 rows by 1 to 8 columns.
 fn shape(k: u16) -> Shape {
     if k < FLAT {
         return shape_of(k % 12 + 1, k / 12 % 12 + 1, 1, k / 144 + 1);

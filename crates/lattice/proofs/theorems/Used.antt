@@ -26,7 +26,7 @@ pub usedInField : UsedInField
 usedInField =
     record {
       labels = used-labels;
-      most = λ s a. used-most (layoutOf s) (classesOf s);
+      most = λ s. used-most (layoutOf s) (classesOf s);
       all = λ s a flat some wide high. used-labels s a ∙ boundAttained s a flat some wide high;
       window-all = λ s a z high wide. used-labels s a ∙ windowBoundAttained s a z high wide;
     }

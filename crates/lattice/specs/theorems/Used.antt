@@ -16,11 +16,11 @@ UsedInLayout =
     → usedClasses L m ≡ differentValues (L .class) (L .cells)
 
 -- Theorem. In a field that the constructor accepts the classes that hold at least one cell are as many as the labels that the
--- class of a cell uses, and at most m. They are m where the field is flat, t is at least 1 and both sides are at least t; and
+-- class of a cell uses. They are at most m, and m where the field is flat, t is at least 1 and both sides are at least t, and
 -- where t is 0 and the field has at least the rows and columns of its window.
 pub record UsedInField : Type 0 where
   pub labels : (s : Shape) → Accepted s → usedOf s ≡ labels s (classOf s)
-  pub most : (s : Shape) → Accepted s → usedOf s ≤ classesOf s
+  pub most : (s : Shape) → usedOf s ≤ classesOf s
   pub all : (s : Shape) → Accepted s → s .planes ≡ 1 → 1 ≤ s .strength → s .strength ≤ s .columns → s .strength ≤ s .rows
       → usedOf s ≡ classesOf s
   pub window-all : (s : Shape) → Accepted s → s .strength ≡ 0 → s .window .rows ≤ s .rows → s .window .columns ≤ s .columns

@@ -53,7 +53,8 @@ loop-again c =
 returns-2 : tie.Need-returns-2 Inv-loop μ-loop
 returns-2 c =
     let turn = c .before .loop in
-    λ few. turn .inv .2 ∙ ap (usedIn (c .before .before .before .args .sizes .now)) (le-antisymm (turn .inv .0) (c .loop-test .left))
+    λ few. turn .inv .2
+    ∙ ap (usedIn (c .before .before .before .args .sizes .now)) (le-antisymm (turn .inv .0) (c .loop-test .left))
 
 pub used-in-spec : {M : Type 1} → statement M
 used-in-spec =
