@@ -64,11 +64,12 @@ pub fn plan(shape: Shape) -> PlanAnswer
     let classes = shape.classes();
     let capacity = data_in(&sizes, classes);
     let used = used_in(&sizes, classes);
+    let cells = shape.cells();
     PlanAnswer::Planned(FieldPlan {
         classes,
         capacity,
         bytes: capacity / 8,
-        cells: shape.cells(),
+        cells,
         used,
     })
 }
