@@ -5,6 +5,7 @@ use mathlib.Core.List.{List, [], _∷_}
 use mathlib.Core.Path.{_≡_}
 use Rattle.lattice.specs.Shape.{noWindow}
 use Rattle.lattice.specs.theorems.Windows.{windowed}
+use Rattle.lattice.specs.theorems.Examples.{sized}
 use Rattle.lattice.specs.declared.shape.Shape.{Shape}
 use Rattle.codec.specs.Field.{fieldOf, differences}
 use Rattle.codec.specs.Plan.{planClasses, planCapacity, planBytes, planCells, planUsed}
@@ -51,10 +52,6 @@ earlierCells =
 abbrev pub strip : ℕ → Shape
 strip n = record { columns = n; rows = 1; planes = 1; strength = 1; window = noWindow }
 
--- 3 columns by 1 row of strength 5
-abbrev pub narrow : Shape
-narrow = record { columns = 3; rows = 1; planes = 1; strength = 5; window = noWindow }
-
 -- Theorem. The examples hold.
 pub record CodingExamples : Type 0 where
   -- 7 classes of 10 cells with 4 checks each: 42 data cells, 5 bytes and 2 padding cells
@@ -64,7 +61,7 @@ pub record CodingExamples : Type 0 where
       × (planCells stack ≡ 70)
       × (planUsed stack ≡ 7)
   -- 3 columns by 1 row at t = 5: of 13 classes 3 hold a cell
-  pub narrow-plan : (planClasses narrow ≡ 13) × (planUsed narrow ≡ 3)
+  pub narrow-plan : (planClasses (sized 3 1 1 5) ≡ 13) × (planUsed (sized 3 1 1 5) ≡ 3)
   pub written : encodedField stack bytes ≡ cells
   pub earlier : earlierField stack bytes ≡ earlierCells
   -- a class of five cells has room for no byte
