@@ -71,11 +71,15 @@ pub record PlacingExamples : Type 0 where
       × (usedOf (windowed 5 1 2 3) ≡ 3)
       × (usedOf (windowed 1 5 2 3) ≡ 2)
       × (usedOf (sized 3 1 2 3) ≡ 6)
-  -- at t = 3 row 0, column 2 and row 1, column 0 are of class 2, and 3 apart
+  -- at t = 3 row 0, column 2 and row 1, column 0 are of class 2, and 3 apart; at t = 2 row 0, column 0 and row 1, column 1 are of
+  -- class 0, and 2 apart
   pub nearest-pair :
       (classGiven (sized 5 5 1 3) (cell 0 0 2) ≡ 2)
       × (classGiven (sized 5 5 1 3) (cell 1 0 0) ≡ 2)
       × (distance (cell 0 0 2) (cell 1 0 0) ≡ 3)
+      × (classGiven (sized 5 5 1 2) (cell 0 0 0) ≡ 0)
+      × (classGiven (sized 5 5 1 2) (cell 1 0 1) ≡ 0)
+      × (distance (cell 0 0 0) (cell 1 0 1) ≡ 2)
   -- row 1, plane 1, column 2 of 7 columns, 5 rows, 2 planes: (1 × 5 + 1) × 7 + 2
   pub byte-number : cellNumber (sized 7 5 2 3) (cell 1 1 2) ≡ 44
   -- positions in byte order, from 1: at strength 1 all cells are of one class
