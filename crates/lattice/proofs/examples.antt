@@ -1,5 +1,5 @@
 -- Examples that meet the hypotheses of the theorems.
-mod ThreeCells
+pub mod ThreeCells
 pub mod Placing
 pub mod Stack
 pub mod Windows

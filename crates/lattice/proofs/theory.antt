@@ -51,6 +51,7 @@ pub mod PowerTest
 pub mod CapacityByClass
 pub mod CapacityGiven
 pub mod UsedClasses
+pub mod DigitsGiven
 pub mod Runs
 -- the distance test
 pub mod Scan

@@ -15,6 +15,7 @@ pub mod Position
 pub mod Class
 pub mod Check
 pub mod Used
+pub mod Digits
 pub mod Endless
 pub mod Order
 pub mod DistanceTest

@@ -23,6 +23,7 @@ refusalNumber why.BadForm = 8
 refusalNumber why.BadSettings = 9
 refusalNumber why.TooManyErasures = 10
 refusalNumber why.BadWindow = 11
+refusalNumber why.BadLevel = 12
 
 -- the number that tests give: 0 where they pass
 abbrev pub testedNumber : Tested → ℕ

@@ -1,4 +1,5 @@
-// The capacity of a field: the sizes of its classes, and the cells of each that hold no check; and the classes that hold a cell.
+// The capacity of a field: the sizes of its classes, and the cells of each that hold no check; the classes that hold a cell; and
+// the digits of a field of levels.
 ghost use mathlib.Core.Path.{_≡_};
 ghost use mathlib.Core.Logic.{_≢_};
 ghost use Prim.Native.Nat.{ℕ, _+_, _<_, _≤_};
@@ -9,6 +10,7 @@ ghost use Rattle.lattice.specs.Class.{layoutOf};
 ghost use Rattle.lattice.specs.Sizes.{HoldsSizes};
 ghost use Rattle.lattice.specs.Check.{isPower, isCheck, checks, dataCells, capacity, dataIn};
 ghost use Rattle.lattice.specs.Used.{usedOf, usedIn};
+ghost use Rattle.lattice.specs.Digits.{wordsIn, digitsIn};
 use crate::by_lines::sizes_by;
 use crate::refusal::Tested;
 use crate::shape::Shape;
@@ -42,6 +44,13 @@ pub fn data_cells(n: u32) -> u32
     ensures { λ r. ⌜ r ≡ dataCells n ⌝ }
 {
     n - checks(n)
+}
+
+// The number of words of six cells that a class of n cells is cut into.
+pub fn words_in(n: u32) -> u32
+    ensures { λ r. ⌜ r ≡ wordsIn n ⌝ }
+{
+    n / 6
 }
 
 // Sets every entry to 0.
@@ -102,6 +111,23 @@ pub fn used_in(sizes: &[u32; Shape::MAX_CLASSES], classes: usize) -> usize
         a += 1;
     }
     used
+}
+
+// The number of digits of a field of levels, five in each word of six cells, where `sizes` holds the size of each of that many
+// classes; 0 for more than there can be.
+pub fn digits_in(sizes: &[u32; Shape::MAX_CLASSES], classes: usize) -> usize
+    ensures { λ r. ⌜ (classes ≤ maxClasses → r ≡ digitsIn (now (sizes .entry)) classes) ⌝ }
+{
+    if classes > Shape::MAX_CLASSES {
+        return 0;
+    }
+    let mut words: usize = 0;
+    let mut a = 0;
+    while a < classes {
+        words += words_in(sizes[a]) as usize;
+        a += 1;
+    }
+    5 * words
 }
 
 impl Shape {

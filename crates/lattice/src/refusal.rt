@@ -16,6 +16,7 @@ pub enum Refusal {
     BadSettings,
     TooManyErasures,
     BadWindow,
+    BadLevel,
 }
 
 impl Refusal {
@@ -36,6 +37,7 @@ impl Refusal {
             Refusal::BadSettings => 9,
             Refusal::TooManyErasures => 10,
             Refusal::BadWindow => 11,
+            Refusal::BadLevel => 12,
         }
     }
 }

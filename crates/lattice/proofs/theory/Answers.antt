@@ -23,6 +23,7 @@ some-number why.BadForm e = omega arith
 some-number why.BadSettings e = omega arith
 some-number why.TooManyErasures e = omega arith
 some-number why.BadWindow e = omega arith
+some-number why.BadLevel e = omega arith
 
 -- what stands beside 0, and beside another number
 pub beside-zero : {A : Type 0} (n : ℕ) (x y : A) → n ≡ 0 → beside n x y ≡ x

@@ -77,7 +77,7 @@ module _ (h l : ℕ) where
     pub row-next : (l + 1) % h ≡ l % h + 1
     row-next = ap (over h) next-row ∙ digits-mod (l / h) p
 
-    row-plane : (l + 1) / h ≡ l / h
+    pub row-plane : (l + 1) / h ≡ l / h
     row-plane = ap (λ (n : ℕ). n / h) next-row ∙ digits-div (l / h) p
 
   module _ (some : 0 < h) (p : l % h + 1 ≡ h) where
@@ -87,7 +87,7 @@ module _ (h l : ℕ) where
     pub plane-row : (l + 1) % h ≡ 0
     plane-row = ap (over h) next-plane ∙ digits-mod (l / h + 1) some
 
-    plane-next : (l + 1) / h ≡ l / h + 1
+    pub plane-next : (l + 1) / h ≡ l / h + 1
     plane-next = ap (λ (n : ℕ). n / h) next-plane ∙ digits-div (l / h + 1) some
 
 -- the starts from line to line
