@@ -15,7 +15,7 @@ use Rattle.codec.specs.declared.decode.DecodeAnswer.{DecodeAnswer}
 use Rattle.codec.specs.declared.decode.DecodeAnswer.the-variants as dec
 use Rattle.codec.specs.declared.correct.CorrectAnswer.{CorrectAnswer}
 use Rattle.codec.specs.declared.correct.CorrectAnswer.the-variants as cor
-use Rattle.codec.specs.Plan.{planNumber, planClasses, planCapacity, planBytes, planCells, planUsed}
+use Rattle.codec.specs.Plan.{planNumber, planClasses, planCapacity, planBytes, planCells, planUsed, planDigits}
 use Rattle.codec.specs.Encode.{encodeNumber, encodeLeaves}
 use Rattle.codec.specs.Decode.{decodeNumber, decodeCount, decodeLeaves}
 use Rattle.codec.specs.Correct.{correctNumber, correctCount, correctLeaves}
@@ -27,9 +27,9 @@ planAnswerNumber (plan.Refused q) = refusalNumber q
 
 abbrev pub planFigures : PlanAnswer → FieldPlan
 planFigures (plan.Planned p) = p
-planFigures (plan.Refused q) = record { classes = 0; capacity = 0; bytes = 0; cells = 0; used = 0 }
+planFigures (plan.Refused q) = record { classes = 0; capacity = 0; bytes = 0; cells = 0; used = 0; digits = 0 }
 
--- the number and the five figures, each 0 beside a refusal
+-- the number and the six figures, each 0 beside a refusal
 pub record IsPlan (s : Shape) (r : PlanAnswer) : Type 0 where
   pub number : planAnswerNumber r ≡ planNumber s
   pub classes : planFigures r .classes ≡ planClasses s
@@ -37,6 +37,7 @@ pub record IsPlan (s : Shape) (r : PlanAnswer) : Type 0 where
   pub bytes : planFigures r .bytes ≡ planBytes s
   pub cells : planFigures r .cells ≡ planCells s
   pub used : planFigures r .used ≡ planUsed s
+  pub digits : planFigures r .digits ≡ planDigits s
 
 -- encoding's answer
 abbrev pub encodeAnswerNumber : EncodeAnswer → ℕ

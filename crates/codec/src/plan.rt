@@ -3,18 +3,21 @@ ghost use mathlib.Core.Path.{_≡_};
 ghost use Rattle.codec.specs.Answer.{IsPlan, planAnswerNumber, planFigures};
 use lattice::capacity::class_sizes;
 use lattice::capacity::data_in;
+use lattice::capacity::digits_in;
 use lattice::capacity::used_in;
 use lattice::refusal::Refusal;
 use lattice::refusal::Tested;
 use lattice::shape::Shape;
 
-// The classes m, the capacity K, the payload's bytes, the cells, and how many of the classes hold at least one cell.
+// The classes m, the capacity K, the payload's bytes, the cells, how many of the classes hold at least one cell, and the digits
+// of a field of levels.
 pub struct FieldPlan {
     pub classes: usize,
     pub capacity: usize,
     pub bytes: usize,
     pub cells: usize,
     pub used: usize,
+    pub digits: usize,
 }
 
 // The plan, or the refusal 1, 2 or 11.
@@ -34,7 +37,7 @@ impl PlanAnswer {
         }
     }
 
-    // The five figures, each 0 beside a refusal.
+    // The six figures, each 0 beside a refusal.
     pub fn figures(self) -> FieldPlan
         ensures { λ r. ⌜ r ≡ planFigures self ⌝ }
     {
@@ -46,6 +49,7 @@ impl PlanAnswer {
                 bytes: 0,
                 cells: 0,
                 used: 0,
+                digits: 0,
             },
         }
     }
@@ -64,6 +68,7 @@ pub fn plan(shape: Shape) -> PlanAnswer
     let classes = shape.classes();
     let capacity = data_in(&sizes, classes);
     let used = used_in(&sizes, classes);
+    let digits = digits_in(&sizes, classes);
     let cells = shape.cells();
     PlanAnswer::Planned(FieldPlan {
         classes,
@@ -71,5 +76,6 @@ pub fn plan(shape: Shape) -> PlanAnswer
         bytes: capacity / 8,
         cells,
         used,
+        digits,
     })
 }

@@ -7,7 +7,7 @@ use Rattle.lattice.proofs.theory.Answers.{beside-other}
 use Rattle.lattice.proofs.theory.Due.{due-none, due-test, due-append, due-settled}
 use Rattle.lattice.proofs.theory.RefusalTests.{shape-due}
 use Rattle.lattice.proofs.theorems.Refused.{shapeRefused}
-use Rattle.codec.specs.Plan.{planNumber, planClasses, planCapacity, planBytes, planCells, planUsed}
+use Rattle.codec.specs.Plan.{planNumber, planClasses, planCapacity, planBytes, planCells, planUsed, planDigits}
 use Rattle.codec.specs.Decode.{decodeNumber, decodeCount, decodeLeaves}
 use Rattle.codec.specs.Conditions.{encodeRefusals, decodeRefusals, correctRefusals}
 use Rattle.codec.specs.Encode.{encodeNumber, encodeLeaves}
@@ -45,13 +45,14 @@ correctRefused s field =
 -- Theorem. Beside any number but 0 every lent buffer keeps its bytes and every count and figure is 0.
 pub refusalsChangeNothing : RefusalsChangeNothing
 unfolding
-    planClasses planCapacity planBytes planCells planUsed encodeLeaves decodeLeaves decodeCount correctLeaves correctCount
+    planClasses planCapacity planBytes planCells planUsed planDigits encodeLeaves decodeLeaves decodeCount correctLeaves correctCount
 refusalsChangeNothing =
     record {
       plan = λ s other. (
         beside-other {A = ℕ} (planNumber s) _ 0 other,
         beside-other {A = ℕ} (planNumber s) _ 0 other,
         rw (beside-other {A = ℕ} (planNumber s) _ 0 other) (zero-div 8),
+        beside-other {A = ℕ} (planNumber s) _ 0 other,
         beside-other {A = ℕ} (planNumber s) _ 0 other,
         beside-other {A = ℕ} (planNumber s) _ 0 other,
       );

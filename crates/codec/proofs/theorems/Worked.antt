@@ -8,12 +8,13 @@ use Rattle.lattice.specs.Class.{minusMod, classWith, windowClass, classesOf, cl
 use Rattle.lattice.specs.Position.{sizeTo, position}
 use Rattle.lattice.specs.Check.{isPower, isCheck, holdsData, capacity}
 use Rattle.lattice.specs.Used.{isUsed, usedClasses}
+use Rattle.lattice.specs.Digits.{wordsIn, wordsBelow, digitsBelow}
 use Rattle.codec.specs.Field.{isCell, isReceived, cellsOk, having, differences}
 use Rattle.codec.specs.Hamming.{tagsOf, flipped}
 use Rattle.codec.specs.Erasure.{erasuresTo, erasedSum, filled, corrected, fewErasures, inReach, allInReach}
 use Rattle.codec.specs.Payload.{payloadBytes, rank, payloadBit, padding, earlierPadding, dataValue, dataField, encodedWith}
 use Rattle.codec.specs.Payload.{paddedWith, paddingOk}
-use Rattle.codec.specs.Plan.{planClasses, planCapacity, planBytes, planCells, planUsed}
+use Rattle.codec.specs.Plan.{planClasses, planCapacity, planBytes, planCells, planUsed, planDigits}
 use Rattle.codec.specs.Encode.{encodeNumber, fieldWith}
 use Rattle.codec.specs.Decode.{fieldNumber, correctedCount, decodeNumber, decodeCount}
 use Rattle.codec.specs.Correct.{correctNumber, correctCount, correctLeaves}
@@ -29,11 +30,13 @@ unfolding
     fewErasures inReach allInReach
     payloadBytes rank payloadBit padding earlierPadding dataValue dataField encodedWith paddedWith paddingOk
     planClasses planCapacity planBytes planCells isUsed usedClasses planUsed
+    wordsIn wordsBelow digitsBelow planDigits
     encodeNumber fieldWith fieldNumber decodeNumber correctNumber
 codingExamples =
     record {
-      plan = (refl, refl, refl, refl, refl);
+      plan = (refl, refl, refl, refl, refl, refl);
       narrow-plan = (refl, refl);
+      digits = (refl, refl);
       written = refl;
       earlier = refl;
       empty = refl;

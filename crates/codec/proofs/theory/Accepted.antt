@@ -13,10 +13,11 @@ use Rattle.lattice.specs.Shape.{Accepted, cellsOf}
 use Rattle.lattice.specs.Cell.{cellAt}
 use Rattle.lattice.specs.Class.{classesOf, classAt, layoutOf}
 use Rattle.lattice.specs.Used.{usedOf}
+use Rattle.lattice.specs.Digits.{digitsOf}
 use Rattle.lattice.proofs.theory.Answers.{beside-zero}
 use Rattle.lattice.proofs.theory.ClassBelow.{class-below}
 use Rattle.codec.specs.Payload.{payloadBytes}
-use Rattle.codec.specs.Plan.{planNumber, planClasses, planCapacity, planBytes, planCells, planUsed}
+use Rattle.codec.specs.Plan.{planNumber, planClasses, planCapacity, planBytes, planCells, planUsed, planDigits}
 use Rattle.codec.specs.Encode.{encodeNumber}
 use Rattle.codec.specs.Decode.{decodeNumber, fieldNumber}
 use Rattle.codec.specs.Correct.{correctNumber}
@@ -53,6 +54,10 @@ module _ (s : Shape) (accepted : Accepted s) where
   pub plan-used : planUsed s ≡ usedOf s
   unfolding planUsed
   plan-used = beside-zero (planNumber s) (usedOf s) 0 accepted
+
+  pub plan-digits : planDigits s ≡ digitsOf s
+  unfolding planDigits
+  plan-digits = beside-zero (planNumber s) (digitsOf s) 0 accepted
 
   -- every class is below the number of classes
   pub class-at-below : (i : ℕ) → i < cellsOf s → classAt s i < classesOf s

@@ -6,7 +6,7 @@ use mathlib.Core.Path.{_≡_}
 use Rattle.lattice.specs.declared.shape.Shape.{Shape}
 use Rattle.lattice.specs.Refusal.{Settled}
 use Rattle.lattice.specs.Shape.{shapeRefusals}
-use Rattle.codec.specs.Plan.{planNumber, planClasses, planCapacity, planBytes, planCells, planUsed}
+use Rattle.codec.specs.Plan.{planNumber, planClasses, planCapacity, planBytes, planCells, planUsed, planDigits}
 use Rattle.codec.specs.Encode.{encodeNumber, encodeLeaves}
 use Rattle.codec.specs.Decode.{decodeNumber, decodeCount, decodeLeaves}
 use Rattle.codec.specs.Correct.{correctNumber, correctCount, correctLeaves}
@@ -33,7 +33,12 @@ CorrectRefused = (s : Shape) (field : List ℕ) → Settled (correctRefusals s f
 -- Theorem (demand 1). Beside any number but 0 every lent buffer keeps its bytes and every count and figure is 0.
 pub record RefusalsChangeNothing : Type 0 where
   pub plan : (s : Shape) → planNumber s ≢ 0
-      → (planClasses s ≡ 0) × (planCapacity s ≡ 0) × (planBytes s ≡ 0) × (planCells s ≡ 0) × (planUsed s ≡ 0)
+      → (planClasses s ≡ 0)
+      × (planCapacity s ≡ 0)
+      × (planBytes s ≡ 0)
+      × (planCells s ≡ 0)
+      × (planUsed s ≡ 0)
+      × (planDigits s ≡ 0)
   pub encode : (s : Shape) (payload field : List ℕ) → encodeNumber s payload field ≢ 0 → encodeLeaves s payload field ≡ field
   pub decode : (s : Shape) (payload field : List ℕ) → decodeNumber s payload field ≢ 0
       → (decodeLeaves s payload field ≡ payload) × (decodeCount s payload field ≡ 0)

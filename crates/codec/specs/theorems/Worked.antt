@@ -8,7 +8,7 @@ use Rattle.lattice.specs.theorems.Windows.{windowed}
 use Rattle.lattice.specs.theorems.Examples.{sized}
 use Rattle.lattice.specs.declared.shape.Shape.{Shape}
 use Rattle.codec.specs.Field.{fieldOf, differences}
-use Rattle.codec.specs.Plan.{planClasses, planCapacity, planBytes, planCells, planUsed}
+use Rattle.codec.specs.Plan.{planClasses, planCapacity, planBytes, planCells, planUsed, planDigits}
 use Rattle.codec.specs.Encode.{encodeNumber, encodedField, earlierField}
 use Rattle.codec.specs.Decode.{decodeNumber, decodeCount}
 use Rattle.codec.specs.Correct.{correctNumber, correctCount, correctLeaves}
@@ -54,14 +54,19 @@ strip n = record { columns = n; rows = 1; planes = 1; strength = 1; window = noW
 
 -- Theorem. The examples hold.
 pub record CodingExamples : Type 0 where
-  -- 7 classes of 10 cells with 4 checks each: 42 data cells, 5 bytes and 2 padding cells
+  -- 7 classes of 10 cells with 4 checks each: 42 data cells, 5 bytes and 2 padding cells; and one word of six
+  -- cells, so five digits, in each class
   pub plan : (planClasses stack ≡ 7)
       × (planCapacity stack ≡ 42)
       × (planBytes stack ≡ 5)
       × (planCells stack ≡ 70)
       × (planUsed stack ≡ 7)
+      × (planDigits stack ≡ 35)
   -- 3 columns by 1 row at t = 5: of 13 classes 3 hold a cell
   pub narrow-plan : (planClasses (sized 3 1 1 5) ≡ 13) × (planUsed (sized 3 1 1 5) ≡ 3)
+  -- 7 columns by 4 rows at t = 3: of 5 classes three have 6 cells, which are a word, and two have 5, which are none; and by a
+  -- window of 1 row and 3 columns 7 columns by 5 rows have a class of 15 cells, two words, and two of 10, a word each
+  pub digits : (planDigits (sized 7 4 1 3) ≡ 15) × (planDigits (windowed 7 5 1 3) ≡ 20)
   pub written : encodedField stack bytes ≡ cells
   pub earlier : earlierField stack bytes ≡ earlierCells
   -- a class of five cells has room for no byte

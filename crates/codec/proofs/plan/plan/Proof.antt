@@ -6,7 +6,8 @@ use Rattle.lattice.specs.Shape.{maxClasses}
 use Rattle.lattice.proofs.theory.Answers.{told, told-none}
 use Rattle.lattice.proofs.theory.CapacityGiven.{classes-given, capacity-given}
 use Rattle.lattice.proofs.theory.UsedClasses.{used-given}
-use Rattle.codec.specs.Plan.{planClasses, planCapacity, planBytes, planCells, planUsed}
+use Rattle.lattice.proofs.theory.DigitsGiven.{digits-given}
+use Rattle.codec.specs.Plan.{planClasses, planCapacity, planBytes, planCells, planUsed, planDigits}
 use Rattle.codec.proofs.theory.PlanRefusal.{plan-refused}
 use Rattle.codec.proofs.plan.plan.Statement.{statement}
 use Rattle.codec.proofs.plan.plan.Tie as tie
@@ -37,13 +38,17 @@ data-in-requires c κs = search needs
 used-in-requires : tie.Need-used-in-requires
 used-in-requires c κs = search needs
 
+digits-in-requires : tie.Need-digits-in-requires
+digits-in-requires c κs = search needs
+
 cells-requires : tie.Need-cells-requires
 cells-requires c κs = search needs
 
 returns-2 : tie.Need-returns-2
-unfolding planClasses planCapacity planBytes planCells planUsed
+unfolding planClasses planCapacity planBytes planCells planUsed planDigits
 returns-2 c =
-    let summed = c .before .before .before in
+    let counted = c .before .before .before in
+    let summed = counted .before .before in
     let placed = summed .before .before in
     let sized = placed .before in
     let e = sized .before .before in
@@ -56,7 +61,8 @@ returns-2 c =
       capacity = capacity;
       bytes = ap (λ (k : ℕ). k / 8) capacity;
       cells = c .cells .ensures;
-      used = c .before .used-in .ensures few ∙ used-given _ _ _ (sized .class-sizes .ensures .0) own;
+      used = counted .used-in .ensures few ∙ used-given _ _ _ (sized .class-sizes .ensures .0) own;
+      digits = c .before .digits-in .ensures few ∙ digits-given _ _ _ (sized .class-sizes .ensures .0) own;
     }
 
 pub plan-spec : {M : Type 1} → statement M
@@ -71,5 +77,6 @@ plan-spec =
     classes-requires
     data-in-requires
     used-in-requires
+    digits-in-requires
     cells-requires
     returns-2)
