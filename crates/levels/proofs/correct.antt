@@ -1,0 +1,2 @@
+-- What correcting uses alone.
+mod StoredCells

@@ -1,0 +1,2 @@
+-- What decoding uses alone.
+mod StoredDigits

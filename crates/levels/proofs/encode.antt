@@ -1,0 +1,2 @@
+-- What encoding uses alone.
+mod WrittenCells

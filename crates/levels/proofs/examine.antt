@@ -1,0 +1,2 @@
+-- What the tests of a field use alone.
+mod Tests

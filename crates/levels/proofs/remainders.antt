@@ -1,0 +1,2 @@
+-- What the remainders of the words use alone.
+mod TakenLevels

@@ -1,0 +1,2 @@
+-- What restoring a level uses alone.
+mod Restores

@@ -1,0 +1,2 @@
+-- What laying out the words uses alone.
+mod Offsets
