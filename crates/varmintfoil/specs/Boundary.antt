@@ -7,10 +7,13 @@ use Rattle.lattice.specs.declared.shape.Shape.{Shape}
 use Rattle.lattice.specs.Cell.{Cell}
 use Rattle.lattice.specs.Class.{classNumber, classGiven}
 use Rattle.lattice.specs.DistanceTest.{testNumber, verdict, foundTriple, triplesTried}
-use Rattle.codec.specs.Plan.{planNumber, planClasses, planCapacity, planBytes, planCells, planUsed}
+use Rattle.codec.specs.Plan.{planNumber, planClasses, planCapacity, planBytes, planCells, planUsed, planDigits}
 use Rattle.codec.specs.Encode.{encodeNumber, encodeLeaves}
 use Rattle.codec.specs.Decode.{decodeNumber, decodeCount, decodeLeaves}
 use Rattle.codec.specs.Correct.{correctNumber, correctCount, correctLeaves}
+use Rattle.levels.specs.Encode.{encodeLevelsNumber, encodeLevelsLeaves}
+use Rattle.levels.specs.Decode.{decodeLevelsNumber, decodeLevelsCount, decodeLevelsLeaves}
+use Rattle.levels.specs.Correct.{correctLevelsNumber, correctLevelsCount, correctLevelsLeaves}
 use Rattle.varmintfoil.specs.declared.PlanResult.{PlanResult}
 use Rattle.varmintfoil.specs.declared.ClassResult.{ClassResult}
 use Rattle.varmintfoil.specs.declared.CountResult.{CountResult}
@@ -21,7 +24,7 @@ abbrev pub asNumber : Bool → ℕ
 asNumber true = 1
 asNumber false = 0
 
--- the number and the five figures of the plan
+-- the number and the six figures of the plan
 pub record IsPlanResult (s : Shape) (r : PlanResult) : Type 0 where
   pub number : r .number ≡ planNumber s
   pub classes : r .classes ≡ planClasses s
@@ -29,6 +32,7 @@ pub record IsPlanResult (s : Shape) (r : PlanResult) : Type 0 where
   pub bytes : r .bytes ≡ planBytes s
   pub cells : r .cells ≡ planCells s
   pub used : r .used ≡ planUsed s
+  pub digits : r .digits ≡ planDigits s
 
 -- the number and the class of a cell
 pub record IsClassResult (s : Shape) (x : Cell) (r : ClassResult) : Type 0 where
@@ -51,6 +55,21 @@ pub record IsCorrectResult (s : Shape) (field last : List ℕ) (r : CountResult)
   pub number : r .number ≡ correctNumber s field
   pub count : r .count ≡ correctCount s field
   pub leaves : last ≡ correctLeaves s field
+
+-- the same of fields of levels
+pub record IsEncodeLevelsResult (s : Shape) (payload field last : List ℕ) (r : ℕ) : Type 0 where
+  pub number : r ≡ encodeLevelsNumber s payload field
+  pub leaves : last ≡ encodeLevelsLeaves s payload field
+
+pub record IsDecodeLevelsResult (s : Shape) (payload field last : List ℕ) (r : CountResult) : Type 0 where
+  pub number : r .number ≡ decodeLevelsNumber s payload field
+  pub count : r .count ≡ decodeLevelsCount s payload field
+  pub leaves : last ≡ decodeLevelsLeaves s payload field
+
+pub record IsCorrectLevelsResult (s : Shape) (field last : List ℕ) (r : CountResult) : Type 0 where
+  pub number : r .number ≡ correctLevelsNumber s field
+  pub count : r .count ≡ correctLevelsCount s field
+  pub leaves : last ≡ correctLevelsLeaves s field
 
 -- the distance test's number, its verdict, the triple found and the number of triples tried
 pub record IsDistanceResult (m b c t : ℕ) (r : DistanceResult) : Type 0 where

@@ -5,13 +5,17 @@ ghost use Rattle.lattice.specs.Cell.{cell};
 ghost use Rattle.lattice.specs.Shape.{shapeFrom};
 ghost use Rattle.varmintfoil.specs.Boundary.{asNumber, IsPlanResult, IsClassResult, IsEncodeResult, IsDecodeResult};
 ghost use Rattle.varmintfoil.specs.Boundary.{IsCorrectResult, IsDistanceResult};
+ghost use Rattle.varmintfoil.specs.Boundary.{IsEncodeLevelsResult, IsDecodeLevelsResult, IsCorrectLevelsResult};
 
 mod operations;
 
 use crate::operations::class_of;
 use crate::operations::correct_in;
+use crate::operations::correct_levels_in;
 use crate::operations::decode_in;
+use crate::operations::decode_levels_in;
 use crate::operations::encode_in;
+use crate::operations::encode_levels_in;
 use crate::operations::plan_of;
 use lattice::distance::distance_test;
 use lattice::shape::ShapeNumbers;
@@ -24,6 +28,7 @@ pub struct PlanResult {
     pub bytes: usize,
     pub cells: usize,
     pub used: usize,
+    pub digits: usize,
 }
 
 #[repr(C)]
@@ -55,7 +60,8 @@ fn as_number(verdict: bool) -> usize
     verdict as usize
 }
 
-// The classes, the capacity, the payload's bytes, the cells and the classes that hold a cell, or the refusal 1, 2 or 11.
+// The classes, the capacity, the payload's bytes, the cells, the classes that hold a cell and the digits of a field of levels, or
+// the refusal 1, 2 or 11.
 #[no_mangle]
 pub extern "C" fn varmintfoil_plan(shape: ShapeNumbers) -> PlanResult
     ensures { λ r. ⌜ IsPlanResult (shapeFrom shape) r ⌝ }
@@ -69,6 +75,7 @@ pub extern "C" fn varmintfoil_plan(shape: ShapeNumbers) -> PlanResult
         bytes: figures.bytes,
         cells: figures.cells,
         used: figures.used,
+        digits: figures.digits,
     }
 }
 
@@ -120,6 +127,48 @@ pub extern "C" fn varmintfoil_correct(shape: ShapeNumbers, field: &mut [u8]) -> 
     ensures { λ r. ⌜ IsCorrectResult (shapeFrom shape) (now (field .entry)) (now (field .exit)) r ⌝ }
 {
     let answer = correct_in(shape, field);
+    CountResult {
+        number: answer.number(),
+        count: answer.count(),
+    }
+}
+
+// Writes the field of levels of a payload of digits, or gives the refusal 1, 2, 11, 3, 4 or 12.
+#[no_mangle]
+pub extern "C" fn varmintfoil_encode_levels(
+    shape: ShapeNumbers,
+    payload: &[u8],
+    field: &mut [u8],
+) -> usize
+    ensures { λ r. ⌜ IsEncodeLevelsResult (shapeFrom shape) (now (payload .entry)) (now (field .entry)) (now (field .exit)) r ⌝ }
+{
+    let answer = encode_levels_in(shape, payload, field);
+    answer.number()
+}
+
+// Fills the payload with the digits of a field of levels and gives the number of word cells that differ, or gives the refusal 1,
+// 2, 11, 3, 4, 12 or 6.
+#[no_mangle]
+pub extern "C" fn varmintfoil_decode_levels(
+    shape: ShapeNumbers,
+    payload: &mut [u8],
+    field: &[u8],
+) -> CountResult
+    ensures { λ r. ⌜ IsDecodeLevelsResult (shapeFrom shape) (now (payload .entry)) (now (field .entry)) (now (payload .exit)) r ⌝ }
+{
+    let answer = decode_levels_in(shape, payload, field);
+    CountResult {
+        number: answer.number(),
+        count: answer.count(),
+    }
+}
+
+// Leaves the corrected field of levels and gives the number of cells that change, or gives the refusal 1, 2, 11, 4, 12 or 6.
+#[no_mangle]
+pub extern "C" fn varmintfoil_correct_levels(shape: ShapeNumbers, field: &mut [u8]) -> CountResult
+    ensures { λ r. ⌜ IsCorrectLevelsResult (shapeFrom shape) (now (field .entry)) (now (field .exit)) r ⌝ }
+{
+    let answer = correct_levels_in(shape, field);
     CountResult {
         number: answer.number(),
         count: answer.count(),

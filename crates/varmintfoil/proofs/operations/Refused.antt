@@ -22,6 +22,10 @@ use Rattle.codec.specs.Encode.{encodeNumber, encodeLeaves}
 use Rattle.codec.specs.Decode.{decodeNumber, decodeCount, decodeLeaves}
 use Rattle.codec.specs.Correct.{correctNumber, correctCount, correctLeaves}
 use Rattle.codec.specs.Answer.{IsPlan, IsEncoded, IsDecoded, IsCorrected}
+use Rattle.levels.specs.Encode.{encodeLevelsNumber, encodeLevelsLeaves}
+use Rattle.levels.specs.Decode.{decodeLevelsNumber, decodeLevelsCount, decodeLevelsLeaves}
+use Rattle.levels.specs.Correct.{correctLevelsNumber, correctLevelsCount, correctLevelsLeaves}
+use Rattle.levels.specs.Answer.{IsEncodedLevels, IsDecodedLevels, IsCorrectedLevels}
 use Rattle.codec.proofs.theory.PlanRefusal.{plan-refused}
 
 module _ (n : ShapeNumbers) (r : NewShape) (x : IsNewShape n r) (why : Refusal) (e : r ≡ new.Refused why) where
@@ -57,6 +61,36 @@ module _ (n : ShapeNumbers) (r : NewShape) (x : IsNewShape n r) (why : Refusal) 
           leaves = refused why _ _ _ (new-first n r x why e _);
           reason = λ z. new-other n r x why e reasons.OutsideShape refl cc;
         }
+
+    -- so it is of fields of levels
+    pub refused-encode-levels : IsEncodedLevels (shapeFrom n) payload field field (enc.Refused why)
+    unfolding encodeLevelsNumber encodeLevelsLeaves
+    refused-encode-levels =
+        record {
+          number = new-first n r x why e _;
+          leaves = refused why _ _ _ (new-first n r x why e _);
+          reason = λ z. new-other n r x why e reasons.OutsideShape refl cc;
+        }
+
+    pub refused-decode-levels : IsDecodedLevels (shapeFrom n) payload field payload (dec.Refused why)
+    unfolding decodeLevelsNumber decodeLevelsCount decodeLevelsLeaves
+    refused-decode-levels =
+        record {
+          number = new-first n r x why e _;
+          count = refused why _ _ _ (new-first n r x why e _);
+          leaves = refused why _ _ _ (new-first n r x why e _);
+          reason = λ z. new-other n r x why e reasons.OutsideShape refl cc;
+        }
+
+  pub refused-correct-levels : (field : List ℕ) → IsCorrectedLevels (shapeFrom n) field field (cor.Refused why)
+  unfolding correctLevelsNumber correctLevelsCount correctLevelsLeaves
+  refused-correct-levels field =
+      record {
+        number = new-first n r x why e _;
+        count = refused why _ _ _ (new-first n r x why e _);
+        leaves = refused why _ _ _ (new-first n r x why e _);
+        reason = λ z. new-other n r x why e reasons.OutsideShape refl cc;
+      }
 
   pub refused-correct : (field : List ℕ) → IsCorrected (shapeFrom n) field field (cor.Refused why)
   unfolding correctNumber correctCount correctLeaves

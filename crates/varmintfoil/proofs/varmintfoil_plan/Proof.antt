@@ -25,6 +25,7 @@ returns c =
       bytes = ap (λ (p : FieldPlan). p .bytes) figures ∙ answer .bytes;
       cells = ap (λ (p : FieldPlan). p .cells) figures ∙ answer .cells;
       used = ap (λ (p : FieldPlan). p .used) figures ∙ answer .used;
+      digits = ap (λ (p : FieldPlan). p .digits) figures ∙ answer .digits;
     }
 
 pub varmintfoil-plan-spec : {M : Type 1} → statement M
