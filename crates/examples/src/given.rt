@@ -36,7 +36,7 @@ pub(crate) fn plan(shape: Shape) -> Answer {
     let p = given.figures();
     answer::of(
         given.number(),
-        [p.classes, p.capacity, p.bytes, p.cells, p.used, 0],
+        [p.classes, p.capacity, p.bytes, p.cells, p.used, p.digits],
     )
 }
 
@@ -85,6 +85,53 @@ pub(crate) fn correct(shape: Shape, field: Buffer, cells: usize) -> Answer
 {
     let mut lent = field;
     let given = codec::correct::correct(shape, &mut lent[..cells]);
+    Answer {
+        number: given.number(),
+        figures: [given.count(), 0, 0, 0, 0, 0],
+        buffer: lent,
+    }
+}
+
+// The first `digits` of a payload are written into the first `cells` of a shaded field.
+pub(crate) fn encode_levels(
+    shape: Shape,
+    payload: Buffer,
+    digits: usize,
+    field: Buffer,
+    cells: usize,
+) -> Answer
+    requires { ⌜ (digits ≤ 512) × (cells ≤ 512) ⌝ }
+{
+    let mut lent = field;
+    let given = levels::encode::encode_levels(shape, &payload[..digits], &mut lent[..cells]);
+    answer::leaving(given.number(), lent)
+}
+
+// The first `cells` of a shaded field are read into the first `digits` of a payload.
+pub(crate) fn decode_levels(
+    shape: Shape,
+    payload: Buffer,
+    digits: usize,
+    field: Buffer,
+    cells: usize,
+) -> Answer
+    requires { ⌜ (digits ≤ 512) × (cells ≤ 512) ⌝ }
+{
+    let mut lent = payload;
+    let given = levels::decode::decode_levels(shape, &mut lent[..digits], &field[..cells]);
+    Answer {
+        number: given.number(),
+        figures: [given.count(), 0, 0, 0, 0, 0],
+        buffer: lent,
+    }
+}
+
+// The first `cells` of a shaded field are mended.
+pub(crate) fn correct_levels(shape: Shape, field: Buffer, cells: usize) -> Answer
+    requires { ⌜ cells ≤ 512 ⌝ }
+{
+    let mut lent = field;
+    let given = levels::correct::correct_levels(shape, &mut lent[..cells]);
     Answer {
         number: given.number(),
         figures: [given.count(), 0, 0, 0, 0, 0],

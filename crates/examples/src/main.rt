@@ -8,5 +8,6 @@ mod worked;
 fn main() {
     worked::run();
     let counts = cases::numbers::with_windows(cases::numbers::all([0; tally::ENTRIES]));
-    tally::lines(cases::fields::all(cases::plans::all(counts)));
+    let plain = cases::fields::all(cases::plans::all(counts));
+    tally::lines(cases::shaded::all(plain));
 }

@@ -6,85 +6,91 @@ use second::answer::FIGURES;
 use second::answer::Figures;
 
 // The first forms are the names of the operations, in the order of the tally.
-pub(crate) const COMPARED: usize = 7;
+pub(crate) const COMPARED: usize = 10;
 
-pub(crate) const GAVE: usize = 8;
+pub(crate) const GAVE: usize = 11;
 
-pub(crate) const DIFFER: usize = 9;
+pub(crate) const DIFFER: usize = 12;
 
-pub(crate) const DIFFERENCE: usize = 10;
+pub(crate) const DIFFERENCE: usize = 13;
 
-pub(crate) const ALL_FIGURES: usize = 11;
+pub(crate) const ALL_FIGURES: usize = 14;
 
-pub(crate) const END_LINE: usize = 12;
+pub(crate) const END_LINE: usize = 15;
 
-pub(crate) const SHAPE: usize = 13;
+pub(crate) const SHAPE: usize = 16;
 
-pub(crate) const COLON: usize = 14;
+pub(crate) const COLON: usize = 17;
 
-pub(crate) const PLAN: usize = 15;
+pub(crate) const PLAN: usize = 18;
 
-pub(crate) const REFUSAL: usize = 16;
+pub(crate) const REFUSAL: usize = 19;
 
-pub(crate) const CELL: usize = 17;
+pub(crate) const CELL: usize = 20;
 
-pub(crate) const CLASS: usize = 18;
+pub(crate) const CLASS: usize = 21;
 
-pub(crate) const COUNT: usize = 19;
+pub(crate) const COUNT: usize = 22;
 
-pub(crate) const WRITTEN: usize = 20;
+pub(crate) const WRITTEN: usize = 23;
 
-pub(crate) const SPACE: usize = 21;
+pub(crate) const SPACE: usize = 24;
 
-pub(crate) const DIGIT: usize = 22;
+pub(crate) const DIGIT: usize = 25;
 
-pub(crate) const PAYLOAD: usize = 23;
+pub(crate) const PAYLOAD: usize = 26;
 
-pub(crate) const ROWS: usize = 24;
+pub(crate) const ROWS: usize = 27;
 
-pub(crate) const THAT_CARD: usize = 25;
+pub(crate) const THAT_CARD: usize = 28;
 
-pub(crate) const FIRST_PRINTED: usize = 26;
+pub(crate) const FIRST_PRINTED: usize = 29;
 
-pub(crate) const A_CARD: usize = 27;
+pub(crate) const A_CARD: usize = 30;
 
-pub(crate) const WHOLE: usize = 28;
+pub(crate) const WHOLE: usize = 31;
 
-pub(crate) const FOURTH_10001: usize = 29;
+pub(crate) const FOURTH_10001: usize = 32;
 
-pub(crate) const FOURTH_00001: usize = 30;
+pub(crate) const FOURTH_00001: usize = 33;
 
-pub(crate) const TWO_CLUSTERS: usize = 31;
+pub(crate) const TWO_CLUSTERS: usize = 34;
 
-pub(crate) const AND_FIRST_ROW: usize = 32;
+pub(crate) const AND_FIRST_ROW: usize = 35;
 
-pub(crate) const FIRST_ROW: usize = 33;
+pub(crate) const FIRST_ROW: usize = 36;
 
-pub(crate) const BEYOND_THE_CLASS: usize = 34;
+pub(crate) const BEYOND_THE_CLASS: usize = 37;
 
-pub(crate) const LAST_CLASS: usize = 35;
+pub(crate) const LAST_CLASS: usize = 38;
 
-pub(crate) const BYTE_ORDER: usize = 36;
+pub(crate) const BYTE_ORDER: usize = 39;
 
-pub(crate) const WINDOW: usize = 37;
+pub(crate) const WINDOW: usize = 40;
 
-pub(crate) const WRITTEN_BY_WINDOW: usize = 38;
+pub(crate) const WRITTEN_BY_WINDOW: usize = 41;
 
-pub(crate) const TORN_CORNERS: usize = 39;
+pub(crate) const TORN_CORNERS: usize = 42;
 
-pub(crate) const TORN_EDGE: usize = 40;
+pub(crate) const TORN_EDGE: usize = 43;
 
-pub(crate) const TWO_WINDOWS: usize = 41;
+pub(crate) const TWO_WINDOWS: usize = 44;
 
-pub(crate) const ROW_01111: usize = 42;
+pub(crate) const ROW_01111: usize = 45;
 
-pub(crate) const ROW_111000: usize = 43;
+pub(crate) const ROW_111000: usize = 46;
 
-pub(crate) const ROW_111: usize = 44;
+pub(crate) const ROW_111: usize = 47;
 
-pub(crate) const ROW_000: usize = 45;
+pub(crate) const ROW_000: usize = 48;
 
-pub(crate) const MENDED: usize = 46;
+pub(crate) const MENDED: usize = 49;
+
+pub(crate) const FROM_1_TO_10: usize = 50;
+
+pub(crate) const SHADES: usize = 51;
+
+pub(crate) const DIGITS: usize = 52;
 
 // A letter of a form, or number k. Gives which number is next.
 fn letter(letter: u8, numbers: Figures, k: usize) -> usize
@@ -120,9 +126,9 @@ fn one_of(forms: &[u8], form: usize, numbers: Figures) {
 
 pub(crate) fn say(form: usize, numbers: Figures) {
     one_of(
-        b"shape|plan|class|write|read|mend|gauge|: # compared|, # gave #|, # differ\n|\
+        b"shape|plan|class|write|read|mend|gauge|shaded write|shaded read|shaded mend|: # compared|, # gave #|, # differ\n|\
         : # and not #, case #, part #; figures|\x20# # # # # #|\n|\
-        # by # in #, strength #|: |accepted, classes #, capacity #, bytes #, cells #, used #|\
+        # by # in #, strength #|: |accepted, classes #, capacity #, bytes #, cells #, used #, digits #|\
         refusal #|\
         , row #, plane #, column #: |class #|count #|payload a5 on a card: written| |#|\
         , payload %; mended |, rows|that card|the card as first printed|a card|: read |\
@@ -138,7 +144,8 @@ pub(crate) fn say(form: usize, numbers: Figures) {
         \x20with three cells aslant turned over: read |\
         \x20with its last two cells turned over: read |\
         \x20with cells of two windows unread: read |\
-        , row 01111: read |, row 111000: read |, row 111: read |, row 000: read |; mended ",
+        , row 01111: read |, row 111000: read |, row 111: read |, row 000: read |; mended |\
+        , digits 1 to 10: written|, shades|, digits",
         form,
         numbers,
     );

@@ -23,20 +23,26 @@ pub(crate) const MEND: usize = 5;
 
 pub(crate) const GAUGE: usize = 6;
 
-// Of each operation: how often it was compared, how often it gave each number from 0 to 11, and how often it differed.
-const ROW: usize = 14;
+pub(crate) const SHADED_WRITE: usize = 7;
 
-const NUMBERS: usize = 12;
+pub(crate) const SHADED_READ: usize = 8;
 
-const DIFFERENCES: usize = 13;
+pub(crate) const SHADED_MEND: usize = 9;
 
-pub(crate) const ENTRIES: usize = 7 * ROW;
+// Of each operation: how often it was compared, how often it gave each number from 0 to 12, and how often it differed.
+const ROW: usize = 15;
+
+const NUMBERS: usize = 13;
+
+const DIFFERENCES: usize = 14;
+
+pub(crate) const ENTRIES: usize = 10 * ROW;
 
 pub(crate) type Tally = [usize; ENTRIES];
 
 // Where a number is counted: one that no operation may give is a difference.
 fn of_number(number: usize) -> usize
-    ensures { λ r. ⌜ r < 14 ⌝ }
+    ensures { λ r. ⌜ r < 15 ⌝ }
 {
     if number < NUMBERS {
         1 + number
@@ -46,7 +52,7 @@ fn of_number(number: usize) -> usize
 }
 
 fn add(tally: Tally, operation: usize, entry: usize) -> Tally
-    requires { ⌜ (operation < 7) × (entry < 14) ⌝ }
+    requires { ⌜ (operation < 10) × (entry < 15) ⌝ }
 {
     let mut counts = tally;
     let at = operation * ROW + entry;
@@ -115,7 +121,7 @@ pub(crate) fn compare(
     case: usize,
     part: usize,
 ) -> Tally
-    requires { ⌜ operation < 7 ⌝ }
+    requires { ⌜ operation < 10 ⌝ }
 {
     let counts = add(add(tally, operation, 0), operation, of_number(given.number));
     if same(given, expected) {

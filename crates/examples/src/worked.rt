@@ -1,5 +1,5 @@
 // The worked examples of document 01 that are not proved, a case for each error that it lists, and cards of document 02: with
-// unread cells, with a window, and with each padding that is read and some that are not. A line each.
+// unread cells, with a window, and with each padding that is read and some that are not; and shaded fields. A line each.
 ghost use Prim.Native.Nat.{_≤_};
 use crate::cases::damage::erased;
 use crate::cases::damage::turned;
@@ -134,6 +134,7 @@ pub(crate) fn run() {
     damaged(print::FIRST_PRINTED, print::FOURTH_00001, first);
     paddings();
     windows();
+    shaded();
 }
 
 // A card whole, with three cells turned over, and with erased cells.
@@ -248,4 +249,63 @@ fn windows() {
     planned(with_window(shape_of(5, 5, 1, 3), 2, 2));
     class(ruled(5, 5, 2, 3), 3, 0, 4);
     torn();
+}
+
+// The first numbers of a buffer, each after a space.
+fn show_numbers(buffer: Buffer, n: usize)
+    requires { ⌜ n ≤ 512 ⌝ }
+{
+    let mut i = 0;
+    while i < n {
+        say(print::SPACE, [0; 6]);
+        say(print::DIGIT, [buffer[i] as usize, 0, 0, 0, 0, 0]);
+        i += 1;
+    }
+}
+
+// A shaded row of one word, and a cell that belongs to none, is read, into a payload buffer that holds 77, and mended. Its other
+// cells are 0.
+fn shaded_row(first: u8, second: u8, last: u8) {
+    let shape = shape_of(7, 1, 1, 1);
+    let mut row = [0; CELLS];
+    row[0] = first;
+    row[1] = second;
+    row[6] = last;
+    sizes(shape);
+    say(print::SHADES, [0; 6]);
+    show_numbers(row, 7);
+    say(print::WHOLE, [0; 6]);
+    let read = given::decode_levels(shape, [77; CELLS], 5, row, 7);
+    show(print::COUNT, read);
+    say(print::DIGITS, [0; 6]);
+    let digits = read.buffer;
+    show_numbers(digits, 5);
+    say(print::MENDED, [0; 6]);
+    let mended = given::correct_levels(shape, row, 7);
+    show(print::COUNT, mended);
+    say(print::SHADES, [0; 6]);
+    let shades = mended.buffer;
+    show_numbers(shades, 7);
+    say(print::END_LINE, [0; 6]);
+}
+
+// The digits 1 to 10 in two words, a word and a cell that belongs to none with a fault, a shade that is none, and a fault that
+// would come from a shade that is none.
+fn shaded() {
+    let shape = shape_of(12, 1, 1, 2);
+    let mut digits = [0; CELLS];
+    let mut i = 0;
+    while i < 10 {
+        digits[i] = i as u8 + 1;
+        i += 1;
+    }
+    let field = given::encode_levels(shape, digits, 10, [0; CELLS], 12).buffer;
+    sizes(shape);
+    say(print::FROM_1_TO_10, [0; 6]);
+    show_numbers(field, 12);
+    say(print::END_LINE, [0; 6]);
+    shaded_row(0, 3, 9);
+    shaded_row(0, 4, 24);
+    shaded_row(0, 3, 25);
+    shaded_row(24, 0, 0);
 }

@@ -41,29 +41,40 @@ fn entry(sizes: &mut [u32; CLASSES], a: usize) -> u16
     a as u16
 }
 
-// The layout of the first cells of an accepted shape, and its capacity: how many of its cells hold no check.
+// The layout of the first cells of an accepted shape, its capacity: how many of its cells hold no check, and its words: how many
+// of its cells are the sixth, the twelfth and so on of their class.
 pub(crate) struct Laid {
     pub(crate) layout: Layout,
     pub(crate) capacity: usize,
+    pub(crate) words: usize,
 }
 
 pub(crate) fn lay_out(shape: Shape) -> Laid
-    ensures { λ r. ⌜ r .capacity ≤ 65536 ⌝ }
+    ensures { λ r. ⌜ (r .capacity ≤ 65536) × (r .words ≤ 65536) ⌝ }
 {
     let mut layout = [NO_CELL; CELLS];
     let cells = settings::cells(shape);
     let mut sizes = [0u32; CLASSES];
     let mut capacity = 0;
+    let mut words = 0;
     let mut i = 0;
     while i < cells {
-        let e = entry(&mut sizes, class_of_byte(shape, i));
+        let a = class_of_byte(shape, i);
+        let e = entry(&mut sizes, a);
         if e < NO_CELL {
             capacity += 1;
+        }
+        if sizes[a] % 6 == 0 {
+            words += 1;
         }
         if i < CELLS {
             layout[i] = e;
         }
         i += 1;
     }
-    Laid { layout, capacity }
+    Laid {
+        layout,
+        capacity,
+        words,
+    }
 }

@@ -15,7 +15,8 @@ pub fn shape(shape: Shape) -> usize
     settings::refusal(shape)
 }
 
-// The figures: m, K, payload bytes, cells and the classes that hold at least one cell.
+// The figures: m, K, payload bytes, cells, the classes that hold at least one cell, and the digits of a shaded field, five for
+// each word.
 pub fn plan(shape: Shape) -> Answer
     ensures { λ r. ⌜ (r .number ≤ 11) × (getD (r .figures) 0 0 ≤ 512) ⌝ }
 {
@@ -24,9 +25,11 @@ pub fn plan(shape: Shape) -> Answer
         return answer::of(number, [0; 6]);
     }
     let s = settings::settings_of(shape);
-    let k = lay_out(shape).capacity;
+    let laid = lay_out(shape);
+    let k = laid.capacity;
     let cells = settings::cells(shape);
-    answer::of(0, [s.m as usize, k, k / 8, cells, used_classes(shape), 0])
+    let used = used_classes(shape);
+    answer::of(0, [s.m as usize, k, k / 8, cells, used, 5 * laid.words])
 }
 
 // The number with which the class of a cell is declined, 0 where the cell lies in an accepted shape.

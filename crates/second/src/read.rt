@@ -23,12 +23,12 @@ const UNREAD: u8 = 2;
 // The most unread cells of a class that is read.
 const MOST_UNREAD: usize = 2;
 
-// Whether one of the first `cells` bytes of a field is not 0, 1 or 2.
-fn is_soiled(cells: usize, field: Buffer) -> bool {
+// Whether one of the first `length` bytes of a buffer is above the highest that is taken there.
+pub(crate) fn is_soiled(length: usize, buffer: Buffer, highest: u8) -> bool {
     let mut i = 0;
     while i < CELLS {
-        if i < cells {
-            if UNREAD < field[i] {
+        if i < length {
+            if highest < buffer[i] {
                 return true;
             }
         }
@@ -141,7 +141,7 @@ fn mend_class(layout: Layout, a: u16, before: Buffer) -> Answer
 }
 
 // In how many cells two fields differ.
-fn differences(one: Buffer, other: Buffer) -> usize
+pub(crate) fn differences(one: Buffer, other: Buffer) -> usize
     ensures { λ r. ⌜ r ≤ 512 ⌝ }
 {
     let mut n = 0;
@@ -214,7 +214,7 @@ pub fn mend(shape: Shape, field: Buffer, cells: usize) -> Answer
     if number != 0 {
         return answer::leaving(number, field);
     }
-    if is_soiled(cells, field) {
+    if is_soiled(cells, field, UNREAD) {
         return answer::leaving(5, field);
     }
     let laid = lay_out(shape);

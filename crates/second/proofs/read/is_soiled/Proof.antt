@@ -5,10 +5,10 @@ use Rattle.second.proofs.read.is_soiled.Statement.{statement}
 use Rattle.second.proofs.read.is_soiled.Tie as tie
 
 abbrev Inv-loop : tie.InvT-loop
-Inv-loop cells field i₀ i = i ≤ 512
+Inv-loop length buffer highest i₀ i = i ≤ 512
 
 abbrev μ-loop : tie.MeasureT-loop
-μ-loop cells field i₀ i = 512 - i
+μ-loop length buffer highest i₀ i = 512 - i
 
 pub is-soiled-spec : {M : Type 1} → statement M
 is-soiled-spec =

@@ -1,0 +1,14 @@
+-- `correct_levels` is safe: the part that is lent is as long as it says.
+use native.Mathlib.Omega.{arith}
+use mathlib.Core.Path.{sym}
+use lib.Seq.{length-take-le}
+use borrow.Author.Needs.{needs}
+use Prim.Native.Nat.{_-_}
+use Rattle.examples.proofs.given.correct_levels.Statement.{statement}
+use Rattle.examples.proofs.given.correct_levels.Tie as tie
+
+pub correct-levels-spec : {M : Type 1} → statement M
+correct-levels-spec =
+    tie.close
+    (tie.spec (λ c. search needs) (λ c. sym (length-take-le _ _ (omega arith))) (λ c κs. search needs)
+    (λ c κs. search needs) (λ c κs. search needs) (λ c. search needs))

@@ -1,0 +1,17 @@
+-- `settle` is safe and ends.
+use Prim.Native.Nat.{_≤_, _-_}
+use borrow.Author.Needs.{needs}
+use Rattle.second.proofs.shaded.settle.Statement.{statement}
+use Rattle.second.proofs.shaded.settle.Tie as tie
+
+abbrev Inv-loop : tie.InvT-loop
+Inv-loop layout places field₀ i₀ field i = i ≤ 512
+
+abbrev μ-loop : tie.MeasureT-loop
+μ-loop layout places field₀ i₀ field i = 512 - i
+
+pub settle-spec : {M : Type 1} → statement M
+settle-spec =
+    tie.close
+    (tie.spec Inv-loop μ-loop (λ c. search needs) (λ c. search needs) (λ c κs. search needs) (λ c κs. search needs)
+    (λ c κs. search needs) (λ c. search needs) (λ c. search needs) (λ c. search needs) (λ c. search needs))
