@@ -1,5 +1,5 @@
-/* Varmintfoil: a payload in a field of black and white cells that outlives any one hole of at most t connected cells or, by another
- * setting, any damage inside one window of p rows by q columns.
+/* Varmintfoil: a payload in a field of black and white cells, or of cells of 25 levels, that outlives any one hole of at most t connected
+ * cells or, by another setting, any damage inside one window of p rows by q columns.
  *
  * For x86-64 with the System V calling convention. Link target/staticlib/libvarmintfoil.a, which `rt staticlib varmintfoil` writes
  * at the repository's root; it needs the C library's memset and nothing else. Header and archive must be of one version.
@@ -13,6 +13,11 @@
  * A field is W * H * D bytes, one for each cell, 0 for white and 1 for black; a cell of a field that is decoded or corrected may be
  * erased, 2, a cell that was not read. The cell (row, plane, column) is byte (plane * H + row) * W + column. A payload has the number of
  * bytes that varmintfoil_plan gives.
+ *
+ * A field of levels is as many bytes, one for each cell, 0 to 24. Its payload is digits 0 to 24, one a byte, as many as varmintfoil_plan
+ * gives. The cells of each class, in byte order, are cut into words of six; the last ones of a class, fewer than six, belong to no word
+ * and are ignored. A word is lawful where 1, 5, 6, 11, 16 and 21 times its cells, in their order, add up to a multiple of 25. Its first
+ * cell is its check; the digits fill the other cells of all words, in byte order over the field.
  *
  * Padding is the cells after the payload's last bit that hold no check, at most 7. It is written as 1, 0, 1, 0 and on, from its first
  * cell in byte order. Before version 0.4.0 it was written as zeros: such a field is read too, and corrected to the field with zeros.
@@ -35,9 +40,9 @@
 #include <stdint.h>
 
 #define VARMINTFOIL_VERSION_MAJOR 0
-#define VARMINTFOIL_VERSION_MINOR 5
+#define VARMINTFOIL_VERSION_MINOR 6
 #define VARMINTFOIL_VERSION_PATCH 0
-#define VARMINTFOIL_VERSION "0.5.0"
+#define VARMINTFOIL_VERSION "0.6.0"
 
 /* The numbers that the functions give. The card program gives 8 besides, for a fault of form. */
 #define VARMINTFOIL_OK 0                 /* success */
@@ -47,19 +52,25 @@
 #define VARMINTFOIL_FIELD_LENGTH 4       /* a field length that is not the plan's */
 #define VARMINTFOIL_OUTSIDE_SHAPE 4      /* a row, plane or column outside the shape, in varmintfoil_class */
 #define VARMINTFOIL_BAD_CELL 5           /* a cell above 2 */
-#define VARMINTFOIL_OUT_OF_REACH 6       /* some class that stands for no codeword, in the words of varmintfoil_decode */
+#define VARMINTFOIL_OUT_OF_REACH 6       /* some class that stands for no codeword, in the words of varmintfoil_decode, or some word of
+                                            levels that stands for no lawful one, in those of varmintfoil_decode_levels */
 #define VARMINTFOIL_BAD_PADDING 7        /* padding that is neither 1, 0, 1, 0 and on nor all zeros after correction */
 #define VARMINTFOIL_BAD_SETTINGS 9       /* settings of the distance test outside its limits */
 #define VARMINTFOIL_TOO_MANY_ERASURES 10 /* some class with three erased cells or more */
 #define VARMINTFOIL_BAD_WINDOW 11        /* strength 0 and p or q 0, p * q above 512 or D above 1; another strength and p or q not 0 */
+#define VARMINTFOIL_BAD_LEVEL 12         /* a digit or a cell of a field of levels above 24 */
 
 /* The value of an erased cell. */
 #define VARMINTFOIL_ERASED 2
+
+/* The greatest level: of a cell, and of a digit. */
+#define VARMINTFOIL_MAX_LEVEL 24
 
 /* The most that any accepted shape has, for buffers of a fixed size. */
 #define VARMINTFOIL_MAX_CELLS 65536        /* cells, the bytes of a field */
 #define VARMINTFOIL_MAX_PAYLOAD_BYTES 8189 /* bytes of a payload */
 #define VARMINTFOIL_MAX_CLASSES 512        /* interleaving classes */
+#define VARMINTFOIL_MAX_DIGITS 54610       /* digits of a payload of levels */
 
 /* An answer that is dropped is a refusal that goes unseen: the compiler warns of it where it can. */
 #if (defined(__cplusplus) && __cplusplus >= 201703L) || (defined(__STDC_VERSION__) && __STDC_VERSION__ >= 202311L)
@@ -108,6 +119,7 @@ typedef struct {
     size_t bytes;    /* the payload's length, K / 8 rounded down */
     size_t cells;    /* the field's length, W * H * D */
     size_t used;     /* the number of classes that hold at least one cell, at most m */
+    size_t digits;   /* the length of the payload of a field of levels, five for each word */
 } varmintfoil_plan_t;
 
 typedef struct {
@@ -117,7 +129,7 @@ typedef struct {
 
 typedef struct {
     size_t number; /* 0, or the refusal */
-    size_t count;  /* the number of cells that correction changes, erased ones among them */
+    size_t count;  /* the number of cells that correction changes, erased ones among them; for varmintfoil_decode_levels those of words */
 } varmintfoil_count_t;
 
 typedef struct {
@@ -150,6 +162,22 @@ VARMINTFOIL_NODISCARD varmintfoil_count_t varmintfoil_decode(varmintfoil_shape_t
 /* Corrects a field where it lies: leaves the field of codewords that it stands for, in which no cell is erased, and counts the cells
  * that it changed; of damage to two or more cells of one class the same holds. Refusals: 1, 2, 11, 4, 5, 10, 6, 7. */
 VARMINTFOIL_NODISCARD varmintfoil_count_t varmintfoil_correct(varmintfoil_shape_t shape, uint8_t *field, size_t field_len);
+
+/* Writes the field of levels of some digits: the digits, the check of each word, and 0 in the cells that are ignored. What the field held
+ * before does not matter. Gives the number itself. Refusals: 1, 2, 11, 3, 4, 12 (a digit above 24). */
+VARMINTFOIL_NODISCARD size_t varmintfoil_encode_levels(varmintfoil_shape_t shape, const uint8_t *payload, size_t payload_len,
+                                                       uint8_t *field, size_t field_len);
+
+/* Reads a field of levels: fills the payload with the digits of the lawful words that its words stand for, and counts the cells of words
+ * where it differs from them. A word stands for the lawful word of levels 0 to 24 from which it comes by a change of -1, 1, 2 or 3, read
+ * less written, in at most one cell. Where the damage was more, that word need not be the one that was written. What the payload held
+ * before does not matter. Refusals: 1, 2, 11, 3, 4, 12 (a cell above 24, an ignored one too), 6. */
+VARMINTFOIL_NODISCARD varmintfoil_count_t varmintfoil_decode_levels(varmintfoil_shape_t shape, uint8_t *payload, size_t payload_len,
+                                                                    const uint8_t *field, size_t field_len);
+
+/* Corrects a field of levels where it lies: leaves the lawful words that its words stand for, and 0 in the cells that are ignored, and
+ * counts all cells that it changed. Refusals: 1, 2, 11, 4, 12, 6. */
+VARMINTFOIL_NODISCARD varmintfoil_count_t varmintfoil_correct_levels(varmintfoil_shape_t shape, uint8_t *field, size_t field_len);
 
 /* Are all different cells of one class, (column - b * row - c * plane) mod m, at least t apart in an endless stack? Tries the difference
  * triples of absolute sum 1 to t - 1 whose first number that is not 0 is positive, in rising order of row, then plane, then column, and

@@ -3,14 +3,13 @@
 
 use std::path::Path;
 
-/// Writes the crates `lattice`, `passes` and `codec` and the module `operations` of `varmintfoil`, each as a module of `crate::same`.
+/// Writes the crates `lattice`, `passes`, `codec` and `levels` and the module `operations` of `varmintfoil`, each as a module of
+/// `crate::same`.
 pub fn write(crates: &Path, to: &Path) {
-    let lattice = module(crates, "lattice", "lib", 0);
-    let passes = module(crates, "passes", "lib", 0);
-    let codec = module(crates, "codec", "lib", 0);
-    let operations = module(crates, "varmintfoil", "operations", 0);
-    let modules = [("lattice", lattice), ("passes", passes), ("codec", codec), ("operations", operations)];
-    let text: String = modules.iter().map(|(name, text)| format!("pub mod {name} {{\n{text}}}\n")).collect();
+    let libraries = ["lattice", "passes", "codec", "levels"].map(|name| (name, module(crates, name, "lib", 0)));
+    let operations = ("operations", module(crates, "varmintfoil", "operations", 0));
+    let modules = libraries.into_iter().chain([operations]);
+    let text: String = modules.map(|(name, text)| format!("pub mod {name} {{\n{text}}}\n")).collect();
     std::fs::write(to, text).unwrap();
 }
 
@@ -62,7 +61,7 @@ fn without_contracts(text: &str) -> Vec<&str> {
 fn path_in_rust(name: &str, used: &str) -> String {
     match used.split_once("::") {
         Some(("crate", rest)) => format!("crate::same::{name}::{rest}"),
-        Some(("lattice" | "passes" | "codec", _)) => format!("crate::same::{used}"),
+        Some(("lattice" | "passes" | "codec" | "levels", _)) => format!("crate::same::{used}"),
         _ => used.to_string(),
     }
 }

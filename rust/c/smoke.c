@@ -36,10 +36,11 @@ static void the_plan(void) {
     varmintfoil_plan_t plan = varmintfoil_plan(card);
     expect(plan.number == VARMINTFOIL_OK, "plan succeeds");
     expect(plan.classes == 5 && plan.capacity == 10 && plan.bytes == 1 && plan.cells == 25, "plan of the worked card");
-    expect(plan.used == 5, "all of its classes hold a cell");
+    expect(plan.used == 5 && plan.digits == 0, "all of its classes hold a cell, and none six");
     plan = varmintfoil_plan(VARMINTFOIL_SHAPE(.columns = 17, .rows = 241, .planes = 15, .strength = 6));
     expect(plan.number == VARMINTFOIL_OK && plan.classes == 38, "a stack of four different numbers has 38 classes");
     expect(plan.cells == 61455 && plan.capacity == 61037 && plan.bytes == 7629 && plan.used == 38, "and its figures");
+    expect(plan.digits == 51110, "five digits for each of its words");
     plan = varmintfoil_plan(VARMINTFOIL_SHAPE(.columns = 9, .rows = 9, .planes = 1, .window_rows = 512, .window_columns = 1));
     expect(plan.number == VARMINTFOIL_OK, "a window of 512 rows is accepted");
     expect(plan.classes == 512 && plan.capacity == 45 && plan.bytes == 5 && plan.cells == 81 && plan.used == 9,
@@ -49,7 +50,7 @@ static void the_plan(void) {
 static void the_limits(void) {
     varmintfoil_plan_t plan = varmintfoil_plan(VARMINTFOIL_SHAPE(.columns = 257, .rows = 1, .planes = 1, .strength = 1));
     expect(plan.number == VARMINTFOIL_BAD_SIZE, "257 columns are a bad size");
-    expect(plan.classes == 0 && plan.capacity == 0 && plan.bytes == 0 && plan.cells == 0 && plan.used == 0,
+    expect(plan.classes == 0 && plan.capacity == 0 && plan.bytes == 0 && plan.cells == 0 && plan.used == 0 && plan.digits == 0,
            "figures of a refusal are 0");
     plan = varmintfoil_plan(VARMINTFOIL_SHAPE(.columns = 65537, .rows = 1, .planes = 1, .strength = 1));
     expect(plan.number == VARMINTFOIL_BAD_SIZE, "65,537 columns are not taken for 1");
@@ -174,6 +175,40 @@ static void the_padding(void) {
     expect(count.number == VARMINTFOIL_BAD_PADDING && count.count == 0, "the codeword 0 1 1 1 1 holds 1 1 as padding");
 }
 
+static void the_levels(void) {
+    varmintfoil_shape_t strip = VARMINTFOIL_SHAPE(.columns = 12, .rows = 1, .planes = 1, .strength = 2);
+    static const uint8_t digits[10] = {1, 2, 3, 4, 5, 6, 7, 8, 9, 10}, levels[12] = {21, 12, 1, 2, 3, 4, 5, 6, 7, 8, 9, 10};
+    uint8_t payload[10] = {0}, field[12] = {0};
+    varmintfoil_count_t count;
+
+    expect(varmintfoil_plan(strip).digits == 10, "two words hold ten digits");
+    expect(varmintfoil_encode_levels(strip, digits, 10, field, 12) == VARMINTFOIL_OK, "encode levels");
+    expect(memcmp(field, levels, 12) == 0, "the field of the digits 1 to 10");
+    field[4] += 3;
+    field[5] -= 1;
+    count = varmintfoil_decode_levels(strip, payload, 10, field, 12);
+    expect(count.number == VARMINTFOIL_OK && count.count == 2 && memcmp(payload, digits, 10) == 0, "two cells changed are read");
+    count = varmintfoil_correct_levels(strip, field, 12);
+    expect(count.number == VARMINTFOIL_OK && count.count == 2 && memcmp(field, levels, 12) == 0, "and corrected");
+
+    strip.columns = 7;
+    strip.strength = 1;
+    memset(field, 0, 12);
+    field[1] = 3;
+    field[6] = 9;
+    count = varmintfoil_decode_levels(strip, payload, 5, field, 7);
+    expect(count.number == VARMINTFOIL_OK && count.count == 1 && payload[0] == 0, "the seventh cell is ignored");
+    count = varmintfoil_correct_levels(strip, field, 7);
+    expect(count.number == VARMINTFOIL_OK && count.count == 2 && field[1] == 0 && field[6] == 0, "and corrected to 0");
+    field[6] = VARMINTFOIL_MAX_LEVEL + 1;
+    count = varmintfoil_correct_levels(strip, field, 7);
+    expect(count.number == VARMINTFOIL_BAD_LEVEL && count.count == 0 && field[6] == 25, "25 is no level, in no cell");
+    field[0] = VARMINTFOIL_MAX_LEVEL;
+    field[6] = 0;
+    count = varmintfoil_decode_levels(strip, payload, 5, field, 7);
+    expect(count.number == VARMINTFOIL_OUT_OF_REACH && count.count == 0, "a word that comes from 25 is out of reach");
+}
+
 static void no_bytes(void) {
     varmintfoil_shape_t two = VARMINTFOIL_SHAPE(.columns = 2, .rows = 1, .planes = 1, .strength = 1);
     uint8_t cells[2] = {0, 1};
@@ -204,6 +239,7 @@ int main(void) {
     the_erased_cells();
     the_window();
     the_padding();
+    the_levels();
     no_bytes();
     the_distance_test();
     if (failures == 0) {

@@ -1,6 +1,7 @@
 /* How much stack each function takes: it is run on a stack painted with one byte, and the lowest byte that changed is looked for. All
  * bytes below the caller's own count, arguments in memory and the return address among them; printed is the most over some shapes,
- * each with a cell flipped and with one erased, and with its padding as it is written and as it was written before. */
+ * each with a cell flipped and with one erased, and with its padding as it is written and as it was written before; a field of levels
+ * with a cell as it was written, and 1, 2 and 3 higher. */
 #include "varmintfoil.h"
 
 #include <stdio.h>
@@ -16,8 +17,8 @@ static unsigned char *caller;
 #define HERE __asm__ volatile("mov %%rsp, %0" : "=r"(caller))
 
 static varmintfoil_shape_t shape;
-static uint8_t payload[VARMINTFOIL_MAX_PAYLOAD_BYTES], field[VARMINTFOIL_MAX_CELLS];
-static size_t bytes, cells, number;
+static uint8_t payload[VARMINTFOIL_MAX_DIGITS], field[VARMINTFOIL_MAX_CELLS];
+static size_t bytes, cells, digits, number;
 
 static void plan(void) {
     varmintfoil_plan_t answer;
@@ -26,6 +27,7 @@ static void plan(void) {
     number = answer.number;
     bytes = answer.bytes;
     cells = answer.cells;
+    digits = answer.digits;
 }
 
 static void class_of(void) {
@@ -46,6 +48,21 @@ static void decode(void) {
 static void correct(void) {
     HERE;
     number = varmintfoil_correct(shape, field, cells).number;
+}
+
+static void encode_levels(void) {
+    HERE;
+    number = varmintfoil_encode_levels(shape, payload, digits, field, cells);
+}
+
+static void decode_levels(void) {
+    HERE;
+    number = varmintfoil_decode_levels(shape, payload, digits, field, cells).number;
+}
+
+static void correct_levels(void) {
+    HERE;
+    number = varmintfoil_correct_levels(shape, field, cells).number;
 }
 
 /* Settings that hold at the greatest strength, so that every triple is tried. */
@@ -74,9 +91,17 @@ static size_t taken(void (*call)(void)) {
 static const struct {
     const char *name;
     void (*call)(void);
+    int levels;
 } calls[] = {
-    {"plan", plan},     {"class", class_of},   {"encode", encode},
-    {"decode", decode}, {"correct", correct}, {"distance_test", distance_test},
+    {"plan", plan, 0},
+    {"class", class_of, 0},
+    {"encode", encode, 0},
+    {"decode", decode, 0},
+    {"correct", correct, 0},
+    {"encode_levels", encode_levels, 1},
+    {"decode_levels", decode_levels, 1},
+    {"correct_levels", correct_levels, 1},
+    {"distance_test", distance_test, 0},
 };
 
 static const varmintfoil_shape_t shapes[] = {
@@ -98,11 +123,15 @@ int main(void) {
             shape = shapes[j / 4];
             plan();
             encode();
-            if (j / 2 % 2 == 1) {
-                /* The payload is zeros, and so was its field. */
+            /* The payload is zeros, and so was its field; and so is that of levels. */
+            if (j / 2 % 2 == 1 || calls[i].levels) {
                 memset(field, 0, cells);
             }
-            field[0] = j % 2 == 0 ? field[0] ^ 1 : VARMINTFOIL_ERASED;
+            if (calls[i].levels) {
+                field[0] = (uint8_t)(j % 4);
+            } else {
+                field[0] = j % 2 == 0 ? field[0] ^ 1 : VARMINTFOIL_ERASED;
+            }
             now = taken(calls[i].call);
             if (now == 0) {
                 printf("varmintfoil_%s refused a shape with %zu\n", calls[i].name, number);

@@ -1,9 +1,10 @@
 //! The reference implementation: document 01, sentence by sentence, and the erased (unread) cells, the windows (oblong damage), the
-//! padding (filler) and the classes that hold a cell of document 02, in plain Rust.
+//! padding (filler), the classes that hold a cell and the levels (shades) of document 02, in plain Rust.
 //!
 //! It is written to be read and to be compared with, not to be fast. A class is corrected by search, not by its syndrome: the class
 //! as it is and with each one cell flipped is tried, and the codeword among them is taken. Where cells of a class are erased, both
-//! values of each are tried, and no other cell is flipped. A refusal is the number that the documents list.
+//! values of each are tried, and no other cell is flipped. A word of levels is corrected by search too: the word as it is and with each
+//! change of each cell taken back is tried. A refusal is the number that the documents list.
 
 #![deny(unsafe_code)]
 // Who includes this file may call a part of it.
@@ -15,7 +16,10 @@ pub type Number = usize;
 /// An erased cell: one that was not read.
 pub const ERASED: u8 = 2;
 
-/// What `plan` gives: m, K, payload bytes, cells and the classes that hold at least one cell.
+/// The greatest level (shade).
+pub const MAX_LEVEL: u8 = 24;
+
+/// What `plan` gives: m, K, payload bytes, cells, the classes that hold at least one cell and the payload digits of a field of levels.
 #[derive(Clone, Copy, Debug, PartialEq, Eq)]
 pub struct Plan {
     pub classes: usize,
@@ -23,6 +27,7 @@ pub struct Plan {
     pub bytes: usize,
     pub cells: usize,
     pub used: usize,
+    pub digits: usize,
 }
 
 /// What the distance test gives: the verdict, the triple found (or zeros) and the count of triples tried.
@@ -360,14 +365,119 @@ pub fn differences(one: &[u8], other: &[u8]) -> usize {
     one.iter().zip(other).filter(|(a, b)| a != b).count()
 }
 
+// Fields of levels
+
+/// The cells of a word, or their levels.
+pub type Word<T> = [T; 6];
+
+/// The multipliers of the cells of a word.
+const MULTIPLIERS: Word<usize> = [1, 5, 6, 11, 16, 21];
+
+/// What a cell may change by, as the level read less the level written.
+pub const CHANGES: [i32; 4] = [-1, 1, 2, 3];
+
+/// The words of a shape: each class is cut into words of six cells, in the order of their positions.
+pub fn words(shape: &Shape) -> Vec<Word<usize>> {
+    let mut words = Vec::new();
+    for class in classes(shape) {
+        let mut left = class.as_slice();
+        while let [a, b, c, d, e, f, rest @ ..] = left {
+            words.push([*a, *b, *c, *d, *e, *f]);
+            left = rest;
+        }
+    }
+    words
+}
+
+/// The cells of the words that are not the first of their word, in byte order: they hold the payload.
+pub fn digit_cells(words: &[Word<usize>]) -> Vec<usize> {
+    let mut cells: Vec<usize> = words.iter().flat_map(|word| word[1..].to_vec()).collect();
+    cells.sort();
+    cells
+}
+
+/// The cells that belong to no word, in byte order.
+pub fn ignored_cells(shape: &Shape) -> Vec<usize> {
+    let mut ignored = vec![true; cells(shape)];
+    for cell in words(shape).concat() {
+        ignored[cell] = false;
+    }
+    (0..ignored.len()).filter(|&cell| ignored[cell]).collect()
+}
+
+/// A word is lawful when its cells, each times its multiplier, add up to a multiple of 25.
+pub fn is_lawful(word: &Word<u8>) -> bool {
+    let sum: usize = word.iter().zip(MULTIPLIERS).map(|(&level, multiplier)| multiplier * usize::from(level)).sum();
+    sum % 25 == 0
+}
+
+/// Fills the first cell of a word, its check: each level is tried.
+pub fn fill_check(word: &mut Word<u8>) {
+    for level in 0..=MAX_LEVEL {
+        word[0] = level;
+        if is_lawful(word) {
+            return;
+        }
+    }
+    unreachable!("some level of the first cell makes the word lawful");
+}
+
+/// The lawful words of levels that a word may come from: the word as it is, and each change of each cell taken back.
+pub fn lawful_words(read: &Word<u8>) -> Vec<Word<u8>> {
+    let mut tried = vec![*read];
+    for place in 0..6 {
+        for change in CHANGES {
+            let mut written = *read;
+            let level = i32::from(read[place]) - change;
+            if (0..=i32::from(MAX_LEVEL)).contains(&level) {
+                written[place] = level as u8;
+                tried.push(written);
+            }
+        }
+    }
+    tried.retain(is_lawful);
+    tried
+}
+
+/// The levels of a word, taken out of a field.
+fn take_word(field: &[u8], word: &Word<usize>) -> Word<u8> {
+    word.map(|cell| field[cell])
+}
+
+/// The field of lawful words with the given digits; the cells that belong to no word are 0.
+pub fn field_of_digits(shape: &Shape, digits: &[u8]) -> Vec<u8> {
+    let (mut field, words) = (vec![0; cells(shape)], words(shape));
+    let cells = digit_cells(&words);
+    assert_eq!(digits.len(), cells.len());
+    put_class(&mut field, &cells, digits);
+    for word in &words {
+        let mut levels = take_word(&field, word);
+        fill_check(&mut levels);
+        put_class(&mut field, word, &levels);
+    }
+    field
+}
+
+/// The field of the lawful words that the words stand for, with 0 in the cells that belong to none, if each stands for one.
+fn lawful_field(words: &[Word<usize>], field: &[u8]) -> Option<Vec<u8>> {
+    let mut lawful = vec![0; field.len()];
+    for word in words {
+        let found = lawful_words(&take_word(field, word));
+        assert!(found.len() <= 1);
+        put_class(&mut lawful, word, found.first()?);
+    }
+    Some(lawful)
+}
+
 // Operations
 
-/// Plan: m, K, payload bytes, cells and the classes that hold at least one cell; 1, 2, 11.
+/// Plan: m, K, payload bytes, cells, the classes that hold at least one cell, and five digits for each word; 1, 2, 11.
 pub fn plan(shape: &Shape) -> Result<Plan, Number> {
     test(shape)?;
     let capacity = data_cells(shape).len();
     let (classes, used) = (number_of_classes(shape), used_classes(shape));
-    Ok(Plan { classes, capacity, bytes: capacity / 8, cells: cells(shape), used })
+    let digits = 5 * words(shape).len();
+    Ok(Plan { classes, capacity, bytes: capacity / 8, cells: cells(shape), used, digits })
 }
 
 /// Class of a cell: 1, 2, 11, 4.
@@ -435,6 +545,58 @@ pub fn correct(shape: &Shape, field: &mut [u8]) -> Result<usize, Number> {
     let (corrected, _) = restore(shape, field)?;
     let count = differences(&corrected, field);
     field.copy_from_slice(&corrected);
+    Ok(count)
+}
+
+/// Encode levels (shaded write): 1, 2, 11, 3, 4, 12.
+pub fn encode_levels(shape: &Shape, payload: &[u8], field: &mut [u8]) -> Result<(), Number> {
+    let plan = plan(shape)?;
+    if payload.len() != plan.digits {
+        return Err(3);
+    }
+    if field.len() != plan.cells {
+        return Err(4);
+    }
+    if payload.iter().any(|&digit| digit > MAX_LEVEL) {
+        return Err(12);
+    }
+    field.copy_from_slice(&field_of_digits(shape, payload));
+    Ok(())
+}
+
+/// The lawful field that a field of levels stands for: 12, 6.
+fn restore_levels(shape: &Shape, field: &[u8]) -> Result<Vec<u8>, Number> {
+    if field.iter().any(|&cell| cell > MAX_LEVEL) {
+        return Err(12);
+    }
+    lawful_field(&words(shape), field).ok_or(6)
+}
+
+/// Decode levels (shaded read): fills the payload and gives the count of cells of words where the lawful field differs; 1, 2, 11, 3,
+/// 4, 12, 6.
+pub fn decode_levels(shape: &Shape, payload: &mut [u8], field: &[u8]) -> Result<usize, Number> {
+    let plan = plan(shape)?;
+    if payload.len() != plan.digits {
+        return Err(3);
+    }
+    if field.len() != plan.cells {
+        return Err(4);
+    }
+    let lawful = restore_levels(shape, field)?;
+    let words = words(shape);
+    payload.copy_from_slice(&take_class(&lawful, &digit_cells(&words)));
+    Ok(words.iter().map(|word| differences(&take_word(&lawful, word), &take_word(field, word))).sum())
+}
+
+/// Correct levels (shaded mend): leaves the lawful field in the lent one and gives the count of all cells changed; 1, 2, 11, 4, 12, 6.
+pub fn correct_levels(shape: &Shape, field: &mut [u8]) -> Result<usize, Number> {
+    let plan = plan(shape)?;
+    if field.len() != plan.cells {
+        return Err(4);
+    }
+    let lawful = restore_levels(shape, field)?;
+    let count = differences(&lawful, field);
+    field.copy_from_slice(&lawful);
     Ok(count)
 }
 

@@ -35,6 +35,7 @@ pub struct PlanAnswer {
     pub bytes: usize,
     pub cells: usize,
     pub used: usize,
+    pub digits: usize,
 }
 
 /// The answer of `class_of`.
@@ -46,7 +47,7 @@ pub struct ClassAnswer {
     pub class_index: usize,
 }
 
-/// The answer of `decode` and `correct`.
+/// The answer of `decode` and `correct`, and of the same for levels.
 #[repr(C)]
 #[non_exhaustive]
 #[derive(Clone, Copy, Debug, PartialEq, Eq)]
@@ -81,10 +82,25 @@ extern "C" {
         field_len: usize,
     ) -> CountAnswer;
     fn varmintfoil_correct(shape: ShapeNumbers, field: *mut u8, field_len: usize) -> CountAnswer;
+    fn varmintfoil_encode_levels(
+        shape: ShapeNumbers,
+        payload: *const u8,
+        payload_len: usize,
+        field: *mut u8,
+        field_len: usize,
+    ) -> usize;
+    fn varmintfoil_decode_levels(
+        shape: ShapeNumbers,
+        payload: *mut u8,
+        payload_len: usize,
+        field: *const u8,
+        field_len: usize,
+    ) -> CountAnswer;
+    fn varmintfoil_correct_levels(shape: ShapeNumbers, field: *mut u8, field_len: usize) -> CountAnswer;
     fn varmintfoil_distance_test(m: usize, b: usize, c: usize, t: usize) -> DistanceAnswer;
 }
 
-/// Classes, capacity, payload bytes, cells and classes that hold a cell, of a shape: 1, 2, 11.
+/// Classes, capacity, payload bytes, cells, classes that hold a cell, and payload digits of a field of levels, of a shape: 1, 2, 11.
 #[must_use]
 pub fn plan(shape: ShapeNumbers) -> PlanAnswer {
     // SAFETY: only numbers pass.
@@ -119,6 +135,29 @@ pub fn decode(shape: ShapeNumbers, payload: &mut [u8], field: &[u8]) -> CountAns
 pub fn correct(shape: ShapeNumbers, field: &mut [u8]) -> CountAnswer {
     // SAFETY: the slice is valid for its length.
     unsafe { varmintfoil_correct(shape, field.as_mut_ptr(), field.len()) }
+}
+
+/// Writes the field of levels of some digits: 1, 2, 11, 3, 4, 12.
+#[must_use]
+pub fn encode_levels(shape: ShapeNumbers, payload: &[u8], field: &mut [u8]) -> usize {
+    let (digits, cells) = (payload.len(), field.len());
+    // SAFETY: the slices are valid for their lengths, and a mutable slice overlaps no other.
+    unsafe { varmintfoil_encode_levels(shape, payload.as_ptr(), digits, field.as_mut_ptr(), cells) }
+}
+
+/// Reads a field of levels into a payload of digits: 1, 2, 11, 3, 4, 12, 6.
+#[must_use]
+pub fn decode_levels(shape: ShapeNumbers, payload: &mut [u8], field: &[u8]) -> CountAnswer {
+    let (digits, cells) = (payload.len(), field.len());
+    // SAFETY: the slices are valid for their lengths, and a mutable slice overlaps no other.
+    unsafe { varmintfoil_decode_levels(shape, payload.as_mut_ptr(), digits, field.as_ptr(), cells) }
+}
+
+/// Corrects a field of levels where it lies: 1, 2, 11, 4, 12, 6.
+#[must_use]
+pub fn correct_levels(shape: ShapeNumbers, field: &mut [u8]) -> CountAnswer {
+    // SAFETY: the slice is valid for its length.
+    unsafe { varmintfoil_correct_levels(shape, field.as_mut_ptr(), field.len()) }
 }
 
 /// Are all different cells of one class at least t apart in an endless stack? 2, 9.

@@ -1,5 +1,5 @@
-//! Varmintfoil: a payload in a field of black and white cells that outlives any one hole of at most t connected cells or, by
-//! another setting, any damage inside one window of p by q cells.
+//! Varmintfoil: a payload in a field of black and white cells, or of cells of 25 levels, that outlives any one hole of at most t
+//! connected cells or, by another setting, any damage inside one window of p by q cells.
 //!
 //! The codec itself is proved and lies in the static library that `rt staticlib varmintfoil` writes at the repository's root;
 //! this is a safe wrapper over it. Nothing handed to it can upset it: each operation succeeds or gives its first listed
@@ -30,6 +30,9 @@
 //!
 //! `Shape::with_window` makes a shape for damage that tears across corners: any cells flipped inside one window are undone.
 //!
+//! A cell may have a level, 0 to [`MAX_LEVEL`], and the payload is then digits of as many values: `encode_levels`, `decode_levels` and
+//! `correct_levels` undo a hole whose cells are read as up to 1 lower or 3 higher than they were written.
+//!
 //! Two holes of t flipped cells are mostly not refused but read as another payload. Where no cell is erased, the function
 //! `within_promise` of the example `beyond` tells most of them, from the field before and after `correct`.
 
@@ -44,6 +47,9 @@ mod wrapper;
 
 /// An erased cell, in a field that is decoded or corrected: a cell that was not read.
 pub const ERASED: u8 = 2;
+
+/// The greatest level of a cell of a field of levels, and the greatest digit of its payload.
+pub const MAX_LEVEL: u8 = 24;
 
 pub use refusal::Refusal;
 #[cfg(feature = "archive")]

@@ -18,7 +18,7 @@ pub enum Refusal {
     OutsideShape,
     /// 5: a cell above 2.
     BadCell,
-    /// 6: some class with no codeword in reach.
+    /// 6: some class with no codeword in reach, or some word of levels with no lawful one.
     OutOfReach,
     /// 7: padding that is neither 1, 0, 1, 0 and on nor all zeros after correction.
     BadPadding,
@@ -30,6 +30,8 @@ pub enum Refusal {
     TooManyErasures,
     /// 11: a window outside the limits or in more than one plane, or a window beside a strength.
     BadWindow,
+    /// 12: a digit or a cell of a field of levels above 24.
+    BadLevel,
 }
 
 impl Refusal {
@@ -47,6 +49,7 @@ impl Refusal {
             Refusal::BadSettings => 9,
             Refusal::TooManyErasures => 10,
             Refusal::BadWindow => 11,
+            Refusal::BadLevel => 12,
         }
     }
 
@@ -64,6 +67,7 @@ impl Refusal {
             9 => Refusal::BadSettings,
             10 => Refusal::TooManyErasures,
             11 => Refusal::BadWindow,
+            12 => Refusal::BadLevel,
             _ => return None,
         })
     }
@@ -82,7 +86,9 @@ impl fmt::Display for Refusal {
             Refusal::FieldLength => "the field's length is not the shape's number of cells",
             Refusal::OutsideShape => "the row, plane or column lies outside the shape",
             Refusal::BadCell => "a cell is above 2",
-            Refusal::OutOfReach => "the field is damaged beyond correction: some class has no codeword in reach",
+            Refusal::OutOfReach => {
+                "the field is damaged beyond correction: some class has no codeword in reach, or some word of levels no lawful one"
+            }
             Refusal::BadPadding => "the padding is neither 1, 0, 1, 0 and on nor all zeros after correction",
             Refusal::BadForm => "the card text is malformed or too large",
             Refusal::BadSettings => "the settings are outside the limits: m from 1 to 4,096, b and c below m",
@@ -90,6 +96,7 @@ impl fmt::Display for Refusal {
             Refusal::BadWindow => {
                 "the window is outside the limits: one plane, strength 0, two sides of at least 1 and at most 512 cells"
             }
+            Refusal::BadLevel => "a digit or a cell of a field of levels is above 24",
         })
     }
 }

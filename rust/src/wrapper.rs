@@ -18,6 +18,8 @@ pub struct Plan {
     pub cells: usize,
     /// The number of classes that hold at least one cell.
     pub used: usize,
+    /// The length in digits of the payload of a field of levels.
+    pub digits: usize,
 }
 
 /// A shape within the limits, with its strength or its window.
@@ -58,9 +60,9 @@ impl Shape {
 
     /// The shape of these numbers, or `BadSize`, then `BadStrength`, then `BadWindow`.
     pub fn of_numbers(numbers: ShapeNumbers) -> Result<Shape, Refusal> {
-        let ffi::PlanAnswer { number, classes, capacity, bytes, cells, used } = ffi::plan(numbers);
+        let ffi::PlanAnswer { number, classes, capacity, bytes, cells, used, digits } = ffi::plan(numbers);
         check(number)?;
-        Ok(Shape { numbers, plan: Plan { classes, capacity, bytes, cells, used } })
+        Ok(Shape { numbers, plan: Plan { classes, capacity, bytes, cells, used, digits } })
     }
 
     pub fn columns(&self) -> usize {
@@ -123,6 +125,11 @@ impl Shape {
         self.plan.used
     }
 
+    /// The length in digits of the payload of a field of levels: five for each word of six cells of a class.
+    pub fn payload_digits(&self) -> usize {
+        self.plan.digits
+    }
+
     /// The byte of a cell in the field, or `OutsideShape`.
     pub fn cell(&self, row: usize, plane: usize, column: usize) -> Result<usize, Refusal> {
         let ShapeNumbers { columns, rows, planes, .. } = self.numbers;
@@ -134,7 +141,8 @@ impl Shape {
     }
 }
 
-/// A payload read from a field, and the number of cells that were corrected on the way, erased ones among them.
+/// A payload read from a field, and the number of cells that were corrected on the way, erased ones among them; of a field of levels
+/// the cells of words alone count.
 #[non_exhaustive]
 #[derive(Clone, Debug, PartialEq, Eq, Hash)]
 pub struct Decoded {
@@ -220,6 +228,75 @@ pub fn decode_into(shape: &Shape, field: &[u8], payload: &mut [u8]) -> Result<us
 /// ```
 pub fn correct(shape: &Shape, field: &mut [u8]) -> Result<usize, Refusal> {
     let answer = ffi::correct(shape.numbers, field);
+    check(answer.number).map(|()| answer.count)
+}
+
+/// The field of levels of some digits, each at most 24, [`crate::MAX_LEVEL`]; or `PayloadLength`, then `BadLevel`.
+///
+/// The cells of each class, in byte order, are cut into words of six, of which the first is the check; the digits fill the others, in
+/// byte order over the field. The last cells of a class, fewer than six, belong to no word and are 0.
+///
+/// ```
+/// use varmintfoil::{encode_levels, Refusal, Shape};
+///
+/// let shape = Shape::new(12, 1, 1, 2)?;
+/// assert_eq!(shape.payload_digits(), 10);
+/// assert_eq!(encode_levels(&shape, &[1, 2, 3, 4, 5, 6, 7, 8, 9, 10])?, [21, 12, 1, 2, 3, 4, 5, 6, 7, 8, 9, 10]);
+/// # Ok::<(), Refusal>(())
+/// ```
+pub fn encode_levels(shape: &Shape, payload: &[u8]) -> Result<Vec<u8>, Refusal> {
+    let mut field = vec![0; shape.cells()];
+    encode_levels_into(shape, payload, &mut field)?;
+    Ok(field)
+}
+
+/// Writes the field of levels of some digits into a buffer, or gives `PayloadLength`, then `FieldLength`, `BadLevel`.
+pub fn encode_levels_into(shape: &Shape, payload: &[u8], field: &mut [u8]) -> Result<(), Refusal> {
+    check(ffi::encode_levels(shape.numbers, payload, field))
+}
+
+/// The digits of a field of levels, each cell at most 24; or `FieldLength`, then `BadLevel`, `OutOfReach`.
+///
+/// A word is read as the lawful word of levels from which it comes by a change of −1, 1, 2 or 3, read less written, in at most one cell.
+/// The cells that belong to no word are not looked at, save that they are levels, and are not counted.
+///
+/// ```
+/// use varmintfoil::{decode_levels, Refusal, Shape};
+///
+/// let shape = Shape::new(7, 1, 1, 1)?;
+/// let decoded = decode_levels(&shape, &[0, 4, 0, 0, 0, 0, 24])?;
+/// assert_eq!((decoded.payload.as_slice(), decoded.mended), ([5, 0, 0, 0, 0].as_slice(), 1));
+/// assert_eq!(decode_levels(&shape, &[24, 0, 0, 0, 0, 0, 0]), Err(Refusal::OutOfReach));
+/// assert_eq!(decode_levels(&shape, &[0, 3, 0, 0, 0, 0, 25]), Err(Refusal::BadLevel));
+/// # Ok::<(), Refusal>(())
+/// ```
+pub fn decode_levels(shape: &Shape, field: &[u8]) -> Result<Decoded, Refusal> {
+    let mut payload = vec![0; shape.payload_digits()];
+    let mended = decode_levels_into(shape, field, &mut payload)?;
+    Ok(Decoded { payload, mended })
+}
+
+/// Reads the digits of a field of levels into a buffer and gives the number of cells of words corrected on the way, or
+/// `PayloadLength`, then as `decode_levels`.
+pub fn decode_levels_into(shape: &Shape, field: &[u8], payload: &mut [u8]) -> Result<usize, Refusal> {
+    let answer = ffi::decode_levels(shape.numbers, payload, field);
+    check(answer.number).map(|()| answer.count)
+}
+
+/// Corrects a field of levels where it lies and gives the number of all cells changed, or refuses as `decode_levels` does. The cells
+/// that belong to no word are left 0.
+///
+/// ```
+/// use varmintfoil::{correct_levels, Refusal, Shape};
+///
+/// let shape = Shape::new(7, 1, 1, 1)?;
+/// let mut field = [0, 3, 0, 0, 0, 0, 9];
+/// assert_eq!(correct_levels(&shape, &mut field)?, 2);
+/// assert_eq!(field, [0; 7]);
+/// # Ok::<(), Refusal>(())
+/// ```
+pub fn correct_levels(shape: &Shape, field: &mut [u8]) -> Result<usize, Refusal> {
+    let answer = ffi::correct_levels(shape.numbers, field);
     check(answer.number).map(|()| answer.count)
 }
 

@@ -200,7 +200,7 @@ fn a_member_left_out() {
     }
 }
 
-/// Each of the six functions, called and dropped.
+/// Each of the nine functions, called and dropped.
 #[test]
 fn a_dropped_answer() {
     let source = r#"
@@ -212,13 +212,16 @@ fn a_dropped_answer() {
             varmintfoil_encode(shape, payload, 1, field, 25);
             varmintfoil_decode(shape, payload, 1, field, 25);
             varmintfoil_correct(shape, field, 25);
+            varmintfoil_encode_levels(shape, payload, 0, field, 25);
+            varmintfoil_decode_levels(shape, payload, 0, field, 25);
+            varmintfoil_correct_levels(shape, field, 25);
             varmintfoil_distance_test(7, 2, 3, 3);
         }
     "#;
     for (language, standard) in standards(&["c99"], &["c++14", "c++17"]) {
         let compiled = language.compile(standard, source, &scratch(&format!("dropped-{standard}.o")), &["-c"]);
         let warnings = text(&compiled.stderr).matches("warning: ignoring return value").count();
-        assert_eq!(warnings, 6, "{standard}: {}", text(&compiled.stderr));
+        assert_eq!(warnings, 9, "{standard}: {}", text(&compiled.stderr));
     }
 }
 
@@ -237,13 +240,16 @@ fn of_kind<'a>(symbols: &'a [(String, String)], kind: &str) -> Vec<&'a str> {
     names
 }
 
-/// The six functions, in the order of their names.
-const FUNCTIONS: [&str; 6] = [
+/// The nine functions, in the order of their names.
+const FUNCTIONS: [&str; 9] = [
     "varmintfoil_class",
     "varmintfoil_correct",
+    "varmintfoil_correct_levels",
     "varmintfoil_decode",
+    "varmintfoil_decode_levels",
     "varmintfoil_distance_test",
     "varmintfoil_encode",
+    "varmintfoil_encode_levels",
     "varmintfoil_plan",
 ];
 
@@ -261,6 +267,9 @@ fn freestanding() {
             sum += varmintfoil_encode(shape, payload, plan.bytes, field, plan.cells);
             sum += varmintfoil_decode(shape, payload, plan.bytes, field, plan.cells).number;
             sum += varmintfoil_correct(shape, field, plan.cells).number;
+            sum += varmintfoil_encode_levels(shape, payload, plan.digits, field, plan.cells);
+            sum += varmintfoil_decode_levels(shape, payload, plan.digits, field, plan.cells).number;
+            sum += varmintfoil_correct_levels(shape, field, plan.cells).number;
             return sum + varmintfoil_distance_test(7, 2, 3, 3).number;
         }
     "#;
@@ -296,7 +305,7 @@ fn beside_libffi() {
     Language::C.run("c99", &both, "before-libffi", &[&folder, "-lvarmintfoil", "-lffi"]);
 }
 
-/// The archive has the six functions, needs memset and nothing else, and has no data but constants.
+/// The archive has the nine functions, needs memset and nothing else, and has no data but constants.
 #[test]
 fn the_symbols() {
     let symbols = symbols(Path::new(ARCHIVE));
@@ -326,7 +335,7 @@ fn the_size() {
 #[test]
 fn the_stack() {
     let printed = Language::C.run("gnu99", &source("stack.c"), "stack", &["-O0", ARCHIVE]);
-    assert_eq!(printed.lines().count(), 6);
+    assert_eq!(printed.lines().count(), FUNCTIONS.len());
     for line in printed.lines() {
         let (function, taken) = line.split_once(' ').unwrap();
         let (taken, written): (usize, usize) = (taken.parse().unwrap(), written(&format!("`{function}`")));

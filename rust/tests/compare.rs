@@ -3,6 +3,7 @@
 
 mod common;
 
+use common::archive::{answered, counted, numbers, shape_of};
 use common::*;
 use varmintfoil::{ffi, Distance, Refusal, Shape, Window};
 
@@ -12,26 +13,9 @@ const TIMES: usize = 200_000;
 /// The C interface, with its figures of a refusal tested.
 struct Proved;
 
-fn numbers(s: &Numbers) -> ffi::ShapeNumbers {
-    let window = Window { rows: s.p, columns: s.q };
-    ffi::ShapeNumbers { columns: s.w, rows: s.h, planes: s.d, strength: s.t, window }
-}
-
-/// The number as a result; the count of a refusal is 0.
-fn counted(answer: ffi::CountAnswer) -> Result<usize, usize> {
-    if answer.number == 0 {
-        return Ok(answer.count);
-    }
-    assert_eq!(answer.count, 0);
-    Err(answer.number)
-}
-
 impl Codec for Proved {
     fn encode(s: &Numbers, payload: &[u8], field: &mut [u8]) -> Result<(), usize> {
-        match ffi::encode(numbers(s), payload, field) {
-            0 => Ok(()),
-            number => Err(number),
-        }
+        answered(ffi::encode(numbers(s), payload, field))
     }
 
     fn decode(s: &Numbers, payload: &mut [u8], field: &[u8]) -> Result<usize, usize> {
@@ -45,17 +29,6 @@ impl Codec for Proved {
 
 /// The safe wrapper; a shape that it refuses has no further operation.
 struct Wrapper;
-
-fn shape_of(s: &Numbers) -> Result<Shape, usize> {
-    let shape = Shape::of_numbers(numbers(s));
-    if (s.p, s.q) == (0, 0) {
-        assert_eq!(shape, Shape::new(s.w, s.h, s.d, s.t));
-    }
-    if (s.d, s.t) == (1, 0) {
-        assert_eq!(shape, Shape::with_window(s.w, s.h, Window { rows: s.p, columns: s.q }));
-    }
-    shape.map_err(Refusal::number)
-}
 
 impl Codec for Wrapper {
     fn encode(s: &Numbers, payload: &[u8], field: &mut [u8]) -> Result<(), usize> {
@@ -93,15 +66,16 @@ impl Codec for Wrapper {
 /// The plan of a shape by the archive and by the wrapper is the reference's, which is given.
 fn compare_plan(shape: &Numbers) -> Result<reference::Plan, usize> {
     let answer = shape.plan();
-    let figures = ffi::plan(numbers(shape));
+    let p = ffi::plan(numbers(shape));
     let expected = match answer {
-        Ok(plan) => [0, plan.classes, plan.capacity, plan.bytes, plan.cells, plan.used],
-        Err(number) => [number, 0, 0, 0, 0, 0],
+        Ok(plan) => [0, plan.classes, plan.capacity, plan.bytes, plan.cells, plan.used, plan.digits],
+        Err(number) => [number, 0, 0, 0, 0, 0, 0],
     };
-    let actual = [figures.number, figures.classes, figures.capacity, figures.bytes, figures.cells, figures.used];
+    let actual = [p.number, p.classes, p.capacity, p.bytes, p.cells, p.used, p.digits];
     assert_eq!(actual, expected, "{shape:?}");
-    let wrapped = shape_of(shape).map(|s| [0, s.classes(), s.capacity(), s.payload_bytes(), s.cells(), s.used_classes()]);
-    assert_eq!(wrapped, answer.map(|_| expected), "{shape:?}");
+    let figures = |s: &Shape| [s.classes(), s.capacity(), s.payload_bytes(), s.cells(), s.used_classes(), s.payload_digits()];
+    let wrapped = shape_of(shape).map(|s| figures(&s));
+    assert_eq!(wrapped.as_ref().map(|figures| &figures[..]), answer.as_ref().map(|_| &expected[1..]), "{shape:?}");
     answer
 }
 
@@ -139,7 +113,7 @@ fn small_shapes() -> Vec<Numbers> {
 #[test]
 fn plans_of_small_fields() {
     let shapes = small_shapes();
-    let mut narrow = 0;
+    let (mut narrow, mut wordless) = (0, 0);
     for shape in &shapes {
         let plan = compare_plan(shape).unwrap();
         let (rows, columns) = if shape.is_ruled() { (shape.p, shape.q) } else { (shape.t, shape.t) };
@@ -147,9 +121,13 @@ fn plans_of_small_fields() {
             assert_eq!(plan.used, plan.classes, "{shape:?}");
         }
         assert!(plan.used <= plan.classes.min(plan.cells), "{shape:?}");
+        // Of each class that holds a cell at most five cells are left over.
+        assert!(plan.digits / 5 * 6 <= plan.cells && plan.cells <= plan.digits / 5 * 6 + 5 * plan.used, "{shape:?}");
         narrow += usize::from(plan.used < plan.classes);
+        wordless += usize::from(plan.digits == 0);
     }
     assert_eq!((shapes.len(), narrow), (10_428, 7_062), "all shapes, and those with a class that holds no cell");
+    assert_eq!(wordless, 8_467, "those with no word of six cells");
 }
 
 #[test]

@@ -1,13 +1,20 @@
-//! The numbers that the C header names are those of the library: its version, the refusals, the erased cell and the limits.
+//! The numbers that the C header names are those of the library: its version, the refusals, the erased cell, the greatest level and the
+//! limits.
 
+use std::mem::size_of;
 use std::path::Path;
 use varmintfoil::ffi::{self, ShapeNumbers};
 use varmintfoil::{Refusal, Window};
 
+/// The header.
+fn text() -> String {
+    let header = Path::new(env!("CARGO_MANIFEST_DIR")).parent().unwrap().join("include/varmintfoil.h");
+    std::fs::read_to_string(header).unwrap()
+}
+
 /// What the header defines a name as.
 fn defined(name: &str) -> String {
-    let header = Path::new(env!("CARGO_MANIFEST_DIR")).parent().unwrap().join("include/varmintfoil.h");
-    let text = std::fs::read_to_string(header).unwrap();
+    let text = text();
     let start = format!("#define VARMINTFOIL_{name} ");
     let line = text.lines().find_map(|line| line.strip_prefix(&start)).unwrap_or_else(|| panic!("the header has {start}"));
     line.split("/*").next().unwrap().trim().to_string()
@@ -52,6 +59,7 @@ fn the_refusals() {
         Refusal::BadSettings,
         Refusal::TooManyErasures,
         Refusal::BadWindow,
+        Refusal::BadLevel,
     ] {
         assert_eq!(number(&in_header(refusal)), refusal.number(), "{refusal:?}");
     }
@@ -70,6 +78,20 @@ fn the_erased_cell() {
             _ => (Refusal::BadCell.number(), 0),
         };
         assert_eq!((answer.number, answer.count), expected, "{cell}");
+    }
+}
+
+/// Up to the greatest level the library takes every cell of a field of levels and every digit, and none above it.
+#[test]
+fn the_greatest_level() {
+    assert_eq!(number("MAX_LEVEL"), usize::from(varmintfoil::MAX_LEVEL));
+    let shape = ShapeNumbers { columns: 7, rows: 1, planes: 1, strength: 1, ..ShapeNumbers::default() };
+    for level in 0..=255 {
+        let refusal = if level > varmintfoil::MAX_LEVEL { Refusal::BadLevel.number() } else { 0 };
+        let (mut digits, mut field) = ([0; 5], [0, 0, 0, 0, 0, 0, level]);
+        assert_eq!(ffi::decode_levels(shape, &mut digits, &field).number, refusal, "{level}");
+        assert_eq!(ffi::correct_levels(shape, &mut field).number, refusal, "{level}");
+        assert_eq!(ffi::encode_levels(shape, &[0, 0, 0, 0, level], &mut field), refusal, "{level}");
     }
 }
 
@@ -98,13 +120,14 @@ fn for_each_window(mut look: impl FnMut(ShapeNumbers)) {
     }
 }
 
-/// No accepted shape has more cells, payload bytes or classes, and some shape has as many. A payload bit takes a cell, so a shape is
-/// planned only where it has cells enough for the limit's bytes; classes depend on planes, strength and window alone, so that one cell
-/// a plane does.
+/// No accepted shape has more cells, payload bytes, classes or digits, and some shape has as many. A payload bit takes a cell, so a shape
+/// is planned only where it has cells enough for the limit's bytes, which are fewer than those of the limit's digits, where five take six
+/// cells; classes depend on planes, strength and window alone, so that one cell a plane does.
 #[test]
 fn the_limits() {
-    let limits = [number("MAX_CELLS"), number("MAX_PAYLOAD_BYTES"), number("MAX_CLASSES")];
-    let mut most = [0; 3];
+    let limits = [number("MAX_CELLS"), number("MAX_PAYLOAD_BYTES"), number("MAX_CLASSES"), number("MAX_DIGITS")];
+    assert!(8 * limits[1] <= limits[3] / 5 * 6);
+    let mut most = [0; 4];
     let mut look = |s: ShapeNumbers| {
         let cells = s.columns * s.rows * s.planes;
         if cells < 8 * limits[1] && cells != s.planes {
@@ -112,7 +135,7 @@ fn the_limits() {
         }
         let plan = ffi::plan(s);
         assert_eq!(plan.number, 0, "{s:?}");
-        for (most, figure) in most.iter_mut().zip([plan.cells, plan.bytes, plan.classes]) {
+        for (most, figure) in most.iter_mut().zip([plan.cells, plan.bytes, plan.classes, plan.digits]) {
             *most = figure.max(*most);
         }
     };
@@ -121,21 +144,39 @@ fn the_limits() {
     assert_eq!(most, limits);
 }
 
+/// The names of the members of a struct of the header, all of one type, in their order.
+fn members(end: &str) -> Vec<String> {
+    let text = text();
+    let before = text.lines().take_while(|line| *line != end).collect::<Vec<&str>>();
+    let names = before.iter().rev().map_while(|line| line.trim().strip_prefix("size_t ")?.split([' ', ';']).next());
+    let mut names: Vec<String> = names.map(String::from).collect();
+    names.reverse();
+    names
+}
+
+/// The members of a plan in C are the figures of one in Rust, in the same order.
+#[test]
+fn the_members_of_a_plan() {
+    assert_eq!(members("} varmintfoil_plan_t;"), ["number", "classes", "capacity", "bytes", "cells", "used", "digits"]);
+    let plan = ffi::plan(ShapeNumbers { columns: 7, rows: 7, planes: 1, strength: 2, ..ShapeNumbers::default() });
+    let places = [&plan.number, &plan.classes, &plan.capacity, &plan.bytes, &plan.cells, &plan.used, &plan.digits];
+    let offsets = places.map(|place| (place as *const usize as usize - places[0] as *const usize as usize) / size_of::<usize>());
+    assert_eq!(offsets, [0, 1, 2, 3, 4, 5, 6]);
+    assert_eq!(size_of::<ffi::PlanAnswer>(), 7 * size_of::<usize>());
+    assert_eq!(places.map(|&figure| figure), [0, 2, 39, 4, 49, 2, 40]);
+}
+
 /// The members of a shape in C are the numbers of one in Rust, in the same order.
 #[test]
 fn the_members_of_a_shape() {
-    let header = Path::new(env!("CARGO_MANIFEST_DIR")).parent().unwrap().join("include/varmintfoil.h");
-    let text = std::fs::read_to_string(header).unwrap();
-    let start = text.lines().skip_while(|line| *line != "typedef struct varmintfoil_shape {").skip(1);
-    let members = start.take_while(|line| *line != "} varmintfoil_shape_t;");
-    let names: Vec<&str> = members.filter_map(|line| line.trim().strip_prefix("size_t ")?.split(' ').next()).collect();
+    let names = members("} varmintfoil_shape_t;");
     assert_eq!(names, ["columns", "rows", "planes", "strength", "window_rows", "window_columns"]);
     let window = Window { rows: 5, columns: 6 };
     let shape = ShapeNumbers { columns: 1, rows: 2, planes: 3, strength: 4, window };
     // Six numbers in a row: what C reads at the offset of each member.
     let places = [&shape.columns, &shape.rows, &shape.planes, &shape.strength, &shape.window.rows, &shape.window.columns];
     let first = places[0] as *const usize as usize;
-    let offsets = places.map(|place| (place as *const usize as usize - first) / std::mem::size_of::<usize>());
+    let offsets = places.map(|place| (place as *const usize as usize - first) / size_of::<usize>());
     assert_eq!(offsets, [0, 1, 2, 3, 4, 5]);
-    assert_eq!(std::mem::size_of::<ShapeNumbers>(), 6 * std::mem::size_of::<usize>());
+    assert_eq!(size_of::<ShapeNumbers>(), 6 * size_of::<usize>());
 }

@@ -9,6 +9,8 @@ use common::*;
 // It reads no erased cells and knows no windows.
 codec!(Plain, plain, s => (s.w, s.h, s.d, s.t), false);
 
+levels::level_codec!(PlainLevels, plain, s => (s.w, s.h, s.d, s.t), false);
+
 // The reference implementation itself, for the tests that compare with no other.
 codec!(Reference, reference, s => (s));
 
@@ -51,4 +53,25 @@ fn every_padding() {
 fn clusters_are_undone() {
     undo_clusters::<Plain>(10_000);
     undo_clusters::<Reference>(10_000);
+}
+
+#[test]
+fn levels_compared() {
+    levels::try_worked_examples::<PlainLevels>();
+    levels::compare_encodings::<PlainLevels>(20_000);
+    levels::compare_decodings::<PlainLevels>(20_000);
+    levels::compare_corrections::<PlainLevels>(20_000);
+    levels::compare_large::<PlainLevels>();
+    levels::compare_edges::<PlainLevels>(1);
+    levels::compare_lengths::<PlainLevels>();
+}
+
+#[test]
+fn faults_of_levels() {
+    faults::undo_every_fault::<PlainLevels>();
+    faults::refuse_faults_from_no_level::<PlainLevels>();
+    faults::compare_two_faults::<PlainLevels>(2);
+    faults::change_ignored_cells::<PlainLevels>();
+    faults::refuse_bad_levels::<PlainLevels>();
+    faults::undo_clusters::<PlainLevels>(10_000);
 }

@@ -1,12 +1,13 @@
-//! The reference implementation against the examples of documents 01 and 02, against what is promised of padding, of erased cells and of
-//! windows, and against itself where a class is small enough to try everything.
+//! The reference implementation against the examples of documents 01 and 02, against what is promised of padding, of erased cells, of
+//! windows and of levels, and against itself where a class is small enough to try everything.
 
 mod common;
 
 use common::reference::*;
-use common::{codec, erasures, padding, reference, windows, Codec, Numbers};
+use common::{codec, erasures, faults, levels, padding, reference, windows, Codec, Numbers, Random};
 
 codec!(Reference, reference, s => (s));
+levels::level_codec!(Levels, reference, s => (s));
 
 /// The worked card's first lines, and those that are written behind them.
 const HEAD: &str = "columns=5\nrows=5\nplanes=1\nstrength=3\n";
@@ -45,8 +46,8 @@ fn the_examples() {
     assert_eq!(class_of(&Shape::of_strength(256, 256, 1, 4), 1, 0, 0), Ok(3));
     assert_eq!(class_of(&Shape::of_strength(256, 256, 1, 5), 12, 0, 0), Ok(5));
     assert_eq!([0, 1, 2, 3, 7, 8].map(checks), [0, 1, 2, 2, 3, 4]);
-    assert_eq!(plan(5, 5, 1, 3), Ok(Plan { classes: 5, capacity: 10, bytes: 1, cells: 25, used: 5 }));
-    assert_eq!(plan(3, 1, 1, 5), Ok(Plan { classes: 13, capacity: 0, bytes: 0, cells: 3, used: 3 }));
+    assert_eq!(plan(5, 5, 1, 3), Ok(Plan { classes: 5, capacity: 10, bytes: 1, cells: 25, used: 5, digits: 0 }));
+    assert_eq!(plan(3, 1, 1, 5), Ok(Plan { classes: 13, capacity: 0, bytes: 0, cells: 3, used: 3, digits: 0 }));
     assert_eq!(decode_two(&[0, 1]), Ok(1));
     assert_eq!(decode_two(&[1, 1]), Err(6));
     assert_eq!(distance_test(7, 2, 3, 3), Ok(Distance { holds: true, row: 0, plane: 0, column: 0, tried: 12 }));
@@ -214,6 +215,50 @@ fn every_set_in_a_window() {
     windows::undo_every_set::<Reference>(4, 2, &[(6, 6, 2, 3), (7, 5, 3, 2)]);
     windows::fill_every_two::<Reference>(4, 3);
     windows::undo_every_patch::<Reference>(5, 4);
+}
+
+#[test]
+fn the_examples_of_levels() {
+    let digits = |w, h, d, t| plan(&Shape::of_strength(w, h, d, t)).unwrap().digits;
+    assert_eq!([digits(12, 1, 1, 2), digits(7, 1, 1, 1), digits(256, 256, 1, 1)], [10, 5, 54_610]);
+    let words = words(&Shape::of_strength(12, 1, 1, 2));
+    assert_eq!(words, [[0, 2, 4, 6, 8, 10], [1, 3, 5, 7, 9, 11]]);
+    assert_eq!(digit_cells(&words), (2..12).collect::<Vec<usize>>());
+    assert_eq!(ignored_cells(&Shape::of_strength(7, 1, 1, 1)), [6]);
+    levels::try_worked_examples::<Levels>();
+}
+
+/// The 24 faults of a word change its sum by all remainders that are not 0, and so never make two lawful words of one; and every fill of
+/// the other five cells has one check.
+#[test]
+fn the_faults_of_a_word() {
+    let multipliers = [1, 5, 6, 11, 16, 21];
+    let mut remainders: Vec<i32> =
+        multipliers.iter().flat_map(|multiplier| CHANGES.map(|change| (multiplier * change).rem_euclid(25))).collect();
+    remainders.sort_unstable();
+    assert_eq!(remainders, (1..25).collect::<Vec<i32>>());
+    let mut random = Random::new(37);
+    for _ in 0..20_000 {
+        let mut word: Word<u8> = levels::levels(&mut random, 6).try_into().unwrap();
+        assert!(lawful_words(&word).len() <= 1, "{word:?}");
+        let checks = (0..=MAX_LEVEL).filter(|&check| is_lawful(&[check, word[1], word[2], word[3], word[4], word[5]])).count();
+        assert_eq!(checks, 1, "{word:?}");
+        fill_check(&mut word);
+        assert_eq!(lawful_words(&word), [word]);
+    }
+}
+
+#[test]
+fn faults_of_levels() {
+    faults::undo_every_fault::<Levels>();
+    faults::refuse_faults_from_no_level::<Levels>();
+    faults::change_ignored_cells::<Levels>();
+    faults::refuse_bad_levels::<Levels>();
+}
+
+#[test]
+fn clusters_of_levels_are_undone() {
+    faults::undo_clusters::<Levels>(30_000);
 }
 
 #[test]

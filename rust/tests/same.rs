@@ -13,6 +13,7 @@ fn numbers(s: &Numbers) -> same::ShapeNumbers {
 }
 
 codec!(Same, same, s => (numbers(s)));
+levels::level_codec!(SameLevels, same, s => (numbers(s)));
 
 #[test]
 fn encodings() {
@@ -47,4 +48,26 @@ fn windows_near_the_limits() {
 #[test]
 fn every_padding() {
     padding::try_every_value::<Same>();
+}
+
+#[test]
+fn levels_compared() {
+    levels::try_worked_examples::<SameLevels>();
+    levels::compare_encodings::<SameLevels>(20_000);
+    levels::compare_decodings::<SameLevels>(20_000);
+    levels::compare_corrections::<SameLevels>(20_000);
+    levels::compare_large::<SameLevels>();
+    levels::compare_edges::<SameLevels>(1);
+    levels::compare_near_the_limits::<SameLevels>();
+    levels::compare_lengths::<SameLevels>();
+}
+
+#[test]
+fn faults_of_levels() {
+    faults::undo_every_fault::<SameLevels>();
+    faults::refuse_faults_from_no_level::<SameLevels>();
+    faults::compare_two_faults::<SameLevels>(2);
+    faults::change_ignored_cells::<SameLevels>();
+    faults::refuse_bad_levels::<SameLevels>();
+    faults::undo_clusters::<SameLevels>(10_000);
 }

@@ -129,6 +129,19 @@ impl Layout {
         }
     }
 
+    /// Visits all cells in byte order, with the class of each.
+    #[inline(always)]
+    pub fn each_cell(&self, mut visit: impl FnMut(usize, usize)) {
+        let (w, m) = (self.columns, self.settings.m);
+        for (line, start) in starts(self.rows, self.planes, self.settings).enumerate() {
+            let mut class = start;
+            for cell in line * w..(line + 1) * w {
+                visit(cell, class);
+                class = if class + 1 == m { 0 } else { class + 1 };
+            }
+        }
+    }
+
     /// The cell of a class with a position.
     pub fn cell_at(&self, class: usize, position: usize) -> usize {
         let (w, m) = (self.columns, self.settings.m);

@@ -1,4 +1,4 @@
-//! The baseline of the benchmark: encode, decode and correct in plain safe Rust, written for speed.
+//! The baseline of the benchmark: encode, decode and correct in plain safe Rust, written for speed; and the same of fields of levels.
 //!
 //! The check cells are marked in a bit map, one bit a cell; payload moves between bits and cells 64 cells at a time; the
 //! syndromes are taken in row by row, over a vector with the positions of all columns. A refusal is the number that
@@ -8,9 +8,12 @@
 
 mod lanes;
 mod layout;
+mod levels;
 mod narrow;
 mod syndromes;
 mod words;
+
+pub use levels::{correct_levels, decode_levels, encode_levels};
 
 use layout::Layout;
 use syndromes::syndromes;

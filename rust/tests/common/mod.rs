@@ -2,11 +2,15 @@
 
 #![allow(dead_code)]
 
+#[cfg(feature = "archive")]
+pub mod archive;
 pub mod clusters;
 pub mod damage;
 pub mod edges;
 pub mod erasures;
+pub mod faults;
 pub mod guards;
+pub mod levels;
 pub mod outside;
 pub mod padding;
 pub mod random;
@@ -223,7 +227,7 @@ pub fn lent_payload(random: &mut Random, shape: &Numbers) -> Vec<u8> {
 /// How often each number came up, and how often a stack of three different sides succeeded at each strength.
 #[derive(Default)]
 pub struct Tally {
-    pub numbers: [usize; 12],
+    pub numbers: [usize; 13],
     pub uneven_stacks: [usize; 9],
 }
 
@@ -350,12 +354,24 @@ pub fn compare_many(
     times: usize,
     operation: &str,
     listed: &[usize],
+    compare: impl FnMut(&mut Random, &Numbers, &mut Tally),
+) {
+    compare_many_of(any_shape, test, times, operation, listed, compare);
+}
+
+/// Random calls of one operation, on shapes that are made in a given way.
+pub fn compare_many_of(
+    make: impl Fn(&mut Random, bool) -> Numbers,
+    test: u64,
+    times: usize,
+    operation: &str,
+    listed: &[usize],
     mut compare: impl FnMut(&mut Random, &Numbers, &mut Tally),
 ) {
     let mut random = outside::random(test);
     let mut tally = Tally::default();
     for _ in 0..outside::rounds(times) {
-        let shape = any_shape(&mut random, listed.contains(&11));
+        let shape = make(&mut random, listed.contains(&11));
         compare(&mut random, &shape, &mut tally);
     }
     tally.assert_numbers(operation, listed);

@@ -34,6 +34,13 @@ pub fn random_bytes(count: usize) -> Vec<u8> {
     (0..count).map(|_| byte()).collect()
 }
 
+/// The numbers of a shape as the same text has them.
+pub fn numbers_in_text(numbers: ShapeNumbers) -> same::ShapeNumbers {
+    let ShapeNumbers { columns, rows, planes, strength, window } = numbers;
+    let window = same::Window { rows: window.rows, columns: window.columns };
+    same::ShapeNumbers { columns, rows, planes, strength, window }
+}
+
 /// Turns cells over.
 fn turn_over(cells: &mut [u8]) {
     cells.iter_mut().for_each(|cell| *cell ^= 1);
@@ -62,13 +69,6 @@ impl Card {
         Card { numbers, shape, payload, field, hole, damaged }
     }
 
-    /// The numbers of the shape as the same text has them.
-    fn numbers_in_text(&self) -> same::ShapeNumbers {
-        let ShapeNumbers { columns, rows, planes, strength, window } = self.numbers;
-        let window = same::Window { rows: window.rows, columns: window.columns };
-        same::ShapeNumbers { columns, rows, planes, strength, window }
-    }
-
     /// Writing: encode, and liquid-dsp's coding and interleaving.
     pub fn encode(&self) -> Each<Option<Standing>> {
         let ShapeNumbers { columns: w, rows: h, planes: d, strength: t, .. } = self.numbers;
@@ -76,7 +76,7 @@ impl Card {
         let mut liquid = Liquid::new(&self.payload, t);
         let standings = contest([
             some(|| assert_eq!(ffi::encode(black_box(self.numbers), black_box(&self.payload), &mut one), 0)),
-            some(|| assert!(same::encode(black_box(self.numbers_in_text()), black_box(&self.payload), &mut text).is_ok())),
+            some(|| assert!(same::encode(black_box(numbers_in_text(self.numbers)), black_box(&self.payload), &mut text).is_ok())),
             some(|| assert!(plain::encode(black_box(w), h, d, t, black_box(&self.payload), &mut other).is_ok())),
             liquid.as_mut().and_then(|liquid| some(|| liquid.write(black_box(&self.payload)))),
             some(|| third.copy_from_slice(black_box(&self.field))),
@@ -94,7 +94,9 @@ impl Card {
         let read = liquid.is_some();
         let standings = contest([
             some(|| assert_eq!(ffi::decode(black_box(self.numbers), &mut one, black_box(&self.damaged)).count, t)),
-            some(|| assert_eq!(same::decode(black_box(self.numbers_in_text()), &mut text, black_box(&self.damaged)), Ok(t))),
+            some(|| {
+                assert_eq!(same::decode(black_box(numbers_in_text(self.numbers)), &mut text, black_box(&self.damaged)), Ok(t))
+            }),
             some(|| assert_eq!(plain::decode(black_box(w), h, d, t, &mut other, black_box(&self.damaged)), Ok(t))),
             liquid.as_mut().and_then(|liquid| some(|| liquid.read(black_box(&mut fourth)))),
             some(|| third.copy_from_slice(black_box(&self.damaged))),
@@ -116,7 +118,7 @@ impl Card {
                 turn_over(&mut one[self.hole.clone()]);
             }),
             some(|| {
-                assert_eq!(same::correct(black_box(self.numbers_in_text()), black_box(&mut text)), Ok(t));
+                assert_eq!(same::correct(black_box(numbers_in_text(self.numbers)), black_box(&mut text)), Ok(t));
                 turn_over(&mut text[self.hole.clone()]);
             }),
             some(|| {
@@ -195,6 +197,6 @@ impl Card {
 }
 
 /// A contestant that is there.
-fn some<'a>(call: impl FnMut() + 'a) -> Contestant<'a> {
+pub fn some<'a>(call: impl FnMut() + 'a) -> Contestant<'a> {
     Some(Box::new(call))
 }

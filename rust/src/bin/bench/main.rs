@@ -1,8 +1,9 @@
 //! The benchmark: encode, decode and correct of the proved library, of its text as Rust, of the fastest plain Rust and of
 //! liquid-dsp, and a copy of the cells, all in one run and by turns. Each figure is a median; decode and correct get a field
-//! with a hole of t cells.
+//! with a hole of t cells. Fields of levels are measured in the same way, without liquid-dsp.
 
 mod contest;
+mod levels;
 mod liquid;
 #[path = "../../../others/plain/mod.rs"]
 mod plain;
@@ -11,7 +12,8 @@ mod program;
 mod same;
 mod turns;
 
-use contest::{Card, Each};
+use contest::Card;
+use levels::Levels;
 use turns::Standing;
 use varmintfoil::Window;
 
@@ -43,10 +45,10 @@ fn figure(value: Option<f64>, width: usize, digits: usize) -> String {
     value.map_or(format!("{:>width$}", "-"), |value| format!("{value:>width$.digits$}"))
 }
 
-/// One row: nanoseconds for each byte of payload, then the proved library's time divided by each other's.
-fn print_row(field: [usize; 4], operation: &str, bytes: usize, standings: Each<Option<Standing>>) {
+/// One row: nanoseconds for each byte of payload or for each cell, then the proved library's time divided by each other's.
+fn print_row(field: [usize; 4], operation: &str, bytes: usize, standings: &[Option<Standing>]) {
     print!("{:<13} {:>2} {operation:<8}", name(field), field[3]);
-    for standing in &standings {
+    for standing in standings {
         print!("{}", figure(standing.map(|standing| standing.time / bytes as f64), 8, 2));
     }
     print!(" |");
@@ -66,7 +68,7 @@ fn print_fields() {
         let [w, h, d, t] = field;
         let card = Card::new(w, h, d, t);
         for (operation, standings) in card.operations() {
-            print_row(field, operation, card.shape.payload_bytes(), standings);
+            print_row(field, operation, card.shape.payload_bytes(), &standings);
         }
     }
 }
@@ -123,6 +125,24 @@ fn print_windows() {
     }
 }
 
+/// The fields of levels measured: one of the largest, and a small one.
+const LEVELS: [[usize; 4]; 2] = [[256, 256, 1, 8], [32, 32, 1, 3]];
+
+fn print_levels() {
+    println!("Fields of levels:");
+    println!("{:<13} {:>2} {:<8}{:>32} |{:>24}", "field", "t", "", "nanoseconds for a cell", "proved /");
+    println!(
+        "{:<13} {:>2} {:<8}{:>8}{:>8}{:>8}{:>8} |{:>8}{:>8}{:>8}",
+        "", "", "", "proved", "same", "plain", "copy", "same", "plain", "copy"
+    );
+    for field in LEVELS {
+        let levels = Levels::new(field);
+        for (operation, standings) in levels.operations() {
+            print_row(field, operation, levels.shape.cells(), &standings);
+        }
+    }
+}
+
 fn main() {
     println!("Medians. proved: the proved library; same: its text as Rust; plain: the fastest plain Rust; liquid: liquid-dsp,");
     println!("SECDED(72,64) with interleaver; copy: a copy of the cells.");
@@ -139,6 +159,8 @@ fn main() {
     print_erased();
     println!();
     print_windows();
+    println!();
+    print_levels();
     println!();
     program::print();
 }
