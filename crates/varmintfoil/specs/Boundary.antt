@@ -57,16 +57,16 @@ pub record IsCorrectResult (s : Shape) (field last : List ℕ) (r : CountResult)
   pub leaves : last ≡ correctLeaves s field
 
 -- the same of fields of levels
-pub record IsEncodeLevelsResult (s : Shape) (payload field last : List ℕ) (r : ℕ) : Type 0 where
+pub record IsEncodeLevelResult (s : Shape) (payload field last : List ℕ) (r : ℕ) : Type 0 where
   pub number : r ≡ encodeLevelsNumber s payload field
   pub leaves : last ≡ encodeLevelsLeaves s payload field
 
-pub record IsDecodeLevelsResult (s : Shape) (payload field last : List ℕ) (r : CountResult) : Type 0 where
+pub record IsDecodeLevelResult (s : Shape) (payload field last : List ℕ) (r : CountResult) : Type 0 where
   pub number : r .number ≡ decodeLevelsNumber s payload field
   pub count : r .count ≡ decodeLevelsCount s payload field
   pub leaves : last ≡ decodeLevelsLeaves s payload field
 
-pub record IsCorrectLevelsResult (s : Shape) (field last : List ℕ) (r : CountResult) : Type 0 where
+pub record IsCorrectLevelResult (s : Shape) (field last : List ℕ) (r : CountResult) : Type 0 where
   pub number : r .number ≡ correctLevelsNumber s field
   pub count : r .count ≡ correctLevelsCount s field
   pub leaves : last ≡ correctLevelsLeaves s field

@@ -5,7 +5,7 @@ ghost use Rattle.lattice.specs.Cell.{cell};
 ghost use Rattle.lattice.specs.Shape.{shapeFrom};
 ghost use Rattle.varmintfoil.specs.Boundary.{asNumber, IsPlanResult, IsClassResult, IsEncodeResult, IsDecodeResult};
 ghost use Rattle.varmintfoil.specs.Boundary.{IsCorrectResult, IsDistanceResult};
-ghost use Rattle.varmintfoil.specs.Boundary.{IsEncodeLevelsResult, IsDecodeLevelsResult, IsCorrectLevelsResult};
+ghost use Rattle.varmintfoil.specs.Boundary.{IsEncodeLevelResult, IsDecodeLevelResult, IsCorrectLevelResult};
 
 mod operations;
 
@@ -140,7 +140,7 @@ pub extern "C" fn varmintfoil_encode_levels(
     payload: &[u8],
     field: &mut [u8],
 ) -> usize
-    ensures { λ r. ⌜ IsEncodeLevelsResult (shapeFrom shape) (now (payload .entry)) (now (field .entry)) (now (field .exit)) r ⌝ }
+    ensures { λ r. ⌜ IsEncodeLevelResult (shapeFrom shape) (now (payload .entry)) (now (field .entry)) (now (field .exit)) r ⌝ }
 {
     let answer = encode_levels_in(shape, payload, field);
     answer.number()
@@ -154,7 +154,7 @@ pub extern "C" fn varmintfoil_decode_levels(
     payload: &mut [u8],
     field: &[u8],
 ) -> CountResult
-    ensures { λ r. ⌜ IsDecodeLevelsResult (shapeFrom shape) (now (payload .entry)) (now (field .entry)) (now (payload .exit)) r ⌝ }
+    ensures { λ r. ⌜ IsDecodeLevelResult (shapeFrom shape) (now (payload .entry)) (now (field .entry)) (now (payload .exit)) r ⌝ }
 {
     let answer = decode_levels_in(shape, payload, field);
     CountResult {
@@ -166,7 +166,7 @@ pub extern "C" fn varmintfoil_decode_levels(
 // Leaves the corrected field of levels and gives the number of cells that change, or gives the refusal 1, 2, 11, 4, 12 or 6.
 #[no_mangle]
 pub extern "C" fn varmintfoil_correct_levels(shape: ShapeNumbers, field: &mut [u8]) -> CountResult
-    ensures { λ r. ⌜ IsCorrectLevelsResult (shapeFrom shape) (now (field .entry)) (now (field .exit)) r ⌝ }
+    ensures { λ r. ⌜ IsCorrectLevelResult (shapeFrom shape) (now (field .entry)) (now (field .exit)) r ⌝ }
 {
     let answer = correct_levels_in(shape, field);
     CountResult {

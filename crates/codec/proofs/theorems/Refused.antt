@@ -45,7 +45,8 @@ correctRefused s field =
 -- Theorem. Beside any number but 0 every lent buffer keeps its bytes and every count and figure is 0.
 pub refusalsChangeNothing : RefusalsChangeNothing
 unfolding
-    planClasses planCapacity planBytes planCells planUsed planDigits encodeLeaves decodeLeaves decodeCount correctLeaves correctCount
+    planClasses planCapacity planBytes planCells planUsed planDigits
+    encodeLeaves decodeLeaves decodeCount correctLeaves correctCount
 refusalsChangeNothing =
     record {
       plan = λ s other. (

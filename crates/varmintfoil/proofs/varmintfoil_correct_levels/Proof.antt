@@ -26,4 +26,5 @@ returns c =
     }
 
 pub varmintfoil-correct-levels-spec : {M : Type 1} → statement M
-varmintfoil-correct-levels-spec = tie.close (tie.spec correct-levels-in-requires number-requires count-requires same-length returns)
+varmintfoil-correct-levels-spec =
+    tie.close (tie.spec correct-levels-in-requires number-requires count-requires same-length returns)

@@ -13,7 +13,7 @@ use Rattle.varmintfoil.specs.declared.ClassResult.{ClassResult}
 use Rattle.varmintfoil.specs.declared.CountResult.{CountResult}
 use Rattle.varmintfoil.specs.declared.DistanceResult.{DistanceResult}
 use Rattle.varmintfoil.specs.Boundary.{IsPlanResult, IsClassResult, IsEncodeResult, IsDecodeResult, IsCorrectResult}
-use Rattle.varmintfoil.specs.Boundary.{IsEncodeLevelsResult, IsDecodeLevelsResult, IsCorrectLevelsResult, IsDistanceResult}
+use Rattle.varmintfoil.specs.Boundary.{IsEncodeLevelResult, IsDecodeLevelResult, IsCorrectLevelResult, IsDistanceResult}
 
 -- Theorem. The examples hold of whatever meets the contracts.
 pub record ResultExamples : Type 0 where
@@ -69,18 +69,18 @@ pub record ResultExamples : Type 0 where
       → (r .number ≡ 0) × (r .count ≡ 1) × (last ≡ 0 ∷ 0 ∷ [])
   pub many : (last : List ℕ) (r : CountResult) → IsDecodeResult (strip 3) [] (2 ∷ 2 ∷ 2 ∷ []) last r
       → (r .number ≡ 10) × (r .count ≡ 0)
-  -- levels, 7 by 1 of strength 1: a word and an ignored cell, which reading does not count and mending does; 25 is above the levels
+  -- levels, 7 by 1 of strength 1: a word and an ignored cell, which decoding does not count and correcting does; 25 is no level
   pub encode-levels : (last : List ℕ) (r : ℕ)
-      → IsEncodeLevelsResult seven (24 ∷ 0 ∷ 1 ∷ 2 ∷ 3 ∷ []) (9 ∷ 9 ∷ 9 ∷ 9 ∷ 9 ∷ 9 ∷ 9 ∷ []) last r
+      → IsEncodeLevelResult seven (24 ∷ 0 ∷ 1 ∷ 2 ∷ 3 ∷ []) (9 ∷ 9 ∷ 9 ∷ 9 ∷ 9 ∷ 9 ∷ 9 ∷ []) last r
       → (r ≡ 0) × (last ≡ 24 ∷ 24 ∷ 0 ∷ 1 ∷ 2 ∷ 3 ∷ 0 ∷ [])
   pub decode-levels : (last : List ℕ) (r : CountResult)
-      → IsDecodeLevelsResult seven fiveZeros (0 ∷ 4 ∷ 0 ∷ 0 ∷ 0 ∷ 0 ∷ 24 ∷ []) last r
+      → IsDecodeLevelResult seven fiveZeros (0 ∷ 4 ∷ 0 ∷ 0 ∷ 0 ∷ 0 ∷ 24 ∷ []) last r
       → (r .number ≡ 0) × (r .count ≡ 1) × (last ≡ 5 ∷ 0 ∷ 0 ∷ 0 ∷ 0 ∷ [])
   pub correct-levels : (last : List ℕ) (r : CountResult)
-      → IsCorrectLevelsResult seven (0 ∷ 3 ∷ 0 ∷ 0 ∷ 0 ∷ 0 ∷ 9 ∷ []) last r
+      → IsCorrectLevelResult seven (0 ∷ 3 ∷ 0 ∷ 0 ∷ 0 ∷ 0 ∷ 9 ∷ []) last r
       → (r .number ≡ 0) × (r .count ≡ 2) × (last ≡ 0 ∷ 0 ∷ 0 ∷ 0 ∷ 0 ∷ 0 ∷ 0 ∷ [])
   pub no-levels : (last : List ℕ) (r : CountResult)
-      → IsCorrectLevelsResult seven (0 ∷ 3 ∷ 0 ∷ 0 ∷ 0 ∷ 0 ∷ 25 ∷ []) last r
+      → IsCorrectLevelResult seven (0 ∷ 3 ∷ 0 ∷ 0 ∷ 0 ∷ 0 ∷ 25 ∷ []) last r
       → (r .number ≡ 12) × (r .count ≡ 0) × (last ≡ 0 ∷ 3 ∷ 0 ∷ 0 ∷ 0 ∷ 0 ∷ 25 ∷ [])
   -- 7, 2, 3 hold at t = 3 after 12 triples; at t = 4 they fail at row 0, plane 2 and column −1, the ninth
   pub holds : (r : DistanceResult) → IsDistanceResult 7 2 3 3 r → (r .number ≡ 0) × (r .holds ≡ 1) × (r .tried ≡ 12)

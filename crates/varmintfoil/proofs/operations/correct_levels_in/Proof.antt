@@ -1,4 +1,4 @@
--- `correct_levels_in` meets its contract: the accepted shape is that of the numbers, and the constructor's refusal is the operation's.
+-- `correct_levels_in` meets its contract: the accepted shape is the numbers', and the constructor's refusal is the operation's.
 use borrow.Author.Needs.{needs}
 use Rattle.lattice.proofs.theory.NewShapes.{new-shape}
 use Rattle.varmintfoil.proofs.operations.Refused.{refused-correct-levels}
@@ -23,7 +23,8 @@ same-length c = search needs
 returns : tie.Need-returns
 returns c =
     let a = c .before .before .before .before .before in
-    rw (new-shape _ _ (a .before .before .new .ensures .0) _ (a .accepted .given .1)) at (c .before .before .correct-levels .ensures)
+    let levels = c .before .before .correct-levels .ensures in
+    rw (new-shape _ _ (a .before .before .new .ensures .0) _ (a .accepted .given .1)) at levels
 
 returns-2 : tie.Need-returns-2
 returns-2 c =
