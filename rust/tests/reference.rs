@@ -4,6 +4,7 @@
 mod common;
 
 use common::reference::*;
+use common::words::any_word;
 use common::{codec, erasures, faults, levels, padding, reference, windows, Codec, Numbers, Random};
 
 codec!(Reference, reference, s => (s));
@@ -239,7 +240,7 @@ fn the_faults_of_a_word() {
     assert_eq!(remainders, (1..25).collect::<Vec<i32>>());
     let mut random = Random::new(37);
     for _ in 0..20_000 {
-        let mut word: Word<u8> = levels::levels(&mut random, 6).try_into().unwrap();
+        let mut word = any_word(&mut random);
         assert!(lawful_words(&word).len() <= 1, "{word:?}");
         let checks = (0..=MAX_LEVEL).filter(|&check| is_lawful(&[check, word[1], word[2], word[3], word[4], word[5]])).count();
         assert_eq!(checks, 1, "{word:?}");

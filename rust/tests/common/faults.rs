@@ -1,7 +1,8 @@
 //! Faults of fields of levels: changed cells of words and of none, bytes that are no levels, and what must come of them.
 
-use super::levels::{any_word, change, changed, compare_correct, compare_decode, small_shapes, Cut, NO_LEVELS};
+use super::levels::{compare_correct, compare_decode};
 use super::reference::{Word, CHANGES, MAX_LEVEL};
+use super::words::{any_word, change, changed, small_shapes, Cut, NO_LEVELS};
 use super::*;
 
 /// The multipliers of the cells of a word.

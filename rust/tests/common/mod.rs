@@ -17,6 +17,7 @@ pub mod random;
 #[path = "../../others/reference.rs"]
 pub mod reference;
 pub mod windows;
+pub mod words;
 
 pub use clusters::{cluster, hole, some_of};
 pub use random::Random;
