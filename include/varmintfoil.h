@@ -1,5 +1,6 @@
-/* Varmintfoil: a payload in a field of black and white cells, or of cells of 25 levels, that outlives any one hole of at most t connected
- * cells or, by another setting, any damage inside one window of p rows by q columns.
+/* Varmintfoil: a payload in a field of black and white cells that outlives any one hole of at most t connected cells or, by another
+ * setting, any damage inside one window of p rows by q columns; or in a field of cells of 25 levels, where each cell of the hole or the
+ * window may be read as at most 3 higher or 1 lower than it was written.
  *
  * For x86-64 with the System V calling convention. Link target/staticlib/libvarmintfoil.a, which `rt staticlib varmintfoil` writes
  * at the repository's root; it needs the C library's memset and nothing else. Header and archive must be of one version.
@@ -17,7 +18,8 @@
  * A field of levels is as many bytes, one for each cell, 0 to 24. Its payload is digits 0 to 24, one a byte, as many as varmintfoil_plan
  * gives. The cells of each class, in byte order, are cut into words of six; the last ones of a class, fewer than six, belong to no word
  * and are ignored. A word is lawful where 1, 5, 6, 11, 16 and 21 times its cells, in their order, add up to a multiple of 25. Its first
- * cell is its check; the digits fill the other cells of all words, in byte order over the field.
+ * cell is its check; the digits fill the other cells of all words, in byte order over the field. What is undone: any cells of one hole of
+ * at most t connected cells, or inside one window, each read as at most 3 higher or 1 lower than written, and as a level.
  *
  * Padding is the cells after the payload's last bit that hold no check, at most 7. It is written as 1, 0, 1, 0 and on, from its first
  * cell in byte order. Before version 0.4.0 it was written as zeros: such a field is read too, and corrected to the field with zeros.

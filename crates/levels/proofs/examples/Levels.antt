@@ -87,6 +87,34 @@ written-carries = encodeLevelsMeaning .carries field digits writable
 pub written-number : encodeLevelsNumber field digits written ≡ 0
 written-number = encodeLevelsDone .written field digits written writable (encodeLevelsMeaning .long field digits)
 
+-- its first cell belongs to a word, and there are five words
+pub first-in-word : inWord (layoutOf field) 0 ≡ true
+unfolding
+    inWord wordsIn sizeTo position cellAt classOf classesOf classWith minusMod settingsFor flatSettings oddSettings
+first-in-word = refl
+
+pub five-words : wordsBelow (layoutOf field) 5 ≡ 5
+unfolding
+    wordsBelow wordsIn sizeTo cellAt classOf classesOf classWith minusMod settingsFor flatSettings oddSettings
+five-words = refl
+
+-- an empty payload and an empty field are refused
+pub encode-refused : encodeLevelsNumber seven [] [] ≢ 0
+unfolding
+    encodeLevelsNumber planDigits planCells shapeNumber sizeOk strengthOk windowOk isNone maxStrength inRange
+    digitsBelow wordsBelow wordsIn sizeTo cellAt classOf classesOf classWith minusMod settingsFor flatSettings oddSettings
+encode-refused e = omega (arith, e)
+
+pub decode-refused : decodeLevelsNumber seven [] [] ≢ 0
+unfolding
+    decodeLevelsNumber planDigits planCells shapeNumber sizeOk strengthOk windowOk isNone maxStrength inRange
+    digitsBelow wordsBelow wordsIn sizeTo cellAt classOf classesOf classWith minusMod settingsFor flatSettings oddSettings
+decode-refused e = omega (arith, e)
+
+pub correct-refused : correctLevelsNumber seven [] ≢ 0
+unfolding correctLevelsNumber planCells shapeNumber sizeOk strengthOk windowOk isNone maxStrength inRange
+correct-refused e = omega (arith, e)
+
 -- a field of levels in which no cell but those with three byte numbers differs from F, and each by −1 to +3
 test : (ℕ → ℕ) → (ℕ → ℕ) → ℕ → ℕ → ℕ → ℕ → Bool
 test f g a b c i =
