@@ -7,12 +7,13 @@ mod plain;
 use common::*;
 
 // It reads no erased cells and knows no windows.
-codec!(Plain, plain, s => (s.w, s.h, s.d, s.t), false);
+codec!(Plain like Reference, plain::{encode, decode, correct}, s => (s.w, s.h, s.d, s.t), no ERASURES, no WINDOWS);
 
-levels::level_codec!(PlainLevels, plain, s => (s.w, s.h, s.d, s.t), false);
-
-// The reference implementation itself, for the tests that compare with no other.
-codec!(Reference, reference, s => (s));
+codec!(
+    PlainLevels like ReferenceLevels,
+    plain::{encode_levels, decode_levels, correct_levels},
+    s => (s.w, s.h, s.d, s.t), no ERASURES, no WINDOWS
+);
 
 #[test]
 fn encodings() {

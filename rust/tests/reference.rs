@@ -5,10 +5,7 @@ mod common;
 
 use common::reference::*;
 use common::words::any_word;
-use common::{codec, erasures, faults, levels, padding, reference, windows, Codec, Numbers, Random};
-
-codec!(Reference, reference, s => (s));
-levels::level_codec!(Levels, reference, s => (s));
+use common::{erasures, faults, levels, padding, windows, Random, Reference, ReferenceLevels};
 
 /// The worked card's first lines, and those that are written behind them.
 const HEAD: &str = "columns=5\nrows=5\nplanes=1\nstrength=3\n";
@@ -226,7 +223,7 @@ fn the_examples_of_levels() {
     assert_eq!(words, [[0, 2, 4, 6, 8, 10], [1, 3, 5, 7, 9, 11]]);
     assert_eq!(digit_cells(&words), (2..12).collect::<Vec<usize>>());
     assert_eq!(ignored_cells(&Shape::of_strength(7, 1, 1, 1)), [6]);
-    levels::try_worked_examples::<Levels>();
+    levels::try_worked_examples::<ReferenceLevels>();
 }
 
 /// The 24 faults of a word change its sum by all remainders that are not 0, and so never make two lawful words of one; and every fill of
@@ -251,15 +248,15 @@ fn the_faults_of_a_word() {
 
 #[test]
 fn faults_of_levels() {
-    faults::undo_every_fault::<Levels>();
-    faults::refuse_faults_from_no_level::<Levels>();
-    faults::change_ignored_cells::<Levels>();
-    faults::refuse_bad_levels::<Levels>();
+    faults::undo_every_fault::<ReferenceLevels>();
+    faults::refuse_faults_from_no_level::<ReferenceLevels>();
+    faults::change_ignored_cells::<ReferenceLevels>();
+    faults::refuse_bad_levels::<ReferenceLevels>();
 }
 
 #[test]
 fn clusters_of_levels_are_undone() {
-    faults::undo_clusters::<Levels>(30_000);
+    faults::undo_clusters::<ReferenceLevels>(30_000);
 }
 
 #[test]

@@ -12,8 +12,8 @@ fn numbers(s: &Numbers) -> same::ShapeNumbers {
     same::ShapeNumbers { columns: s.w, rows: s.h, planes: s.d, strength: s.t, window }
 }
 
-codec!(Same, same, s => (numbers(s)));
-levels::level_codec!(SameLevels, same, s => (numbers(s)));
+codec!(Same like Reference, same::{encode, decode, correct}, s => (numbers(s)));
+codec!(SameLevels like ReferenceLevels, same::{encode_levels, decode_levels, correct_levels}, s => (numbers(s)), no ERASURES);
 
 #[test]
 fn encodings() {

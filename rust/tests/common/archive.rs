@@ -1,7 +1,7 @@
 //! What the tests of the archive share: a shape's numbers in its types, and its answers as results.
 
 use super::Numbers;
-use varmintfoil::{ffi, Refusal, Shape, Window};
+use varmintfoil::{ffi, Decoded, Refusal, Shape, Window};
 
 /// The numbers of a shape as the C interface has them.
 pub fn numbers(s: &Numbers) -> ffi::ShapeNumbers {
@@ -36,4 +36,17 @@ pub fn shape_of(s: &Numbers) -> Result<Shape, usize> {
         assert_eq!(shape, Shape::with_window(s.w, s.h, Window { rows: s.p, columns: s.q }));
     }
     shape.map_err(Refusal::number)
+}
+
+/// The answer of the wrapper's decoding into a payload; the one that gives a payload of its own says the same.
+pub fn decoded(answer: Result<usize, Refusal>, owned: Result<Decoded, Refusal>, payload: &[u8]) -> Result<usize, usize> {
+    match answer {
+        Ok(count) => {
+            let owned = owned.unwrap();
+            assert_eq!((owned.payload.as_slice(), owned.mended), (payload, count));
+        }
+        Err(Refusal::PayloadLength) => {}
+        Err(refusal) => assert_eq!(owned, Err(refusal)),
+    }
+    answer.map_err(Refusal::number)
 }

@@ -47,17 +47,34 @@ pub fn erased(field: &[u8], cells: &[usize]) -> Vec<u8> {
 /// A damaged field is read as the payload and corrected to the field, with the count of the cells where it differs.
 pub fn assert_undone<C: Codec>(random: &mut Random, shape: &Numbers, payload: &[u8], field: &[u8], damaged: &[u8]) {
     let count = reference::differences(damaged, field);
+    assert_undone_with::<C>(random, shape, payload, field, damaged, [count, count]);
+}
+
+/// A damaged field is read as the payload and corrected to the field, each with a count.
+pub fn assert_undone_with<C: Codec>(
+    random: &mut Random,
+    shape: &Numbers,
+    payload: &[u8],
+    field: &[u8],
+    damaged: &[u8],
+    [of_decode, of_correct]: [usize; 2],
+) {
     let mut read = random.bytes(payload.len());
-    assert_eq!(guards::decode::<C>(shape, &mut read, damaged), Ok(count), "{shape:?} {damaged:?}");
+    assert_eq!(guards::decode::<C>(shape, &mut read, damaged), Ok(of_decode), "{shape:?} {damaged:?}");
     assert_eq!(read, payload, "{shape:?} {damaged:?}");
     let mut corrected = damaged.to_vec();
-    assert_eq!(guards::correct::<C>(shape, &mut corrected), Ok(count), "{shape:?} {damaged:?}");
+    assert_eq!(guards::correct::<C>(shape, &mut corrected), Ok(of_correct), "{shape:?} {damaged:?}");
     assert_eq!(corrected, field, "{shape:?} {damaged:?}");
 }
 
 /// A field is refused with a number, by decode and by correct, which leave every byte.
 pub fn assert_refused<C: Codec>(random: &mut Random, shape: &Numbers, field: &[u8], number: usize) {
-    let before = random.bytes(shape.plan().unwrap().bytes);
+    assert_refused_with::<C>(random, shape, shape.plan().unwrap().bytes, field, number);
+}
+
+/// So is a field whose payload has some length.
+pub fn assert_refused_with<C: Codec>(random: &mut Random, shape: &Numbers, length: usize, field: &[u8], number: usize) {
+    let before = random.bytes(length);
     let mut read = before.clone();
     assert_eq!(guards::decode::<C>(shape, &mut read, field), Err(number), "{shape:?} {field:?}");
     assert_eq!(read, before, "{shape:?} {field:?}");

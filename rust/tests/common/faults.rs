@@ -1,6 +1,5 @@
 //! Faults of fields of levels: changed cells of words and of none, bytes that are no levels, and what must come of them.
 
-use super::levels::{compare_correct, compare_decode};
 use super::reference::{Word, CHANGES, MAX_LEVEL};
 use super::words::{any_word, change, changed, small_shapes, Cut, NO_LEVELS};
 use super::*;

@@ -5,33 +5,6 @@ use super::reference::MAX_LEVEL;
 use super::words::{change, lent_digits, lent_field, levels, shape_with_words, small_shapes};
 use super::*;
 
-/// Names an implementation whose three operations on fields of levels are functions of a module, as `codec!` does.
-#[allow(unused_macros)]
-macro_rules! level_codec {
-    ($name:ident, $module:ident, $shape:ident => ($($number:expr),+) $(, $windows:literal)?) => {
-        struct $name;
-
-        impl Codec for $name {
-            const ERASURES: bool = false;
-            $(const WINDOWS: bool = $windows;)?
-
-            fn encode($shape: &Numbers, payload: &[u8], field: &mut [u8]) -> Result<(), usize> {
-                $module::encode_levels($($number),+, payload, field)
-            }
-
-            fn decode($shape: &Numbers, payload: &mut [u8], field: &[u8]) -> Result<usize, usize> {
-                $module::decode_levels($($number),+, payload, field)
-            }
-
-            fn correct($shape: &Numbers, field: &mut [u8]) -> Result<usize, usize> {
-                $module::correct_levels($($number),+, field)
-            }
-        }
-    };
-}
-#[allow(unused_imports)]
-pub(crate) use level_codec;
-
 /// The worked examples.
 pub fn try_worked_examples<C: Codec>() {
     let mut field = [255; 12];
@@ -52,36 +25,6 @@ pub fn try_worked_examples<C: Codec>() {
         assert_eq!(read(field), (Err(number), [255; 5]));
         assert_eq!(mended(field), (Err(number), field));
     }
-}
-
-/// One encoding of levels, with all final bytes.
-pub fn compare_encode<C: Codec>(shape: &Numbers, payload: &[u8], field: &[u8], tally: &mut Tally) {
-    let mut expected = field.to_vec();
-    let mut actual = field.to_vec();
-    let answer = reference::encode_levels(shape, payload, &mut expected);
-    assert_eq!(guards::encode::<C>(shape, payload, &mut actual), answer, "{shape:?} {payload:?} {field:?}");
-    assert_eq!(actual, expected, "{shape:?} {payload:?} {field:?}");
-    tally.note(shape, number_of(&answer));
-}
-
-/// One decoding of levels, with all final bytes.
-pub fn compare_decode<C: Codec>(shape: &Numbers, payload: &[u8], field: &[u8], tally: &mut Tally) {
-    let mut expected = payload.to_vec();
-    let mut actual = payload.to_vec();
-    let answer = reference::decode_levels(shape, &mut expected, field);
-    assert_eq!(guards::decode::<C>(shape, &mut actual, field), answer, "{shape:?} {payload:?} {field:?}");
-    assert_eq!(actual, expected, "{shape:?} {payload:?} {field:?}");
-    tally.note(shape, number_of(&answer));
-}
-
-/// One correction of levels, with all final bytes.
-pub fn compare_correct<C: Codec>(shape: &Numbers, field: &[u8], tally: &mut Tally) {
-    let mut expected = field.to_vec();
-    let mut actual = field.to_vec();
-    let answer = reference::correct_levels(shape, &mut expected);
-    assert_eq!(guards::correct::<C>(shape, &mut actual), answer, "{shape:?} {field:?}");
-    assert_eq!(actual, expected, "{shape:?} {field:?}");
-    tally.note(shape, number_of(&answer));
 }
 
 /// Random encodings.

@@ -267,6 +267,8 @@ pub fn number_of<T>(result: &Result<T, usize>) -> usize {
 
 /// The three operations on buffers of an implementation that is compared with the reference.
 pub trait Codec {
+    /// What it is compared with: the reference's three operations, or those on fields of levels.
+    type Reference: Codec;
     /// Does it read erased cells? Else it is lent none.
     const ERASURES: bool = true;
     /// Does it know windows? Else no shape has one.
@@ -288,29 +290,31 @@ pub fn of_shape<C: Codec>(others: &[usize]) -> Vec<usize> {
     others.iter().copied().chain(C::WINDOWS.then_some(11)).collect()
 }
 
-/// Names an implementation whose three operations are functions of a module; what is in brackets are their first parameters, for the
-/// shape of a name. `false` follows where it reads no erased cells and knows no windows.
+/// Names an implementation whose three operations are functions of a module, and the reference for them; what is in brackets are their
+/// first parameters, for the shape of a name. What it does not know follows.
 #[allow(unused_macros)]
 macro_rules! codec {
-    ($name:ident, $module:ident, $shape:ident => ($($number:expr),+) $(, $all:literal)?) => {
-        struct $name;
+    (
+        $name:ident like $reference:ident,
+        $module:ident::{$encode:ident, $decode:ident, $correct:ident},
+        $shape:ident => ($($number:expr),+) $(, no $unknown:ident)*
+    ) => {
+        pub struct $name;
 
         impl Codec for $name {
-            $(
-                const ERASURES: bool = $all;
-                const WINDOWS: bool = $all;
-            )?
+            type Reference = $reference;
+            $(const $unknown: bool = false;)*
 
             fn encode($shape: &Numbers, payload: &[u8], field: &mut [u8]) -> Result<(), usize> {
-                $module::encode($($number),+, payload, field)
+                $module::$encode($($number),+, payload, field)
             }
 
             fn decode($shape: &Numbers, payload: &mut [u8], field: &[u8]) -> Result<usize, usize> {
-                $module::decode($($number),+, payload, field)
+                $module::$decode($($number),+, payload, field)
             }
 
             fn correct($shape: &Numbers, field: &mut [u8]) -> Result<usize, usize> {
-                $module::correct($($number),+, field)
+                $module::$correct($($number),+, field)
             }
         }
     };
@@ -318,11 +322,15 @@ macro_rules! codec {
 #[allow(unused_imports)]
 pub(crate) use codec;
 
+// The reference itself; the tests that compare with no other try it too.
+codec!(Reference like Reference, reference::{encode, decode, correct}, s => (s));
+codec!(ReferenceLevels like ReferenceLevels, reference::{encode_levels, decode_levels, correct_levels}, s => (s), no ERASURES);
+
 /// One encoding, with all final bytes.
 pub fn compare_encode<C: Codec>(shape: &Numbers, payload: &[u8], field: &[u8], tally: &mut Tally) {
     let mut expected = field.to_vec();
     let mut actual = field.to_vec();
-    let answer = reference::encode(shape, payload, &mut expected);
+    let answer = C::Reference::encode(shape, payload, &mut expected);
     assert_eq!(guards::encode::<C>(shape, payload, &mut actual), answer, "{shape:?} {payload:?} {field:?}");
     assert_eq!(actual, expected, "{shape:?} {payload:?} {field:?}");
     tally.note(shape, number_of(&answer));
@@ -332,7 +340,7 @@ pub fn compare_encode<C: Codec>(shape: &Numbers, payload: &[u8], field: &[u8], t
 pub fn compare_decode<C: Codec>(shape: &Numbers, payload: &[u8], field: &[u8], tally: &mut Tally) {
     let mut expected = payload.to_vec();
     let mut actual = payload.to_vec();
-    let answer = reference::decode(shape, &mut expected, field);
+    let answer = C::Reference::decode(shape, &mut expected, field);
     assert_eq!(guards::decode::<C>(shape, &mut actual, field), answer, "{shape:?} {payload:?} {field:?}");
     assert_eq!(actual, expected, "{shape:?} {payload:?} {field:?}");
     tally.note(shape, number_of(&answer));
@@ -342,7 +350,7 @@ pub fn compare_decode<C: Codec>(shape: &Numbers, payload: &[u8], field: &[u8], t
 pub fn compare_correct<C: Codec>(shape: &Numbers, field: &[u8], tally: &mut Tally) {
     let mut expected = field.to_vec();
     let mut actual = field.to_vec();
-    let answer = reference::correct(shape, &mut expected);
+    let answer = C::Reference::correct(shape, &mut expected);
     assert_eq!(guards::correct::<C>(shape, &mut actual), answer, "{shape:?} {field:?}");
     assert_eq!(actual, expected, "{shape:?} {field:?}");
     tally.note(shape, number_of(&answer));

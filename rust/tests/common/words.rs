@@ -36,26 +36,14 @@ impl Cut {
     /// A field is read as the digits and corrected to the field of them. Decode counts the cells of words where it differs from that, and
     /// correct all cells.
     pub fn assert_undone<C: Codec>(&self, random: &mut Random, field: &[u8], damaged: &[u8]) {
-        let (shape, digits) = (&self.shape, self.digits_of(field));
         let all = reference::differences(damaged, field);
         let of_words = all - self.ignored.iter().filter(|&&cell| damaged[cell] != field[cell]).count();
-        let mut read = random.bytes(digits.len());
-        assert_eq!(guards::decode::<C>(shape, &mut read, damaged), Ok(of_words), "{shape:?} {damaged:?}");
-        assert_eq!(read, digits, "{shape:?} {damaged:?}");
-        let mut corrected = damaged.to_vec();
-        assert_eq!(guards::correct::<C>(shape, &mut corrected), Ok(all), "{shape:?} {damaged:?}");
-        assert_eq!(corrected, field, "{shape:?} {damaged:?}");
+        damage::assert_undone_with::<C>(random, &self.shape, &self.digits_of(field), field, damaged, [of_words, all]);
     }
 
     /// A field is refused with a number, by decode and by correct, which leave every byte.
     pub fn assert_refused<C: Codec>(&self, random: &mut Random, field: &[u8], number: usize) {
-        let (shape, before) = (&self.shape, random.bytes(self.data.len()));
-        let mut read = before.clone();
-        assert_eq!(guards::decode::<C>(shape, &mut read, field), Err(number), "{shape:?} {field:?}");
-        assert_eq!(read, before, "{shape:?} {field:?}");
-        let mut corrected = field.to_vec();
-        assert_eq!(guards::correct::<C>(shape, &mut corrected), Err(number), "{shape:?} {field:?}");
-        assert_eq!(corrected, field, "{shape:?} {field:?}");
+        damage::assert_refused_with::<C>(random, &self.shape, self.data.len(), field, number);
     }
 }
 
