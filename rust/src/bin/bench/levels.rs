@@ -11,7 +11,7 @@ use varmintfoil::{Shape, MAX_LEVEL};
 /// A thing of each contestant: the proved library, the same text as Rust, plain Rust, a copy.
 pub type Each<T> = [T; 4];
 
-/// A shape with digits, their field, and the field with a hole of t cells, each of them 1 higher or, where it is the greatest level, 1
+/// A shape with digits, their field, and the field with some cells changed: each is 1 higher or, where it is the greatest level, 1
 /// lower.
 pub struct Levels {
     numbers: ShapeNumbers,
@@ -21,18 +21,47 @@ pub struct Levels {
     damaged: Vec<u8>,
 }
 
+/// Cells of each word of a class.
+const WORD: usize = 6;
+
 impl Levels {
-    pub fn new([columns, rows, planes, strength]: [usize; 4]) -> Levels {
+    fn new([columns, rows, planes, strength]: [usize; 4]) -> Levels {
         let numbers = ShapeNumbers { columns, rows, planes, strength, ..ShapeNumbers::default() };
         let shape = Shape::of_numbers(numbers).unwrap();
         let payload: Vec<u8> = random_bytes(shape.payload_digits()).iter().map(|byte| byte % (MAX_LEVEL + 1)).collect();
         let field = varmintfoil::encode_levels(&shape, &payload).unwrap();
-        let middle = (planes / 2 * rows + rows / 2) * columns;
-        let mut damaged = field.clone();
-        for cell in &mut damaged[middle..middle + strength] {
-            *cell = if *cell == MAX_LEVEL { MAX_LEVEL - 1 } else { *cell + 1 };
-        }
+        let damaged = field.clone();
         Levels { numbers, shape, payload, field, damaged }
+    }
+
+    fn change(&mut self, cell: usize) {
+        let level = &mut self.damaged[cell];
+        *level = if *level == MAX_LEVEL { MAX_LEVEL - 1 } else { *level + 1 };
+    }
+
+    /// A hole of t cells in a row, in the middle.
+    pub fn with_hole(field: [usize; 4]) -> Levels {
+        let [columns, rows, planes, strength] = field;
+        let mut levels = Levels::new(field);
+        let middle = (planes / 2 * rows + rows / 2) * columns;
+        (middle..middle + strength).for_each(|cell| levels.change(cell));
+        levels
+    }
+
+    /// One cell of every word changed: the first of the first word of a class, the second of the second, and round again.
+    pub fn with_faults(field: [usize; 4]) -> Levels {
+        let [columns, rows, _, _] = field;
+        let mut levels = Levels::new(field);
+        let mut classes = vec![Vec::new(); levels.shape.classes()];
+        for cell in 0..levels.field.len() {
+            let line = cell / columns;
+            let class = varmintfoil::class_of(&levels.shape, line % rows, line / rows, cell % columns).unwrap();
+            classes[class].push(cell);
+        }
+        for cells in classes {
+            cells.chunks_exact(WORD).enumerate().for_each(|(i, word)| levels.change(word[i % WORD]));
+        }
+        levels
     }
 
     fn encode(&self) -> Each<Option<Standing>> {
@@ -90,8 +119,14 @@ impl Levels {
         standings
     }
 
-    /// The three contests.
+    /// The contests on the digits and the field.
     pub fn operations(&self) -> [(&'static str, Each<Option<Standing>>); 3] {
-        [("encode", self.encode()), ("decode", self.decode()), ("correct", self.correct())]
+        let [decode, correct] = self.mending();
+        [("encode", self.encode()), decode, correct]
+    }
+
+    /// The contests on the changed field.
+    pub fn mending(&self) -> [(&'static str, Each<Option<Standing>>); 2] {
+        [("decode", self.decode()), ("correct", self.correct())]
     }
 }

@@ -129,16 +129,16 @@ fn print_windows() {
 const LEVELS: [[usize; 4]; 2] = [[256, 256, 1, 8], [32, 32, 1, 3]];
 
 fn print_levels() {
-    println!("Fields of levels:");
+    println!("Fields of levels, with a hole of t cells; then with a change in every word:");
     println!("{:<13} {:>2} {:<8}{:>32} |{:>24}", "field", "t", "", "nanoseconds for a cell", "proved /");
     println!(
         "{:<13} {:>2} {:<8}{:>8}{:>8}{:>8}{:>8} |{:>8}{:>8}{:>8}",
         "", "", "", "proved", "same", "plain", "copy", "same", "plain", "copy"
     );
     for field in LEVELS {
-        let levels = Levels::new(field);
-        for (operation, standings) in levels.operations() {
-            print_row(field, operation, levels.shape.cells(), &standings);
+        let (hole, faults) = (Levels::with_hole(field), Levels::with_faults(field));
+        for (operation, standings) in hole.operations().into_iter().chain(faults.mending()) {
+            print_row(field, operation, hole.shape.cells(), &standings);
         }
     }
 }
