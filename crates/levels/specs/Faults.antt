@@ -53,13 +53,3 @@ faultOf r = firstLeaving r faults
 -- the change of cell k, with 1 added, in a word with the remainder r
 unfoldable pub change : ℕ → ℕ → ℕ
 change r k = cond (eqb (faultOf r .cell) k) (faultOf r .up) 1
-
--- the faults as a table, by the remainder that each leaves; no fault leaves 0
-unfoldable pub faultTable : List Fault
-faultTable =
-    none
-    ∷ fault 0 2 ∷ fault 0 3 ∷ fault 0 4 ∷ fault 5 0 ∷ fault 1 2 ∷ fault 2 2
-    ∷ fault 4 3 ∷ fault 3 4 ∷ fault 4 0 ∷ fault 1 3 ∷ fault 3 2 ∷ fault 2 3
-    ∷ fault 5 4 ∷ fault 3 0 ∷ fault 1 4 ∷ fault 4 2 ∷ fault 5 3 ∷ fault 2 4
-    ∷ fault 2 0 ∷ fault 1 0 ∷ fault 5 2 ∷ fault 3 3 ∷ fault 4 4 ∷ fault 0 0
-    ∷ []

@@ -15,6 +15,7 @@ pub(crate) const MAX_LEVEL: u8 = 24;
 // The change of a cell, with 1 added, by the remainder of its word; 1 for an ignored cell.
 pub(crate) fn change_of(remainders: &[u8; MAX_WORDS], spot: Spot) -> u8
     requires { ⌜ (spot .inside ≡ true → spot .word < maxWords) ⌝ }
+    requires { ⌜ spot .slot < 6 ⌝ }
     requires { ⌜ Remainders (now remainders) ⌝ }
     ensures { λ r. ⌜ r ≡ changeOf (now (remainders .entry)) spot ⌝ }
 {

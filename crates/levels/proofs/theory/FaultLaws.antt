@@ -1,5 +1,4 @@
--- The faults of a word: one for each remainder from 1 to 24, the first that leaves it and the entry of the table; and the change
--- of a cell.
+-- The faults of a word: one for each remainder from 1 to 24, which is the first that leaves it; and the change of a cell.
 use Prim.Native.Nat.{ℕ, _+_, _*_, _<_}
 use mathlib.Core.Bool.{Bool, true, false, cond, not, _&&_, _||_, false≢true}
 use mathlib.Core.Logic.{_≢_}
@@ -8,13 +7,12 @@ use native.Mathlib.Decide.{ℕ-discrete}
 use native.Mathlib.Nat.{mod-lt}
 use native.Mathlib.Omega.{arith}
 use lib.Dec.{eqb, ltb, lit<}
-use lib.ListN.{getD}
 use borrow.Author.Tests.{eq-eqb, ne-eqb, eqb-true, ltb-true}
 use Rattle.lattice.specs.Counting.{allBelow}
 use Rattle.lattice.proofs.theory.Bools.{and-left, and-right}
 use Rattle.codec.proofs.theory.AllBelow.{below-all}
 use Rattle.levels.specs.declared.faults.Fault.{Fault}
-use Rattle.levels.specs.Faults.{multiplier, fault, IsFault, effect, faults, faultOf, change, faultTable}
+use Rattle.levels.specs.Faults.{multiplier, fault, IsFault, effect, faults, faultOf, change}
 
 same : Bool → Bool → Bool
 same a b = cond a b (not b)
@@ -30,8 +28,7 @@ same-back true b e p = refl
 same-back false true e p = e
 same-back false false e p = p
 
--- the test of a fault found for r: a fault of a word, and none at 0 alone; it is (k, u) exactly where (k, u) leaves r; and the
--- table has it
+-- the test of a fault found for r: a fault of a word, and none at 0 alone; and it is (k, u) exactly where (k, u) leaves r
 isFound : Fault → ℕ → ℕ → Bool
 isFound x k u = eqb (x .cell) k && eqb (x .up) u
 
@@ -44,22 +41,21 @@ wellAt x r = ltb (x .cell) 6 && (ltb (x .up) 5 && same (eqb (x .up) 1) (eqb r 0)
 rulesAt : ℕ → Bool
 rulesAt r = allBelow (λ k. allBelow (ruleAt (faultOf r) r k) 5) 6
 
-testAt : Fault → ℕ → Bool
-testAt d r =
-    wellAt (faultOf r) r && (isFound (getD faultTable r d) (faultOf r .cell) (faultOf r .up) && rulesAt r)
+testAt : ℕ → Bool
+testAt r = wellAt (faultOf r) r && rulesAt r
 
--- the one test of the 25 remainders and 24 faults, whatever stands behind the table's end
-fault-test : (d : Fault) → allBelow (testAt d) 25 ≡ true
-unfolding testAt rulesAt wellAt ruleAt isFound same faultOf faults faultTable effect multiplier
-fault-test d = refl
+-- the one test of the 25 remainders and 24 faults
+fault-test : allBelow testAt 25 ≡ true
+unfolding testAt rulesAt wellAt ruleAt isFound same faultOf faults effect multiplier
+fault-test = refl
 
 module _ (r : ℕ) (l : r < 25) where
-  tested : (d : Fault) → testAt d r ≡ true
-  tested d = below-all (testAt d) 25 (fault-test d) r l
+  tested : testAt r ≡ true
+  tested = below-all testAt 25 fault-test r l
 
   well : wellAt (faultOf r) r ≡ true
   unfolding testAt
-  well = and-left (wellAt (faultOf r) r) _ (tested (fault 0 0))
+  well = and-left (wellAt (faultOf r) r) _ tested
 
   -- the parts of what is found
   pub found-cell : faultOf r .cell < 6
@@ -84,22 +80,11 @@ module _ (r : ℕ) (l : r < 25) where
       eqb-true _ 1
       (same-back (eqb (faultOf r .up) 1) (eqb r 0) none-alone (eq-eqb r 0 e))
 
-  -- entry r of the table is what is found
-  pub table-found : (d : Fault) → getD faultTable r d ≡ faultOf r
-  unfolding testAt isFound
-  table-found d =
-      let x : Fault = getD faultTable r d in
-      let t : isFound x (faultOf r .cell) (faultOf r .up) ≡ true =
-      and-left (isFound x (faultOf r .cell) (faultOf r .up)) _ (and-right (wellAt (faultOf r) r) _ (tested d)) in
-      ap₂ fault (eqb-true _ _ (and-left _ _ t)) (eqb-true _ _ (and-right (eqb (x .cell) (faultOf r .cell)) _ t))
-
   module _ (k u : ℕ) (is : IsFault k u) where
     rule : same (eqb (effect k u) r) (isFound (faultOf r) k u) ≡ true
     unfolding testAt rulesAt ruleAt
     rule =
-        let x : Fault = getD faultTable r (fault 0 0) in
-        let rules : rulesAt r ≡ true =
-        and-right (isFound x (faultOf r .cell) (faultOf r .up)) _ (and-right (wellAt (faultOf r) r) _ (tested (fault 0 0))) in
+        let rules : rulesAt r ≡ true = and-right (wellAt (faultOf r) r) _ tested in
         let t : ruleAt (faultOf r) r k u ≡ true =
         below-all (ruleAt (faultOf r) r k) 5
         (below-all (λ j. allBelow (ruleAt (faultOf r) r j) 5) 6 rules k (is .cell)) u (is .low) in
@@ -113,7 +98,7 @@ module _ (r : ℕ) (l : r < 25) where
         ap₂ fault (eqb-true _ k (and-left _ _ t)) (eqb-true _ u (and-right (eqb (faultOf r .cell) k) _ t))
 
     -- and what is found leaves r
-    pub found-leaves : faultOf r .cell ≡ k → faultOf r .up ≡ u → effect k u ≡ r
+    found-leaves : faultOf r .cell ≡ k → faultOf r .up ≡ u → effect k u ≡ r
     unfolding isFound
     found-leaves p q = eqb-true _ r (same-back _ (isFound (faultOf r) k u) rule (rw (eq-eqb _ k p, eq-eqb _ u q)))
 
@@ -136,11 +121,11 @@ none-leaves k u is e =
 
 -- the change in a cell of a word with the remainder r
 module _ (r : ℕ) (l : r < 25) where
-  change-here : (k : ℕ) → faultOf r .cell ≡ k → change r k ≡ faultOf r .up
+  pub change-here : (k : ℕ) → faultOf r .cell ≡ k → change r k ≡ faultOf r .up
   unfolding change
   change-here k e = rw (eq-eqb _ k e)
 
-  change-other : (k : ℕ) → faultOf r .cell ≢ k → change r k ≡ 1
+  pub change-other : (k : ℕ) → faultOf r .cell ≢ k → change r k ≡ 1
   unfolding change
   change-other k e = rw (ne-eqb _ k e)
 
@@ -190,16 +175,6 @@ leaves-changed r k u is e =
     let l : r < 25 = rw (← e) (effect-below k u) in
     let t : faultOf r ≡ fault k u = leaves-found r l k u is e in
     change-here r l k (ap (λ (x : Fault). x .cell) t) ∙ ap (λ (x : Fault). x .up) t
-
--- the change in a cell, from the fault found
-module _ (r k : ℕ) (x : Fault) (e : x ≡ faultOf r) where
-  pub change-taken : x .cell ≡ k → x .up ≡ change r k
-  unfolding change
-  change-taken p = ap (λ (y : Fault). y .up) e ∙ sym (rw (eq-eqb (faultOf r .cell) k (sym (ap (λ (y : Fault). y .cell) e) ∙ p)))
-
-  pub change-left : x .cell ≢ k → 1 ≡ change r k
-  unfolding change
-  change-left d = sym (rw (ne-eqb (faultOf r .cell) k (λ p. d (ap (λ (y : Fault). y .cell) e ∙ p))))
 
 -- the multipliers are below 22
 multiplier-test : allBelow (λ k. ltb (multiplier k) 22) 6 ≡ true

@@ -60,7 +60,8 @@ change-of-requires : tie.Need-change-of-requires Inv-loop μ-loop
 change-of-requires c κs =
     let here = c .before in
     let pre = entry (here .before .before .before) .pre in
-    (here .spot-of .ensures .0 .below, remainders-small _ _ _ _ (pre .held))
+    let spot = here .spot-of .ensures .0 in
+    (spot .below, (spot .place, remainders-small _ _ _ _ (pre .held)))
 
 restored-level-requires : tie.Need-restored-level-requires Inv-loop μ-loop
 restored-level-requires c κs =

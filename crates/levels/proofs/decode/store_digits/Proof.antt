@@ -90,7 +90,8 @@ shared-slice-read-before c = omega arith
 change-of-requires : tie.Need-change-of-requires Inv-loop μ-loop
 change-of-requires c κs =
     let here = c .before .before in
-    (here .spot-of .ensures .0 .below, remainders-small _ _ _ _ (entry (here .before .before) .pre .0 .held))
+    let spot = here .spot-of .ensures .0 in
+    (spot .below, (spot .place, remainders-small _ _ _ _ (entry (here .before .before) .pre .0 .held)))
 
 restored-level-requires : tie.Need-restored-level-requires Inv-loop μ-loop
 restored-level-requires c κs =

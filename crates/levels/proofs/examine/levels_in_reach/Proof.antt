@@ -64,7 +64,8 @@ shared-slice-read-can-restore c = omega arith
 change-of-requires : tie.Need-change-of-requires Inv-loop μ-loop
 change-of-requires c κs =
     let pre = c .before .before .before .before .before .before .before .before .pre in
-    (c .before .spot-of .ensures .0 .below, remainders-small _ _ _ _ (pre .held))
+    let spot = c .before .spot-of .ensures .0 in
+    (spot .below, (spot .place, remainders-small _ _ _ _ (pre .held)))
 
 can-restore-requires : tie.Need-can-restore-requires Inv-loop μ-loop
 can-restore-requires c κs = tt

@@ -1,24 +1,21 @@
 -- `change` meets its contract.
 use mathlib.Core.Path.{sym}
-use borrow.Author.Needs.{needs}
-use Rattle.levels.proofs.theory.FaultLaws.{change-none, change-taken, change-left}
+use native.Mathlib.Omega.{arith}
+use Rattle.levels.proofs.theory.FaultLaws.{change-none}
+use Rattle.levels.proofs.faults.Trials.{change-tried}
 use Rattle.levels.proofs.faults.change.Statement.{statement}
 use Rattle.levels.proofs.faults.change.Tie as tie
 
 returns : tie.Need-returns
 returns c = rw (c .if1 .taken) (sym (change-none _))
 
-fault-of-requires : tie.Need-fault-of-requires
-fault-of-requires c κs = search needs
-
-cast-if2 : tie.Need-cast-if2
-cast-if2 c = search needs
+fault-in-requires : tie.Need-fault-in-requires
+fault-in-requires c κs = ((omega (arith, c .if1 .left), c .before .pre .0), c .before .pre .1)
 
 returns-2 : tie.Need-returns-2
-returns-2 c = change-taken _ _ _ (c .before .before .fault-of .ensures) (c .if2 .taken)
-
-returns-3 : tie.Need-returns-3
-returns-3 c = change-left _ _ _ (c .before .before .fault-of .ensures) (c .if2 .left)
+returns-2 c =
+    let here = c .before in
+    change-tried _ _ (here .before .pre .0) _ (c .fault-in .ensures .0) (c .fault-in .ensures .1)
 
 pub change-spec : {M : Type 1} → statement M
-change-spec = tie.close (tie.spec returns fault-of-requires cast-if2 returns-2 returns-3)
+change-spec = tie.close (tie.spec returns fault-in-requires returns-2)

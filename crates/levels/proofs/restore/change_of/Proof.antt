@@ -7,7 +7,8 @@ element-copy-out-change : tie.Need-element-copy-out-change
 element-copy-out-change c = c .before .pre .0 (c .if1 .taken)
 
 change-requires : tie.Need-change-requires
-change-requires c κs = c .before .before .pre .1 .small _ (c .before .before .pre .0 (c .before .if1 .taken))
+change-requires c κs =
+    let pre = c .before .before .pre in (pre .1 .1 .small _ (pre .0 (c .before .if1 .taken)), pre .1 .0)
 
 returns : tie.Need-returns
 returns c =

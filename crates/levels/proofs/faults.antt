@@ -1,0 +1,2 @@
+-- What the working out of a fault uses alone.
+mod Trials
