@@ -37,6 +37,29 @@ pub(crate) fn changed(before: Buffer, i: usize, way: usize) -> Buffer
     field
 }
 
+// A shade with a fault, where 0 follows 24.
+fn turned_shade(shade: u8, fault: usize) -> u8 {
+    let from = shade as usize;
+    if fault == 0 {
+        ((from + 24) % 25) as u8
+    } else {
+        ((from + fault % FAULTS) % 25) as u8
+    }
+}
+
+// A field with a fault in cell i, where 0 follows 24. So its word has the remainder of the fault, also where it comes from no shade.
+pub(crate) fn turned(before: Buffer, i: usize, fault: usize) -> Buffer
+    requires { ⌜ i < 512 ⌝ }
+{
+    let mut field = before;
+    field[i] = turned_shade(field[i], fault);
+    field
+}
+
+// The digits that, each alone in all cells that hold one, bring every cell of a word to an end of the shades or to where a fault
+// leads to an end: to 0, 1, 21, 22, 23 and 24. The check is then 16 times the digit, modulo 25.
+pub(crate) const ENDS: [u8; 11] = [0, 1, 3, 6, 11, 14, 17, 21, 22, 23, 24];
+
 // A field with a fault in `count` cells, wherever they lie.
 fn scattered(cells: usize, count: usize, x: u64, before: Buffer) -> Buffer
     requires { ⌜ (0 < cells) × (cells ≤ 512) ⌝ }

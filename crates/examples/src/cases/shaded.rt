@@ -1,5 +1,5 @@
 // Shaded fields that are written, damaged, read and mended: of every shape in some ways, and of small ones with each fault of
-// each cell and with two faults in every two cells.
+// each cell, also at both ends of the shades, and with two faults in every two cells.
 ghost use Prim.Native.Nat.{_<_, _≤_};
 use crate::cases::faults;
 use crate::cases::faults::changed;
@@ -183,6 +183,45 @@ fn swept(before: Tally, shape: Shape, cells: usize, digits: usize, k: usize) -> 
     tally
 }
 
+// Each fault of each cell, and so all 24 of every word, where the digits are all one.
+fn turned_each(
+    before: Tally,
+    shape: Shape,
+    cells: usize,
+    digits: usize,
+    k: usize,
+    digit: u8,
+) -> Tally
+    requires { ⌜ (cells ≤ 512) × (digits ≤ 512) ⌝ }
+{
+    let lent = [77; CELLS];
+    let written = shaded_write(shape, [digit; CELLS], digits, lent, cells).buffer;
+    let mut tally = before;
+    let mut step = 0;
+    while step < cells * faults::FAULTS {
+        let field = faults::turned(written, step / faults::FAULTS, step % faults::FAULTS);
+        let v = 1000000 * (1 + digit as usize) + step;
+        let compared = received(tally, shape, field, cells, lent, digits, k, v);
+        tally = compared;
+        step += 1;
+    }
+    tally
+}
+
+// The same at each end of the shades.
+fn at_ends(before: Tally, shape: Shape, cells: usize, digits: usize, k: usize) -> Tally
+    requires { ⌜ (cells ≤ 512) × (digits ≤ 512) ⌝ }
+{
+    let mut tally = before;
+    let mut n = 0;
+    while n < faults::ENDS.len() {
+        let compared = turned_each(tally, shape, cells, digits, k, faults::ENDS[n]);
+        tally = compared;
+        n += 1;
+    }
+    tally
+}
+
 // All that is compared of one shape. Where the plan's lengths are not those of a small field, others are lent.
 fn all_of(before: Tally, shape: Shape, k: usize) -> Tally {
     let plan = second::placing::plan(shape);
@@ -195,7 +234,13 @@ fn all_of(before: Tally, shape: Shape, k: usize) -> Tally {
     if k < shapes::SHAPES as usize {
         return compared;
     }
-    swept(compared, shape, cells, digits, k)
+    at_ends(
+        swept(compared, shape, cells, digits, k),
+        shape,
+        cells,
+        digits,
+        k,
+    )
 }
 
 pub(crate) fn all(before: Tally) -> Tally {
