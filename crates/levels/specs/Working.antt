@@ -69,8 +69,8 @@ unfoldable pub holdsAt : Spot → Bool
 holdsAt x = x .inside && not (eqb (x .slot) 0)
 
 -- the only change, with 1 added, that can leave the remainder r in a cell with the multiplier m
-unfoldable pub onlyUp : ℕ → ℕ → ℕ
-onlyUp m r = (cond (eqb m 5) (r / 5) r + 1) % 5
+unfoldable pub onlyChange : ℕ → ℕ → ℕ
+onlyChange m r = (cond (eqb m 5) (r / 5) r + 1) % 5
 
 -- the array holds the remainder of each word of f over the first n cells
 pub record HoldsRemainders (L : Layout) (f : Field) (l : List ℕ) (n : ℕ) : Type 0 where

@@ -4,7 +4,7 @@ ghost use mathlib.Core.Path.{_≡_};
 ghost use Prim.Native.Nat.{_+_, _*_, _%_, _<_};
 ghost use lib.Dec.{eqb};
 ghost use Rattle.levels.specs.Faults.{multiplier, faultOf, none, change};
-ghost use Rattle.levels.specs.Working.{onlyUp};
+ghost use Rattle.levels.specs.Working.{onlyChange};
 
 // A cell of a word, from 0, and its change with 1 added: 0 for −1, and 2, 3, 4 for +1, +2, +3; 1 is no change.
 pub(crate) struct Fault {
@@ -25,10 +25,10 @@ pub(crate) fn multiplier(cell: usize) -> u32
 }
 
 // The only change, with 1 added, that can have left a remainder in a cell with that multiplier. Modulo 5 every multiplier but 5 is
-// 1, so that what a change leaves is the change; in the cell of 5 it is 5 times the change.
+// 1, so that what a change leaves is the change, modulo 5; the cell of 5 leaves 5 times the change, modulo 25.
 fn only_change(factor: u32, remainder: u8) -> u8
     requires { ⌜ remainder < 25 ⌝ }
-    ensures { λ r. ⌜ r ≡ onlyUp factor remainder ⌝ }
+    ensures { λ r. ⌜ r ≡ onlyChange factor remainder ⌝ }
 {
     if factor == 5 {
         (remainder / 5 + 1) % 5
@@ -68,7 +68,8 @@ fn fault_in(remainder: u8, cell: usize) -> Fault
     }
 }
 
-// The change of a cell, with 1 added, in a word with a remainder. Most words have the remainder 0, and nothing is worked out.
+// The change of a cell, with 1 added, in a word with a remainder. Most words have the remainder 0, and for these nothing
+// is worked out.
 pub(crate) fn change(remainder: u8, cell: usize) -> u8
     requires { ⌜ remainder < 25 ⌝ }
     requires { ⌜ cell < 6 ⌝ }

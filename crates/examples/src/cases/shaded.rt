@@ -183,7 +183,7 @@ fn swept(before: Tally, shape: Shape, cells: usize, digits: usize, k: usize) -> 
     tally
 }
 
-// Each fault of each cell, and so all 24 of every word, where the digits are all one.
+// Each fault of each cell, and so all 24 of every word, where all digits are the same.
 fn turned_each(
     before: Tally,
     shape: Shape,
@@ -208,8 +208,8 @@ fn turned_each(
     tally
 }
 
-// The same at each end of the shades.
-fn at_ends(before: Tally, shape: Shape, cells: usize, digits: usize, k: usize) -> Tally
+// The same with each digit that brings cells to the ends of the shades.
+fn turned_at_ends(before: Tally, shape: Shape, cells: usize, digits: usize, k: usize) -> Tally
     requires { ⌜ (cells ≤ 512) × (digits ≤ 512) ⌝ }
 {
     let mut tally = before;
@@ -234,7 +234,7 @@ fn all_of(before: Tally, shape: Shape, k: usize) -> Tally {
     if k < shapes::SHAPES as usize {
         return compared;
     }
-    at_ends(
+    turned_at_ends(
         swept(compared, shape, cells, digits, k),
         shape,
         cells,

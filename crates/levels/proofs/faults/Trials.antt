@@ -1,10 +1,9 @@
 -- The one change of a cell that can have left a remainder, tried.
-use Prim.Native.Nat.{ℕ, _+_, _-_, _*_, _%_, _<_, _≤_}
+use Prim.Native.Nat.{ℕ, _+_, _-_, _*_, _%_, _<_}
 use mathlib.Core.Bool.{Bool, true, false}
 use mathlib.Core.Logic.{_≢_}
 use mathlib.Core.Path.{_≡_, refl, sym, ap, _∙_}
 use native.Mathlib.Decide.{ℕ-discrete}
-use native.Mathlib.Nat.{mul-le-mul}
 use native.Mathlib.Omega.{arith}
 use lib.Dec.{eqb}
 use borrow.Author.Tests.{eq-eqb, ne-eqb, eqb-true, eqb-false}
@@ -12,12 +11,8 @@ use Rattle.lattice.specs.Counting.{allBelow}
 use Rattle.codec.proofs.theory.AllBelow.{below-all}
 use Rattle.levels.specs.declared.faults.Fault.{Fault}
 use Rattle.levels.specs.Faults.{multiplier, fault, none, effect, faultOf, change}
-use Rattle.levels.specs.Working.{onlyUp}
+use Rattle.levels.specs.Working.{onlyChange}
 use Rattle.levels.proofs.theory.FaultLaws.{found-fault, leaves-found, change-here, change-other}
-
--- the product of a multiplier and a change is small
-pub product-small : (m u : ℕ) → m < 22 → u < 5 → m * (u + 24) ≤ 588
-product-small m u p q = mul-le-mul {n₂ = 21} {m₂ = 28} (omega arith) (omega arith)
 
 -- the difference is a multiple of 25 exactly where the product leaves r
 pub leaves-is : (p r : ℕ) → r < 25 → eqb ((p + 25 - r) % 25) 0 ≡ eqb (p % 25) r
@@ -27,31 +22,31 @@ leaves-is p r l = go (ℕ-discrete (p % 25) r)
     go (yes e) = eq-eqb ((p + 25 - r) % 25) 0 (omega arith) ∙ sym (eq-eqb _ r e)
     go (no d) = ne-eqb ((p + 25 - r) % 25) 0 (λ z. d (omega arith)) ∙ sym (ne-eqb _ r d)
 
--- the one change that can have left a remainder
-pub only-below : (m r : ℕ) → onlyUp m r < 5
-unfolding onlyUp
+-- the one change that can have left a remainder, with 1 added, is below 5
+pub only-below : (m r : ℕ) → onlyChange m r < 5
+unfolding onlyChange
 only-below m r = omega arith
 
 -- a change is told by what it leaves: the test of the six cells and the changes of each
 toldAt : ℕ → ℕ → Bool
-toldAt k u = eqb (onlyUp (multiplier k) (effect k u)) u
+toldAt k u = eqb (onlyChange (multiplier k) (effect k u)) u
 
 told-test : allBelow (λ k. allBelow (toldAt k) 5) 6 ≡ true
-unfolding toldAt onlyUp effect multiplier
+unfolding toldAt onlyChange effect multiplier
 told-test = refl
 
-told : (k u : ℕ) → k < 6 → u < 5 → onlyUp (multiplier k) (effect k u) ≡ u
+told : (k u : ℕ) → k < 6 → u < 5 → onlyChange (multiplier k) (effect k u) ≡ u
 unfolding toldAt
 told k u h l = eqb-true _ u (below-all (toldAt k) 5 (below-all (λ j. allBelow (toldAt j) 5) 6 told-test k h) u l)
 
--- no change leaves 0
+-- a cell that is not changed leaves 0
 effect-none : (k : ℕ) → effect k 1 ≡ 0
 unfolding effect
 effect-none k = omega arith
 
 module _ (r k : ℕ) (p : 0 < r) (l : r < 25) (h : k < 6) where
   -- the change that is tried, and what it leaves
-  module _ (m u : ℕ) (e : m ≡ multiplier k) (is : u ≡ onlyUp m r) (b : Bool) (q : b ≡ eqb (m * (u + 24) % 25) r) where
+  module _ (m u : ℕ) (e : m ≡ multiplier k) (is : u ≡ onlyChange m r) (b : Bool) (q : b ≡ eqb (m * (u + 24) % 25) r) where
     product-effect : m * (u + 24) % 25 ≡ effect k u
     unfolding effect
     product-effect = ap (λ (j : ℕ). j * (u + 24) % 25) e
@@ -72,7 +67,7 @@ module _ (r k : ℕ) (p : 0 < r) (l : r < 25) (h : k < 6) where
         let v : ℕ = faultOf r .up in
         let v-leaves : effect k v ≡ r = ap (λ (j : ℕ). effect j v) (sym z) ∙ found .1 in
         let same : u ≡ v =
-        is ∙ ap (λ (j : ℕ). onlyUp j r) e ∙ ap (onlyUp (multiplier k)) (sym v-leaves) ∙ told k v h (found .0 .low) in
+        is ∙ ap (λ (j : ℕ). onlyChange j r) e ∙ ap (onlyChange (multiplier k)) (sym v-leaves) ∙ told k v h (found .0 .low) in
         eqb-false _ r (sym q ∙ f) (product-effect ∙ ap (effect k) same ∙ v-leaves)
 
 -- the change in the cell, by the fault that is given for it

@@ -1,10 +1,9 @@
 -- A cell that is taken into the remainder of its word.
-use Prim.Native.Nat.{ℕ, _+_, _*_, _%_, _<_, _≤_}
+use Prim.Native.Nat.{ℕ, _+_, _*_, _%_, _<_}
 use mathlib.Core.Bool.{true, false, cond, _&&_}
 use mathlib.Core.List.{List}
 use mathlib.Core.Path.{_≡_, refl, sym, ap, _∙_}
 use native.Mathlib.Decide.{ℕ-discrete}
-use native.Mathlib.Nat.{mul-le-mul}
 use native.Mathlib.Omega.{arith}
 use lib.Dec.{eqb}
 use lib.ListN.{length, getD, set}
@@ -13,10 +12,6 @@ use borrow.Author.Tests.{eq-eqb, ne-eqb}
 use Rattle.levels.specs.declared.spot.Spot.{Spot}
 use Rattle.levels.specs.Faults.{multiplier}
 use Rattle.levels.specs.Working.{LevelTaken}
-
--- a multiplier times a byte is small
-pub product-small : (m v : ℕ) → m < 22 → v < 256 → m * v ≤ 5355
-product-small m v p q = mul-le-mul {n₂ = 21} {m₂ = 255} (omega arith) (omega arith)
 
 module _ (l : List ℕ) (x : Spot) (v : ℕ) where
   pub taken-inside : x .inside ≡ true → x .word < length l → (y : ℕ)

@@ -1,10 +1,10 @@
 -- The faults of a word: one for each remainder from 1 to 24, which is the first that leaves it; and the change of a cell.
-use Prim.Native.Nat.{ℕ, _+_, _*_, _<_}
+use Prim.Native.Nat.{ℕ, _+_, _*_, _<_, _≤_}
 use mathlib.Core.Bool.{Bool, true, false, cond, not, _&&_, _||_, false≢true}
 use mathlib.Core.Logic.{_≢_}
 use mathlib.Core.Path.{_≡_, refl, sym, ap, ap₂, _∙_}
 use native.Mathlib.Decide.{ℕ-discrete}
-use native.Mathlib.Nat.{mod-lt}
+use native.Mathlib.Nat.{mod-lt, mul-le-mul}
 use native.Mathlib.Omega.{arith}
 use lib.Dec.{eqb, ltb, lit<}
 use borrow.Author.Tests.{eq-eqb, ne-eqb, eqb-true, ltb-true}
@@ -58,11 +58,11 @@ module _ (r : ℕ) (l : r < 25) where
   well = and-left (wellAt (faultOf r) r) _ tested
 
   -- the parts of what is found
-  pub found-cell : faultOf r .cell < 6
+  found-cell : faultOf r .cell < 6
   unfolding wellAt
   found-cell = ltb-true _ 6 (and-left (ltb (faultOf r .cell) 6) _ well)
 
-  pub found-up : faultOf r .up < 5
+  found-up : faultOf r .up < 5
   unfolding wellAt
   found-up = ltb-true _ 5 (and-left (ltb (faultOf r .up) 5) _ (and-right (ltb (faultOf r .cell) 6) _ well))
 
@@ -130,7 +130,7 @@ module _ (r : ℕ) (l : r < 25) where
   change-other k e = rw (ne-eqb _ k e)
 
   -- a cell that is changed is the one of the fault
-  pub changed-cell : (k : ℕ) → change r k ≢ 1 → faultOf r .cell ≡ k
+  changed-cell : (k : ℕ) → change r k ≢ 1 → faultOf r .cell ≡ k
   changed-cell k d = go (ℕ-discrete (faultOf r .cell) k)
     where
       go : Dec (faultOf r .cell ≡ k) → faultOf r .cell ≡ k
@@ -183,3 +183,7 @@ multiplier-test = refl
 
 pub multiplier-small : (k : ℕ) → k < 6 → multiplier k < 22
 multiplier-small k l = ltb-true (multiplier k) 22 (below-all (λ j. ltb (multiplier j) 22) 6 multiplier-test k l)
+
+-- so the product of one and a byte is small
+pub product-small : (m v : ℕ) → m < 22 → v < 256 → m * v ≤ 5355
+product-small m v p q = mul-le-mul {n₂ = 21} {m₂ = 255} (omega arith) (omega arith)

@@ -11,8 +11,7 @@ use varmintfoil::{Shape, MAX_LEVEL};
 /// A thing of each contestant: the proved library, the same text as Rust, plain Rust, a copy.
 pub type Each<T> = [T; 4];
 
-/// A shape with digits, their field, and the field with some cells changed: each is 1 higher or, where it is the greatest level, 1
-/// lower.
+/// A shape with digits, their field, and the field with some cells changed.
 pub struct Levels {
     numbers: ShapeNumbers,
     pub shape: Shape,
@@ -24,6 +23,9 @@ pub struct Levels {
 /// Cells of each word of a class.
 const WORD: usize = 6;
 
+/// The changes of a cell that are undone.
+const CHANGES: [i8; 4] = [1, 2, 3, -1];
+
 impl Levels {
     fn new([columns, rows, planes, strength]: [usize; 4]) -> Levels {
         let numbers = ShapeNumbers { columns, rows, planes, strength, ..ShapeNumbers::default() };
@@ -34,21 +36,24 @@ impl Levels {
         Levels { numbers, shape, payload, field, damaged }
     }
 
-    fn change(&mut self, cell: usize) {
-        let level = &mut self.damaged[cell];
-        *level = if *level == MAX_LEVEL { MAX_LEVEL - 1 } else { *level + 1 };
+    /// Makes the n-th change of a cell, or the first behind it that leaves a level.
+    fn change(&mut self, cell: usize, n: usize) {
+        let level = self.damaged[cell];
+        let mut changed = CHANGES.iter().cycle().skip(n).filter_map(|&change| level.checked_add_signed(change));
+        self.damaged[cell] = changed.find(|&level| level <= MAX_LEVEL).unwrap();
     }
 
-    /// A hole of t cells in a row, in the middle.
+    /// A hole of t cells in a row, in the middle: each is 1 higher or, where it is the greatest level, 1 lower.
     pub fn with_hole(field: [usize; 4]) -> Levels {
         let [columns, rows, planes, strength] = field;
         let mut levels = Levels::new(field);
         let middle = (planes / 2 * rows + rows / 2) * columns;
-        (middle..middle + strength).for_each(|cell| levels.change(cell));
+        (middle..middle + strength).for_each(|cell| levels.change(cell, 0));
         levels
     }
 
-    /// One cell of every word changed: the first of the first word of a class, the second of the second, and round again.
+    /// One cell of every word changed: the first of the first word of a class, the second of the second, and round again; at each round
+    /// by the next of the changes.
     pub fn with_faults(field: [usize; 4]) -> Levels {
         let [columns, rows, _, _] = field;
         let mut levels = Levels::new(field);
@@ -59,7 +64,7 @@ impl Levels {
             classes[class].push(cell);
         }
         for cells in classes {
-            cells.chunks_exact(WORD).enumerate().for_each(|(i, word)| levels.change(word[i % WORD]));
+            cells.chunks_exact(WORD).enumerate().for_each(|(i, word)| levels.change(word[i % WORD], i / WORD));
         }
         levels
     }
@@ -93,24 +98,24 @@ impl Levels {
         standings
     }
 
-    /// After each call the hole is made again, within the time.
+    /// After each call the cells are changed again, within the time.
     fn correct(&self) -> Each<Option<Standing>> {
         let ShapeNumbers { columns: w, rows: h, planes: d, strength: t, .. } = self.numbers;
-        let hole: Vec<usize> = (0..self.field.len()).filter(|&cell| self.field[cell] != self.damaged[cell]).collect();
-        let damage = |field: &mut [u8]| hole.iter().for_each(|&cell| field[cell] = self.damaged[cell]);
+        let changed: Vec<usize> = (0..self.field.len()).filter(|&cell| self.field[cell] != self.damaged[cell]).collect();
+        let damage = |field: &mut [u8]| changed.iter().for_each(|&cell| field[cell] = self.damaged[cell]);
         let [mut one, mut text, mut other, mut third] = [(); 4].map(|()| self.damaged.clone());
         let in_text = numbers_in_text(self.numbers);
         let standings = contest([
             some(|| {
-                assert_eq!(ffi::correct_levels(black_box(self.numbers), black_box(&mut one)).count, hole.len());
+                assert_eq!(ffi::correct_levels(black_box(self.numbers), black_box(&mut one)).count, changed.len());
                 damage(&mut one);
             }),
             some(|| {
-                assert_eq!(same::correct_levels(black_box(in_text), black_box(&mut text)), Ok(hole.len()));
+                assert_eq!(same::correct_levels(black_box(in_text), black_box(&mut text)), Ok(changed.len()));
                 damage(&mut text);
             }),
             some(|| {
-                assert_eq!(plain::correct_levels(black_box(w), h, d, t, black_box(&mut other)), Ok(hole.len()));
+                assert_eq!(plain::correct_levels(black_box(w), h, d, t, black_box(&mut other)), Ok(changed.len()));
                 damage(&mut other);
             }),
             some(|| third.copy_from_slice(black_box(&self.damaged))),
@@ -119,13 +124,13 @@ impl Levels {
         standings
     }
 
-    /// The contests on the digits and the field.
+    /// The contests of the three operations.
     pub fn operations(&self) -> [(&'static str, Each<Option<Standing>>); 3] {
         let [decode, correct] = self.mending();
         [("encode", self.encode()), decode, correct]
     }
 
-    /// The contests on the changed field.
+    /// Those of the two that get the changed field.
     pub fn mending(&self) -> [(&'static str, Each<Option<Standing>>); 2] {
         [("decode", self.decode()), ("correct", self.correct())]
     }

@@ -1,6 +1,6 @@
 //! The benchmark: encode, decode and correct of the proved library, of its text as Rust, of the fastest plain Rust and of
 //! liquid-dsp, and a copy of the cells, all in one run and by turns. Each figure is a median; decode and correct get a field
-//! with a hole of t cells. Fields of levels are measured in the same way, without liquid-dsp.
+//! with a hole of t cells. Fields of levels are measured in the same way, without liquid-dsp, and also with a change in every word.
 
 mod contest;
 mod levels;
@@ -129,7 +129,7 @@ fn print_windows() {
 const LEVELS: [[usize; 4]; 2] = [[256, 256, 1, 8], [32, 32, 1, 3]];
 
 fn print_levels() {
-    println!("Fields of levels, with a hole of t cells; then with a change in every word:");
+    println!("Fields of levels: of each, three rows with a hole of t cells, then two with a change in every word.");
     println!("{:<13} {:>2} {:<8}{:>32} |{:>24}", "field", "t", "", "nanoseconds for a cell", "proved /");
     println!(
         "{:<13} {:>2} {:<8}{:>8}{:>8}{:>8}{:>8} |{:>8}{:>8}{:>8}",

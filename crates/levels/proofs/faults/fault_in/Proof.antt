@@ -1,5 +1,5 @@
 -- `fault_in` meets its contract.
-use mathlib.Core.Path.{_≡_, refl, sym, ap}
+use mathlib.Core.Path.{refl, sym, ap}
 use borrow.Author.Needs.{needs}
 use Rattle.levels.specs.declared.faults.Fault.{Fault}
 use Rattle.levels.proofs.faults.Trials.{only-below, trial-found, found-elsewhere}

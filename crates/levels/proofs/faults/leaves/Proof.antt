@@ -2,12 +2,13 @@
 use Prim.Native.Nat.{_+_, _*_, _≤_}
 use native.Mathlib.Omega.{arith}
 use borrow.Author.Needs.{needs}
-use Rattle.levels.proofs.faults.Trials.{product-small, leaves-is}
+use Rattle.levels.proofs.theory.FaultLaws.{product-small}
+use Rattle.levels.proofs.faults.Trials.{leaves-is}
 use Rattle.levels.proofs.faults.leaves.Statement.{statement}
 use Rattle.levels.proofs.faults.leaves.Tie as tie
 
-small : (c : tie.Start) → c .args .factor * (c .args .up + 24) ≤ 588
-small c = product-small _ _ (c .pre .0) (c .pre .1 .0)
+small : (c : tie.Start) → c .args .factor * (c .args .up + 24) ≤ 5355
+small c = product-small _ _ (c .pre .0) (omega (arith, c .pre .1 .0))
 
 add-result : tie.Need-add-result
 add-result c = search needs

@@ -2,7 +2,7 @@
 use mathlib.Core.Path.{refl}
 use borrow.Author.Needs.{needs}
 use borrow.Author.Tests.{eq-eqb, ne-eqb}
-use Rattle.levels.specs.Working.{onlyUp}
+use Rattle.levels.specs.Working.{onlyChange}
 use Rattle.levels.proofs.faults.only_change.Statement.{statement}
 use Rattle.levels.proofs.faults.only_change.Tie as tie
 
@@ -13,11 +13,11 @@ add-result-2 : tie.Need-add-result-2
 add-result-2 c = search needs
 
 returns : tie.Need-returns
-unfolding onlyUp
+unfolding onlyChange
 returns c = rw (eq-eqb _ _ (c .if1 .taken)) refl
 
 returns-2 : tie.Need-returns-2
-unfolding onlyUp
+unfolding onlyChange
 returns-2 c = rw (ne-eqb _ _ (c .if1 .left)) refl
 
 pub only-change-spec : {M : Type 1} → statement M

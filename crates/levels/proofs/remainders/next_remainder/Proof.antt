@@ -3,7 +3,7 @@ use Prim.Native.Nat.{_*_, _≤_}
 use borrow.Author.Needs.{needs}
 use mathlib.Core.Path.{refl}
 use native.Mathlib.Omega.{arith}
-use Rattle.levels.proofs.remainders.TakenLevels.{product-small}
+use Rattle.levels.proofs.theory.FaultLaws.{product-small}
 use Rattle.levels.proofs.remainders.next_remainder.Statement.{statement}
 use Rattle.levels.proofs.remainders.next_remainder.Tie as tie
 
