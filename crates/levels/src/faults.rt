@@ -24,8 +24,8 @@ pub(crate) fn multiplier(cell: usize) -> u32
     MULTIPLIERS[cell]
 }
 
-// The only change, with 1 added, that can have left a remainder in a cell with that multiplier. Modulo 5 every multiplier but 5 is
-// 1, so that what a change leaves is the change, modulo 5; the cell of 5 leaves 5 times the change, modulo 25.
+// The only change, with 1 added, that can have left a remainder in a cell with that multiplier. Modulo 5 every multiplier but 5
+// is 1, so that what a change leaves is the change, modulo 5; the cell of 5 leaves 5 times the change, modulo 25.
 fn only_change(factor: u32, remainder: u8) -> u8
     requires { ⌜ remainder < 25 ⌝ }
     ensures { λ r. ⌜ r ≡ onlyChange factor remainder ⌝ }
@@ -48,8 +48,8 @@ fn leaves(factor: u32, up: u8, remainder: u8) -> bool
     (factor * (up as u32 + 24) + 25 - remainder as u32) % 25 == 0
 }
 
-// The fault that leaves a remainder, where it is one of this cell; else no fault. Of the four changes of the cell only the one that
-// can have left the remainder is tried.
+// The fault that leaves a remainder, where it is one of this cell; else no fault. Of the four changes of the cell only the one
+// that can have left the remainder is tried.
 fn fault_in(remainder: u8, cell: usize) -> Fault
     requires { ⌜ (0 < remainder) × (remainder < 25) ⌝ }
     requires { ⌜ cell < 6 ⌝ }
@@ -68,8 +68,8 @@ fn fault_in(remainder: u8, cell: usize) -> Fault
     }
 }
 
-// The change of a cell, with 1 added, in a word with a remainder. Most words have the remainder 0, and for these nothing
-// is worked out.
+// The change of a cell, with 1 added, in a word with a remainder. Most words have the remainder 0, and for these nothing is
+// worked out.
 pub(crate) fn change(remainder: u8, cell: usize) -> u8
     requires { ⌜ remainder < 25 ⌝ }
     requires { ⌜ cell < 6 ⌝ }

@@ -47,8 +47,8 @@ fn turned_shade(shade: u8, fault: usize) -> u8 {
     }
 }
 
-// A field with a fault in cell i, where 0 follows 24. So its word has the remainder of the fault, also where the cell comes from no
-// shade.
+// A field with a fault in cell i, where 0 follows 24. So its word has the remainder of the fault, also where the cell comes from
+// no shade.
 pub(crate) fn turned(before: Buffer, i: usize, fault: usize) -> Buffer
     requires { ⌜ i < 512 ⌝ }
 {
@@ -57,8 +57,8 @@ pub(crate) fn turned(before: Buffer, i: usize, fault: usize) -> Buffer
     field
 }
 
-// Digits such that, where all digits of a field are one of these, each in turn, every cell of a word comes to 0, 1, 21, 22, 23 and
-// 24: the ends of the shades, and the shades from which a fault leads to an end. The check is 16 times the digit, modulo 25.
+// Digits such that, where all digits of a field are one of these, each in turn, every cell of a word comes to 0, 1, 21, 22, 23
+// and 24: the ends of the shades, and the shades from which a fault leads to an end. The check is 16 times the digit, modulo 25.
 pub(crate) const ENDS: [u8; 11] = [0, 1, 3, 6, 11, 14, 17, 21, 22, 23, 24];
 
 // A field with a fault in `count` cells, wherever they lie.
