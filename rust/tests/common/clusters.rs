@@ -65,6 +65,21 @@ pub fn hole(random: &mut Random, shape: &Numbers) -> Vec<usize> {
     cluster(random, shape, shape.extent())
 }
 
+/// Cells to be damaged, in one of the ways 0 to 9: mostly a hole that is undone; 6 is a cluster beyond the strength, 7 and 8 are a few
+/// cells, and 9 any number of them, wherever they lie.
+pub fn damaged_cells(random: &mut Random, shape: &Numbers, way: usize) -> Vec<usize> {
+    let cells = reference::cells(shape);
+    match way {
+        6 => {
+            let size = shape.extent() + random.from(1, 6);
+            cluster(random, shape, size)
+        }
+        7 | 8 => (0..random.from(1, 3)).map(|_| random.below(cells)).collect(),
+        9 => (0..random.from(1, cells)).map(|_| random.below(cells)).collect(),
+        _ => hole(random, shape),
+    }
+}
+
 /// Some of the cells of a list: none, all or a random choice.
 pub fn some_of(random: &mut Random, cells: &[usize]) -> Vec<usize> {
     match random.below(4) {

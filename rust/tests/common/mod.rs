@@ -19,7 +19,7 @@ pub mod reference;
 pub mod windows;
 pub mod words;
 
-pub use clusters::{cluster, hole, some_of};
+pub use clusters::{cluster, damaged_cells, hole, some_of};
 pub use random::Random;
 pub use reference::Shape as Numbers;
 
@@ -168,13 +168,7 @@ fn damaged_field(random: &mut Random, shape: &Numbers) -> Vec<u8> {
     let mut field = reference::field_with(shape, &payload, &padding);
     let flips = match random.below(12) {
         0 => Vec::new(),
-        1..=5 => hole(random, shape),
-        6 => {
-            let size = shape.extent() + random.from(1, 6);
-            cluster(random, shape, size)
-        }
-        7 | 8 => (0..random.from(1, 3)).map(|_| random.below(plan.cells)).collect(),
-        9 => (0..random.from(1, plan.cells)).map(|_| random.below(plan.cells)).collect(),
+        way @ 1..=9 => damaged_cells(random, shape, way),
         10 => {
             field = random.bits(plan.cells);
             Vec::new()

@@ -116,13 +116,7 @@ fn any_field(random: &mut Random, shape: &Numbers) -> Vec<u8> {
     let plan = shape.plan().unwrap();
     let mut field = reference::field_of_digits(shape, &levels(random, plan.digits));
     let cells = match random.below(12) {
-        0..=5 => hole(random, shape),
-        6 => {
-            let size = shape.extent() + random.from(1, 6);
-            cluster(random, shape, size)
-        }
-        7 | 8 => (0..random.from(1, 3)).map(|_| random.below(plan.cells)).collect(),
-        9 => (0..random.from(1, plan.cells)).map(|_| random.below(plan.cells)).collect(),
+        way @ 0..=9 => damaged_cells(random, shape, way),
         _ => Vec::new(),
     };
     let cells = some_of(random, &cells);
