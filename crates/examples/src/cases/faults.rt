@@ -12,9 +12,15 @@ pub(crate) const FAULTS: usize = 4;
 
 pub(crate) const TO_25: usize = 6;
 
+const TO_255: usize = 7;
+
 pub(crate) const WAYS: usize = 8;
 
-// A shade that is changed in a way. It stays where it has none below or none so far above.
+// Behind these ways the four faults once more, where 0 follows 24. So the word has the remainder of the fault, also where the cell
+// comes from no shade.
+pub(crate) const ROUND: usize = WAYS;
+
+// A shade that is changed in a way. But for those that go round it stays where it has none below or none so far above.
 fn changed_shade(shade: u8, way: usize) -> u8 {
     match way {
         0 => if 0 < shade { shade - 1 } else { shade },
@@ -24,7 +30,11 @@ fn changed_shade(shade: u8, way: usize) -> u8 {
         4 => 0,
         5 => 24,
         TO_25 => 25,
-        _ => 255,
+        TO_255 => 255,
+        ROUND => ((shade as u32 + 24) % 25) as u8,
+        9 => ((shade as u32 + 1) % 25) as u8,
+        10 => ((shade as u32 + 2) % 25) as u8,
+        _ => ((shade as u32 + 3) % 25) as u8,
     }
 }
 
@@ -34,26 +44,6 @@ pub(crate) fn changed(before: Buffer, i: usize, way: usize) -> Buffer
 {
     let mut field = before;
     field[i] = changed_shade(field[i], way);
-    field
-}
-
-// A shade with a fault, where 0 follows 24.
-fn turned_shade(shade: u8, fault: usize) -> u8 {
-    let from = shade as usize;
-    if fault == 0 {
-        ((from + 24) % 25) as u8
-    } else {
-        ((from + fault % FAULTS) % 25) as u8
-    }
-}
-
-// A field with a fault in cell i, where 0 follows 24. So its word has the remainder of the fault, also where the cell comes from
-// no shade.
-pub(crate) fn turned(before: Buffer, i: usize, fault: usize) -> Buffer
-    requires { ⌜ i < 512 ⌝ }
-{
-    let mut field = before;
-    field[i] = turned_shade(field[i], fault);
     field
 }
 
@@ -118,7 +108,7 @@ pub(crate) fn damaged(
         8 => strewn(shape, digits, cells, x, before),
         9 => strewn(shape, digits, cells, x, scattered(cells, 2, x, before)),
         10 | 23 | 24 => changed(before, i, TO_25),
-        11 => changed(before, i, WAYS),
+        11 => changed(before, i, TO_255),
         12 => random::buffer(x, 25),
         13 => changed(random::buffer(x, 25), i, TO_25),
         14 => random::buffer(x, 256),
@@ -163,7 +153,7 @@ pub(crate) fn soiled(case: usize, digits: usize, x: u64, payload: Buffer) -> Buf
     let i = random::below(x, digits);
     match case {
         21 | 23 | 24 => changed(payload, i, TO_25),
-        22 => changed(payload, i, WAYS),
+        22 => changed(payload, i, TO_255),
         _ => payload,
     }
 }

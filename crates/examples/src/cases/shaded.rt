@@ -184,7 +184,7 @@ fn swept(before: Tally, shape: Shape, cells: usize, digits: usize, k: usize) -> 
 }
 
 // Each fault of each cell, and so all 24 of every word, where all digits are the same.
-fn turned_each(
+fn each_fault(
     before: Tally,
     shape: Shape,
     cells: usize,
@@ -199,7 +199,8 @@ fn turned_each(
     let mut tally = before;
     let mut step = 0;
     while step < cells * faults::FAULTS {
-        let field = faults::turned(written, step / faults::FAULTS, step % faults::FAULTS);
+        let way = faults::ROUND + step % faults::FAULTS;
+        let field = changed(written, step / faults::FAULTS, way);
         let v = 1000000 * (1 + digit as usize) + step;
         let compared = received(tally, shape, field, cells, lent, digits, k, v);
         tally = compared;
@@ -209,13 +210,13 @@ fn turned_each(
 }
 
 // The same with each digit that brings cells to the ends of the shades.
-fn turned_at_ends(before: Tally, shape: Shape, cells: usize, digits: usize, k: usize) -> Tally
+fn faults_at_ends(before: Tally, shape: Shape, cells: usize, digits: usize, k: usize) -> Tally
     requires { ⌜ (cells ≤ 512) × (digits ≤ 512) ⌝ }
 {
     let mut tally = before;
     let mut n = 0;
     while n < faults::ENDS.len() {
-        let compared = turned_each(tally, shape, cells, digits, k, faults::ENDS[n]);
+        let compared = each_fault(tally, shape, cells, digits, k, faults::ENDS[n]);
         tally = compared;
         n += 1;
     }
@@ -234,7 +235,7 @@ fn all_of(before: Tally, shape: Shape, k: usize) -> Tally {
     if k < shapes::SHAPES as usize {
         return compared;
     }
-    turned_at_ends(
+    faults_at_ends(
         swept(compared, shape, cells, digits, k),
         shape,
         cells,

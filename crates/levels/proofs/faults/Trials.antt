@@ -71,11 +71,11 @@ module _ (r k : ℕ) (p : 0 < r) (l : r < 25) (h : k < 6) where
         eqb-false _ r (sym q ∙ f) (product-effect ∙ ap (effect k) same ∙ v-leaves)
 
 -- the change in the cell, by the fault that is given for it
-module _ (r k : ℕ) (l : r < 25) (x : Fault)
+module _ (r k : ℕ) (x : Fault)
     (here : faultOf r .cell ≡ k → x ≡ faultOf r) (other : faultOf r .cell ≢ k → x ≡ none) where
   pub change-tried : x .up ≡ change r k
   change-tried = go (ℕ-discrete (faultOf r .cell) k)
     where
       go : Dec (faultOf r .cell ≡ k) → x .up ≡ change r k
-      go (yes e) = ap (λ (y : Fault). y .up) (here e) ∙ sym (change-here r l k e)
-      go (no d) = ap (λ (y : Fault). y .up) (other d) ∙ sym (change-other r l k d)
+      go (yes e) = ap (λ (y : Fault). y .up) (here e) ∙ sym (change-here r k e)
+      go (no d) = ap (λ (y : Fault). y .up) (other d) ∙ sym (change-other r k d)

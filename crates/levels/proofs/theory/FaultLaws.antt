@@ -119,23 +119,25 @@ pub none-leaves : (k u : ℕ) → IsFault k u → effect k u ≢ 0
 none-leaves k u is e =
     is .some (sym (ap (λ (x : Fault). x .up) (leaves-found 0 (lit< tt) k u is e)) ∙ none-found 0 (lit< tt) refl)
 
--- the change in a cell of a word with the remainder r
+-- the change in cell k of a word with the remainder r
+module _ (r k : ℕ) where
+  pub change-here : faultOf r .cell ≡ k → change r k ≡ faultOf r .up
+  unfolding change
+  change-here e = rw (eq-eqb _ k e)
+
+  pub change-other : faultOf r .cell ≢ k → change r k ≡ 1
+  unfolding change
+  change-other e = rw (ne-eqb _ k e)
+
+-- and in its cells
 module _ (r : ℕ) (l : r < 25) where
-  pub change-here : (k : ℕ) → faultOf r .cell ≡ k → change r k ≡ faultOf r .up
-  unfolding change
-  change-here k e = rw (eq-eqb _ k e)
-
-  pub change-other : (k : ℕ) → faultOf r .cell ≢ k → change r k ≡ 1
-  unfolding change
-  change-other k e = rw (ne-eqb _ k e)
-
   -- a cell that is changed is the one of the fault
   changed-cell : (k : ℕ) → change r k ≢ 1 → faultOf r .cell ≡ k
   changed-cell k d = go (ℕ-discrete (faultOf r .cell) k)
     where
       go : Dec (faultOf r .cell ≡ k) → faultOf r .cell ≡ k
       go (yes e) = e
-      go (no e) = absurd (d (change-other k e))
+      go (no e) = absurd (d (change-other r k e))
 
   -- so two cells that are changed are one
   pub changed-one : (j k : ℕ) → change r j ≢ 1 → change r k ≢ 1 → j ≡ k
@@ -145,21 +147,21 @@ module _ (r : ℕ) (l : r < 25) where
   change-below k = go (ℕ-discrete (faultOf r .cell) k)
     where
       go : Dec (faultOf r .cell ≡ k) → change r k < 5
-      go (yes e) = omega (arith, change-here k e, found-up r l)
-      go (no e) = omega (arith, change-other k e)
+      go (yes e) = omega (arith, change-here r k e, found-up r l)
+      go (no e) = omega (arith, change-other r k e)
 
   -- the change found leaves r
   pub changed-leaves : (k : ℕ) → change r k ≢ 1 → effect k (change r k) ≡ r
   changed-leaves k d =
       let p : faultOf r .cell ≡ k = changed-cell k d in
-      let q : change r k ≡ faultOf r .up = change-here k p in
+      let q : change r k ≡ faultOf r .up = change-here r k p in
       found-leaves r l k (change r k)
       (record { cell = rw (← p) (found-cell r l); low = change-below k; some = d }) p (sym q)
 
   -- a word whose remainder is not 0 is changed in a cell
   pub change-some : r ≢ 0 → (k : ℕ) × (k < 6) × (change r k ≢ 1)
   change-some d =
-      (faultOf r .cell, found-cell r l, λ e. d (found-none r l (sym (change-here (faultOf r .cell) refl) ∙ e)))
+      (faultOf r .cell, found-cell r l, λ e. d (found-none r l (sym (change-here r (faultOf r .cell) refl) ∙ e)))
 
 -- a lawful word is changed in no cell
 pub change-none : (k : ℕ) → change 0 k ≡ 1
@@ -167,14 +169,14 @@ change-none k = go (ℕ-discrete (change 0 k) 1)
   where
     go : Dec (change 0 k ≡ 1) → change 0 k ≡ 1
     go (yes e) = e
-    go (no d) = absurd (d (change-here 0 (lit< tt) k (changed-cell 0 (lit< tt) k d) ∙ none-found 0 (lit< tt) refl))
+    go (no d) = absurd (d (change-here 0 k (changed-cell 0 (lit< tt) k d) ∙ none-found 0 (lit< tt) refl))
 
 -- the change that leaves r is found
 pub leaves-changed : (r k u : ℕ) → IsFault k u → effect k u ≡ r → change r k ≡ u
 leaves-changed r k u is e =
     let l : r < 25 = rw (← e) (effect-below k u) in
     let t : faultOf r ≡ fault k u = leaves-found r l k u is e in
-    change-here r l k (ap (λ (x : Fault). x .cell) t) ∙ ap (λ (x : Fault). x .up) t
+    change-here r k (ap (λ (x : Fault). x .cell) t) ∙ ap (λ (x : Fault). x .up) t
 
 -- the multipliers are below 22
 multiplier-test : allBelow (λ k. ltb (multiplier k) 22) 6 ≡ true

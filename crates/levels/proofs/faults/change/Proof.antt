@@ -13,9 +13,7 @@ fault-in-requires : tie.Need-fault-in-requires
 fault-in-requires c κs = ((omega (arith, c .if1 .left), c .before .pre .0), c .before .pre .1)
 
 returns-2 : tie.Need-returns-2
-returns-2 c =
-    let here = c .before in
-    change-tried _ _ (here .before .pre .0) _ (c .fault-in .ensures .0) (c .fault-in .ensures .1)
+returns-2 c = change-tried _ _ _ (c .fault-in .ensures .0) (c .fault-in .ensures .1)
 
 pub change-spec : {M : Type 1} → statement M
 change-spec = tie.close (tie.spec returns fault-in-requires returns-2)
