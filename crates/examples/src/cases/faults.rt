@@ -16,8 +16,8 @@ const TO_255: usize = 7;
 
 pub(crate) const WAYS: usize = 8;
 
-// Behind these ways the four faults once more, where 0 follows 24. So the word has the remainder of the fault, also where the cell
-// comes from no shade.
+// Behind these ways the four faults once more, where 0 follows 24. So the word has the remainder of the fault, also where the
+// cell comes from no shade.
 pub(crate) const ROUND: usize = WAYS;
 
 // A shade that is changed in a way. But for those that go round it stays where it has none below or none so far above.
