@@ -9,14 +9,14 @@ use crate::keys::{KEY_BYTES, KEYS, LINES, WINDOW_LINES, any_key_at, lines_at, pu
 use lattice::shape::{ShapeNumbers, Window};
 
 // The lines of the window, which may be left out.
-#[derive(Drop)]
+#[derive(Clone, Copy)]
 pub enum WindowLines {
     Absent,
     Given(Window),
 }
 
 // What the first lines say.
-#[derive(Drop)]
+#[derive(Clone, Copy)]
 pub struct Header {
     pub columns: usize,
     pub rows: usize,
@@ -26,14 +26,14 @@ pub struct Header {
 }
 
 // The lines of the window, and where the rest starts.
-#[derive(Drop)]
+#[derive(Clone, Copy)]
 pub enum WindowAnswer {
     Found(WindowLines, usize),
     Fault,
 }
 
 // The header, and where the rest starts.
-#[derive(Drop)]
+#[derive(Clone, Copy)]
 pub enum HeaderAnswer {
     Found(Header, usize),
     Fault,

@@ -24,7 +24,7 @@ const TEXT: [u8; KEY_BYTES] = *b"columns=rows=planes=strength=window_rows=window
 const STARTS: [usize; KEYS + 1] = [0, 8, 13, 20, 29, 41, KEY_BYTES];
 
 // At most four lines: whether they are well formed, their numbers, and where the next line starts.
-#[derive(Drop)]
+#[derive(Clone, Copy)]
 pub struct Lines {
     pub found: bool,
     pub numbers: [usize; LINES],

@@ -6,7 +6,7 @@ use crate::scan::{byte_at, key_at};
 use lattice::range::within;
 
 // A line key=number: the number, and where the next line starts.
-#[derive(Drop)]
+#[derive(Clone, Copy)]
 pub enum Line {
     Number(usize, usize),
     Fault,

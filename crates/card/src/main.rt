@@ -1,4 +1,6 @@
 // The card program: reads a card text from standard input and writes the answer to standard output.
+#![tactic(auto)]
+
 mod body;
 mod header;
 mod keys;

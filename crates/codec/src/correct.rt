@@ -21,7 +21,7 @@ use lattice::shape::Shape;
 use passes::cell_places::NO_CELL;
 
 // The number of cells changed, or the refusal 1, 2, 11, 4, 5, 10, 6 or 7.
-#[derive(Drop)]
+#[derive(Clone, Copy)]
 pub enum CorrectAnswer {
     Corrected(usize),
     Refused(Refusal),

@@ -22,7 +22,7 @@ use passes::cell_places::NO_CELL;
 use passes::check_cells::{MAX_CHECKS, check_cells};
 
 // The number of cells changed, or the refusal 1, 2, 11, 3, 4, 5, 10, 6 or 7.
-#[derive(Drop)]
+#[derive(Clone, Copy)]
 pub enum DecodeAnswer {
     Decoded(usize),
     Refused(Refusal),

@@ -19,7 +19,7 @@ use lattice::shape::Shape;
 use passes::check_cells::{MAX_CHECKS, check_cells};
 
 // Done, or the refusal 1, 2, 11, 3 or 4.
-#[derive(Drop)]
+#[derive(Clone, Copy)]
 pub enum EncodeAnswer {
     Encoded,
     Refused(Refusal),

@@ -23,7 +23,7 @@ use passes::cell_places::NO_CELL;
 use passes::place::place_back;
 
 // What the examination of a field gives: the number of its erased cells, or a refusal.
-#[derive(Drop)]
+#[derive(Clone, Copy)]
 pub(crate) enum Examination {
     Passed(usize),
     Refused(Refusal),

@@ -1,4 +1,6 @@
 // Coding: the plan of a field, and encoding, decoding and correcting it.
+#![tactic(auto)]
+
 pub mod cell;
 pub mod correct;
 mod damage;

@@ -12,7 +12,7 @@ pub(crate) fn payload_bit(payload: &[u8], k: usize) -> u8
 }
 
 // A padding: 1, 0, 1, 0 and on, which is written, or the zeros that were written before.
-#[derive(Drop)]
+#[derive(Clone, Copy)]
 pub(crate) enum Padding {
     Pattern,
     Zeros,

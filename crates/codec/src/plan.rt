@@ -8,7 +8,7 @@ use lattice::shape::Shape;
 
 // The classes m, the capacity K, the payload's bytes, the cells, how many of the classes hold at least one cell, and the digits
 // of a field of levels.
-#[derive(Drop)]
+#[derive(Clone, Copy)]
 pub struct FieldPlan {
     pub classes: usize,
     pub capacity: usize,
@@ -19,7 +19,7 @@ pub struct FieldPlan {
 }
 
 // The plan, or the refusal 1, 2 or 11.
-#[derive(Drop)]
+#[derive(Clone, Copy)]
 pub enum PlanAnswer {
     Planned(FieldPlan),
     Refused(Refusal),

@@ -1,4 +1,6 @@
 // Runs worked examples of documents 01 and 02, and compares the library with a second implementation.
+#![tactic(auto)]
+
 mod cases;
 mod given;
 mod print;

@@ -13,14 +13,14 @@ use crate::shape::Shape;
 
 // How the cells of a field are placed in classes: what a pass over the cells is handed, to find the class of each. The rows have
 // so many slices of classes by turns, and the settings place the cells in the classes of a slice.
-#[derive(Drop)]
+#[derive(Clone, Copy)]
 pub struct Placement {
     pub slices: u32,
     pub settings: Settings,
 }
 
 // The class, or the refusal 1, 2, 11 or 4.
-#[derive(Drop)]
+#[derive(Clone, Copy)]
 pub enum CellClass {
     Class(usize),
     Refused(Refusal),

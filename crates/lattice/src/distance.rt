@@ -14,7 +14,7 @@ pub const MAX_TEST_STRENGTH: usize = 18;
 pub const MAX_TEST_CLASSES: usize = 4096;
 
 // A difference of two cells.
-#[derive(Drop)]
+#[derive(Clone, Copy)]
 pub struct Triple {
     pub row: i32,
     pub plane: i32,
@@ -23,7 +23,7 @@ pub struct Triple {
 
 // What trying the triples of the order finds: no triple fails, and so many were tried; or one fails, the last of so many; or the
 // refusal 2 or 9.
-#[derive(Drop)]
+#[derive(Clone, Copy)]
 pub enum DistanceTest {
     Holds(u32),
     Fails(Triple, u32),

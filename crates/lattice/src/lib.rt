@@ -1,4 +1,6 @@
 // Placing: the shape of a field, the interleaving class of a cell, the capacity, and the distance test.
+#![tactic(auto)]
+
 mod by_lines;
 pub mod capacity;
 pub mod class;

@@ -12,7 +12,7 @@ use crate::shape::Shape;
 // What a pass over the cells needs of a shape, weighed once: columns, lines, cells and classes; the slices, and the period of the
 // table of classes; the steps back in the table to the next row, and from a plane's last row to the next plane; and the number of
 // a plane's last row.
-#[derive(Drop)]
+#[derive(Clone, Copy)]
 pub struct Pass {
     pub columns: usize,
     pub lines: usize,
@@ -26,7 +26,7 @@ pub struct Pass {
 }
 
 // A line: the rows behind it in its plane, and where it begins in the table.
-#[derive(Drop)]
+#[derive(Clone, Copy)]
 pub struct Line {
     pub left: usize,
     pub start: usize,

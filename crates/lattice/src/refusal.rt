@@ -3,7 +3,7 @@ ghost use Rattle.std.specs.Prelude.{◌≡◌};
 ghost use Rattle.lattice.specs.Refusal.{refusal_number};
 
 // A case for each reason. A field whose length is wrong and a cell outside the shape are two reasons with the number 4.
-#[derive(Drop)]
+#[derive(Clone, Copy)]
 pub enum Refusal {
     BadSize,
     BadStrength,
@@ -44,7 +44,7 @@ impl Refusal {
 }
 
 // What tests give: they pass, or one of them refuses.
-#[derive(Drop)]
+#[derive(Clone, Copy)]
 pub enum Tested {
     Passed,
     Refused(Refusal),

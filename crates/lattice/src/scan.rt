@@ -9,7 +9,7 @@ use crate::integers::{minus, remaining, scaled, shifted};
 use crate::settings::Settings;
 
 // What trying a list of triples finds.
-#[derive(Drop)]
+#[derive(Clone, Copy)]
 pub(crate) struct Found {
     pub found: bool,
     pub triple: Triple,

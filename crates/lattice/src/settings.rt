@@ -6,7 +6,7 @@ ghost use Rattle.lattice.specs.Shape.{Accepted};
 use crate::shape::Shape;
 
 // m classes; b goes with the row and c with the plane.
-#[derive(Drop)]
+#[derive(Clone, Copy)]
 pub struct Settings {
     pub m: u16,
     pub b: u16,

@@ -10,14 +10,14 @@ use crate::refusal::{Refusal, Tested};
 
 // A window of p rows by q columns; both are 0 where a shape has none.
 #[repr(C)]
-#[derive(Drop)]
+#[derive(Clone, Copy)]
 pub struct Window {
     pub rows: usize,
     pub columns: usize,
 }
 
 // W columns, H rows and D planes of cells, and the strength t; at strength 0 the window says how the cells are placed.
-#[derive(Drop)]
+#[derive(Clone, Copy)]
 pub struct Shape {
     pub columns: u16,
     pub rows: u16,
@@ -28,7 +28,7 @@ pub struct Shape {
 
 // The numbers of a shape as a caller hands them over, of any size.
 #[repr(C)]
-#[derive(Drop)]
+#[derive(Clone, Copy)]
 pub struct ShapeNumbers {
     pub columns: usize,
     pub rows: usize,
@@ -38,7 +38,7 @@ pub struct ShapeNumbers {
 }
 
 // What the constructor gives: the shape, or the refusal 1, 2 or 11.
-#[derive(Drop)]
+#[derive(Clone, Copy)]
 pub enum NewShape {
     Accepted(Shape),
     Refused(Refusal),
@@ -155,14 +155,10 @@ impl Shape {
     // The shape of these numbers, or the refusal 1, 2 or 11.
     pub fn new(numbers: ShapeNumbers) -> NewShape
         ensures new_shape { IsNewShape numbers result }
-        ensures* limits { do
-          ⌜ ((← (⟦Shape::MAX_SIDE⟧).entry) ≡ max_side)
-              × ((← (⟦Shape::MAX_PLANES⟧).entry) ≡ max_planes)
-              × ((← (⟦Shape::MAX_CELLS⟧).entry) ≡ max_cells) ⌝ }
-        ensures* strengths { do
-          ⌜ ((← (⟦Shape::MAX_FLAT_STRENGTH⟧).entry) ≡ max_flat_strength)
-              × ((← (⟦Shape::MAX_STACK_STRENGTH⟧).entry) ≡ max_stack_strength)
-              × ((← (⟦Shape::MAX_CLASSES⟧).entry) ≡ max_classes) ⌝ }
+        ensures limits { (Self.MAX_SIDE ≡ max_side) × (Self.MAX_PLANES ≡ max_planes) × (Self.MAX_CELLS ≡ max_cells) }
+        ensures strengths { (Self.MAX_FLAT_STRENGTH ≡ max_flat_strength)
+            × (Self.MAX_STACK_STRENGTH ≡ max_stack_strength)
+            × (Self.MAX_CLASSES ≡ max_classes) }
     {
         let tested = Shape::tests_of(numbers);
         if let Tested::Refused(why) = tested {

@@ -4,7 +4,7 @@ ghost use Rattle.levels.specs.Faults.{multiplier, fault_of, none, change};
 ghost use Rattle.levels.specs.Working.{only_change};
 
 // A cell of a word, from 0, and its change with 1 added: 0 for −1, and 2, 3, 4 for +1, +2, +3; 1 is no change.
-#[derive(Drop)]
+#[derive(Clone, Copy)]
 pub(crate) struct Fault {
     pub cell: u8,
     pub up: u8,

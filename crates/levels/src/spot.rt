@@ -10,7 +10,7 @@ use lattice::line::Pass;
 use lattice::shape::Shape;
 
 // The number of the word, and the place in it from 0; a cell that is ignored is not inside.
-#[derive(Drop)]
+#[derive(Clone, Copy)]
 pub(crate) struct Spot {
     pub inside: bool,
     pub word: usize,

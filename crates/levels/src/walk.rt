@@ -8,7 +8,7 @@ ghost use Rattle.levels.specs.Working.{AtWalk};
 use lattice::line::{Line, Pass, next_line, next_place};
 
 // A cell: the cells of its line from it on, its place in the table, the slice of its line, and its line.
-#[derive(Drop)]
+#[derive(Clone, Copy)]
 pub(crate) struct Walk {
     pub left: usize,
     pub place: usize,

@@ -62,7 +62,7 @@ fn greater(x: u32, y: u32) -> u32
 }
 
 // The least and the most of some entries.
-#[derive(Drop)]
+#[derive(Clone, Copy)]
 struct Extremes {
     pub low: u32,
     pub high: u32,
@@ -239,7 +239,7 @@ fn list_line(
 }
 
 // How far the list has come: its length, and for how many lines ahead no class reaches a power of two.
-#[derive(Drop)]
+#[derive(Clone, Copy)]
 struct Progress {
     pub amount: usize,
     pub free: u32,

@@ -7,7 +7,7 @@ use lattice::class::{Placement, class_at};
 use lattice::shape::Shape;
 
 // The class of a cell and its position there, from 1.
-#[derive(Drop)]
+#[derive(Clone, Copy)]
 pub struct Place {
     pub class: usize,
     pub position: u32,

@@ -14,7 +14,7 @@ pub type Buffer = [u8; CELLS];
 
 // The figures that an operation does not have are 0, and so is every figure on each number above 0. An operation that is lent
 // no buffer to change has zeros for it.
-#[derive(Drop)]
+#[derive(Clone, Copy)]
 pub struct Answer {
     pub number: usize,
     pub figures: Figures,

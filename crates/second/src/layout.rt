@@ -44,7 +44,7 @@ fn entry(sizes: &mut [u32; CLASSES], a: usize) -> u16
 
 // The layout of the first cells of an accepted shape, its capacity: how many of its cells hold no check, and its words: how many
 // of its cells are the sixth, the twelfth and so on of their class.
-#[derive(Drop)]
+#[derive(Clone, Copy)]
 pub(crate) struct Laid {
     pub(crate) layout: Layout,
     pub(crate) capacity: usize,

@@ -1,5 +1,7 @@
 // The second implementation: plan, class, write, read, mend and gauge, and the shaded write, read and mend, written
 // from the papers alone and naively, by search.
+#![tactic(auto)]
+
 pub mod answer;
 pub mod gauge;
 mod lawful;

@@ -5,7 +5,7 @@ use crate::window;
 use lattice::shape::Shape;
 
 // A cell is of class (column − b × row − c × plane) mod m. At strength 0 a window of m cells rules, and b and c say nothing.
-#[derive(Drop)]
+#[derive(Clone, Copy)]
 pub(crate) struct Settings {
     pub(crate) m: u16,
     pub(crate) b: u16,

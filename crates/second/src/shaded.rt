@@ -98,7 +98,7 @@ pub fn shaded_write(
 }
 
 // Whether a word is in reach of a lawful one, and that one.
-#[derive(Drop)]
+#[derive(Clone, Copy)]
 struct Found {
     in_reach: bool,
     word: Word,

@@ -1,5 +1,7 @@
 // The C interface: each operation on the numbers of a shape, of any size, and lent buffers. `include/varmintfoil.h` declares it
 // for C.
+#![tactic(auto)]
+
 ghost use Rattle.std.specs.Prelude.{◌≡◌};
 ghost use Rattle.lattice.specs.Cell.{cell};
 ghost use Rattle.lattice.specs.Shape.{shape_from};
@@ -17,7 +19,7 @@ use lattice::distance::distance_test;
 use lattice::shape::ShapeNumbers;
 
 #[repr(C)]
-#[derive(Drop)]
+#[derive(Clone, Copy)]
 pub struct PlanResult {
     pub number: usize,
     pub classes: usize,
@@ -29,21 +31,21 @@ pub struct PlanResult {
 }
 
 #[repr(C)]
-#[derive(Drop)]
+#[derive(Clone, Copy)]
 pub struct ClassResult {
     pub number: usize,
     pub class_index: usize,
 }
 
 #[repr(C)]
-#[derive(Drop)]
+#[derive(Clone, Copy)]
 pub struct CountResult {
     pub number: usize,
     pub count: usize,
 }
 
 #[repr(C)]
-#[derive(Drop)]
+#[derive(Clone, Copy)]
 pub struct DistanceResult {
     pub number: usize,
     pub holds: usize,

@@ -23,7 +23,7 @@ pub(crate) fn ruled(columns: u16, rows: u16, p: usize, q: usize) -> Shape {
     with_window(shape_of(columns, rows, 1, 0), p, q)
 }
 
-#[derive(Drop)]
+#[derive(Clone, Copy)]
 struct Sides {
     p: u16,
     q: u16,

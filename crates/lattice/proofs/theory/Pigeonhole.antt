@@ -20,17 +20,20 @@ use Rattle.lattice.proofs.theory.Tabulated.{tabulate, tabulate_length, tabulate_
 
 -- the list without one entry
 without : {A : Type 0} {c : A} (l : List A) → Memᴰ c l → List A
+without [] m = elim m [ ]
 without (a ∷ l) (Memᴰ.head e) = l
 without (a ∷ l) (Memᴰ.tail m) = a ∷ without l m
 
 without_length : {A : Type 0} {c : A} (l : List A) (m : Memᴰ c l) → length l ≡ suc (length (without l m))
 unfolding without
+without_length [] m = elim m [ ]
 without_length (a ∷ l) (Memᴰ.head e) = refl
 without_length (a ∷ l) (Memᴰ.tail m) = ap suc (without_length l m)
 
 -- what is left has every other entry
 without_has : {A : Type 0} {c b : A} (l : List A) (m : Memᴰ c l) → Memᴰ b l → c ≢ b → Memᴰ b (without l m)
 unfolding without
+without_has [] m k h = elim m [ ]
 without_has {c = c} {b = b} (a ∷ l) (Memᴰ.head e) k h =
     ⊎_elim (λ (q : b ≡ a). absurd (h (e ∙ sym q))) (λ (r : Memᴰ b l). r) (Memᴰ.cases_cons k)
 without_has {c = c} {b = b} (a ∷ l) (Memᴰ.tail m) k h =

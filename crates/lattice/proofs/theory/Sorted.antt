@@ -10,6 +10,7 @@ use lib.ListN.{length, get_or}
 module _ {A : Type 0} where
   -- each member has a place, and what stands at a place is a member
   pub place : (d x : A) (xs : List A) → Memᴰ x xs → (k : ℕ) × (k < length xs) × (get_or xs k d ≡ x)
+  place d x [] m = elim m [ ]
   place d x (y ∷ xs) (Memᴰ.head e) = (0, omega arith, sym e)
   place d x (y ∷ xs) (Memᴰ.tail m) =
       let p = place d x xs m in

@@ -20,11 +20,11 @@ use Rattle.lattice.proofs.theory.Answers.{unless_zero, beside_other, refused, do
 use Rattle.lattice.proofs.theory.ScanMeaning.{missed}
 
 -- a range check's flag, negated, says whether the strength is in range
-pub strength_refused : (t : ℕ) (b : Bool) → b ≡ in_range 1 max_test_strength t → not b ≡ true → test_strength_ok t ≡ false
+pub strength_refused : (t : ℕ) (b : Bool) → b ≡ in_range 1 max_test_strength t → b ≡ false → test_strength_ok t ≡ false
 unfolding test_strength_ok
 strength_refused t b e h = failed b (in_range 1 max_test_strength t) h e
 
-pub strength_accepted : (t : ℕ) (b : Bool) → b ≡ in_range 1 max_test_strength t → not b ≡ false → test_strength_ok t ≡ true
+pub strength_accepted : (t : ℕ) (b : Bool) → b ≡ in_range 1 max_test_strength t → b ≡ true → test_strength_ok t ≡ true
 unfolding test_strength_ok
 strength_accepted t b e h = passed b (in_range 1 max_test_strength t) h e
 

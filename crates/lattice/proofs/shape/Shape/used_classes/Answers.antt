@@ -1,0 +1,13 @@
+-- `Shape::used_classes` meets its contract.
+use mathlib.Core.Path.{◌∙◌}
+use Rattle.lattice.proofs.theory.CapacityGiven.{classes_given}
+use Rattle.lattice.proofs.theory.UsedClasses.{used_given}
+use Rattle.lattice.proofs.shape.Shape.used_classes.Goals as goal
+
+pub returns : goal.returns
+returns c =
+    let class_sizes = c.class_sizes in
+    let s = c.args.self in
+    c.used_in.ensures (rw c.classes.ensures (classes_given s))
+    ∙ used_given s class_sizes.new.sizes _ class_sizes.ensures.holds_sizes
+    c.classes.ensures
