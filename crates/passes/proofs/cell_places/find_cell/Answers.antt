@@ -1,0 +1,151 @@
+-- `find_cell` meets its contract. The loop's invariant: line l is next in the search, and the lines before it do not reach the
+-- position.
+use Prim.Native.Nat.{◌+◌, ◌-◌, ◌*◌, ◌/◌, ◌<◌, ◌≤◌}
+use mathlib.Core.Logic.{inr}
+use mathlib.Core.Path.{◌≡◌}
+use native.Mathlib.Nat.{div-le_self}
+use native.Mathlib.Omega.{arith}
+use Rattle.lattice.specs.declared.shape.Shape.{Shape}
+use Rattle.lattice.specs.Shape.{max_side, max_cells, max_classes, Accepted}
+use Rattle.lattice.specs.Class.{layout_of}
+use Rattle.lattice.specs.Lines.{pass_of}
+use Rattle.passes.proofs.cell_places.Search.{SearchedLine, search_first, search_line}
+use Rattle.passes.proofs.cell_places.Given.{given_cell, given_none}
+use Rattle.lattice.proofs.theory.PassRoom.{pass_narrow}
+use Rattle.lattice.proofs.theory.SizesByLines.{lines_are, slices_least, slices_most, period_least, lines_most_lem}
+use Rattle.passes.proofs.cell_places.find_cell.Goals.{After-raised-here, Start, Then-position-before}
+use Rattle.passes.proofs.cell_places.find_cell.Goals as goal
+
+-- the entry and the head of a turn
+abbrev entry : tie.After-raised invariant-loop decreases-loop → tie.Start invariant-loop decreases-loop
+entry c = c.before.before.before.before.before.before.before
+
+abbrev head : tie.After-raised invariant-loop decreases-loop → tie.At-loop invariant-loop decreases-loop
+head c = c.before.before.before.before
+
+-- what the turn's line gives, for a shape of the pass
+abbrev Turn : tie.After-raised invariant-loop decreases-loop → Shape → Type 0
+Turn c s =
+    let at = (head c).loop in
+    SearchedLine s (entry c).args.pass (entry c).args.class at.l at.before c.before.next_start.result
+    c.raised.result
+
+turn : (c : After-raised-here) (s : Shape) → Accepted s → (entry c).args.pass ≡ pass_of s → Turn c s
+turn c s accepted same =
+    search_line s accepted _ same _ _ _ _ _ _ ((head c).loop.invariant.1 s accepted same) c.loop-l-test.true
+    c.next_start-x.ensures c.raised-here.ensures
+
+-- and for the shape that is there
+own : (c : After-raised-here) → Turn c (entry c).requires.0.shape
+own c = turn c _ (entry c).requires.0.accepted (entry c).requires.0.same
+
+-- the cell that is found
+cell : (c : Then-position-before)
+    → (head c«After-raised-here»).loop.l * (entry c«After-raised-here»).args.pass.columns + c.next_start-x.result
+    + ((entry c«After-raised-here»).args.position - (head c«After-raised-here»).loop.before - 1) * (entry c«After-raised-here»).args.pass.period
+    < max_cells
+cell c = (turn c _ (entry c).requires.0.accepted (entry c).requires.0.same).small _ (head c«After-raised-here»).loop.inv.0 c.if-position-before.true
+
+-- there is a class in a slice
+some : (e : Start) → 0 < e.args.pass.period
+some e = let p = e.requires.0 in period_least p.shape p.accepted _ p.same
+
+-- the whole rounds of the table in a line
+rounds : (e : Start) → e.args.pass.columns / e.args.pass.period ≤ max_side
+rounds e =
+    let p = e.requires.0 in
+    omega (
+      arith,
+      div-le_self e.args.pass.columns e.args.pass.period,
+      pass_narrow p.shape p.accepted _ p.same,
+    )
+
+pub nonzero_rem-y : goal.nonzero_rem-y
+nonzero_rem-y c = omega (arith, some c)
+
+pub nonzero_div-whole : goal.nonzero_div-whole
+nonzero_div-whole c = omega (arith, some (goal.at.nonzero_div-whole c).Start)
+
+pub overflow_cast-whole : goal.overflow_cast-whole
+overflow_cast-whole c = omega (arith, rounds (goal.at.overflow_cast-whole c).Start)
+
+pub nonzero_rem-rest : goal.nonzero_rem-rest
+nonzero_rem-rest c = omega (arith, some (goal.at.nonzero_rem-rest c).Start)
+
+pub nonzero_div-l : goal.nonzero_div-l
+nonzero_div-l c = omega (arith, some (goal.at.nonzero_div-l c).Start)
+
+pub loop-l-init : goal.loop-l-init
+loop-l-init c =
+    (omega arith, λ s accepted same. search_first s accepted _ same _ c.requires.1)
+
+pub raised-here-requires : goal.raised-here-requires
+raised-here-requires c = omega (arith, rounds (goal.at.raised-here-requires c).Start)
+
+pub overflow_cast-here : goal.overflow_cast-here
+overflow_cast-here c = omega arith
+
+pub overflow_add-before : goal.overflow_add-before
+overflow_add-before c = omega (arith, (own c).least, (own c).inside)
+
+pub overflow_mul-result : goal.overflow_mul-result
+overflow_mul-result c = omega (arith, cell (goal.at.overflow_mul-result c).Then-position-before)
+
+pub overflow_add-result : goal.overflow_add-result
+overflow_add-result c = omega (arith, cell (goal.at.overflow_add-result c).Then-position-before)
+
+pub overflow_sub-result : goal.overflow_sub-result
+overflow_sub-result c = omega arith
+
+pub overflow_sub-result-then-position-before : goal.overflow_sub-result-then-position-before
+overflow_sub-result-then-position-before c = omega arith
+
+pub overflow_mul-result-then-position-before : goal.overflow_mul-result-then-position-before
+overflow_mul-result-then-position-before c = omega (arith, cell (goal.at.overflow_mul-result-then-position-before c).Then-position-before)
+
+pub overflow_add-result-then-position-before : goal.overflow_add-result-then-position-before
+overflow_add-result-then-position-before c = omega (arith, cell (goal.at.overflow_add-result-then-position-before c).Then-position-before)
+
+pub overflow_cast-result : goal.overflow_cast-result
+overflow_cast-result c = omega (arith, cell (goal.at.overflow_cast-result c).Then-position-before)
+
+pub returns-then-position-before : goal.returns-then-position-before
+returns-then-position-before c =
+    λ s accepted same.
+    given_cell (layout_of s) _ _ _ (entry (goal.at.returns-then-position-before c).After-raised-here).requires.2
+    ((turn (goal.at.returns-then-position-before c).After-raised-here s accepted same).found _ (head (goal.at.returns-then-position-before c).After-raised-here).loop.invariant.0 c.if-position-before.true)
+
+pub overflow_add-before-in-loop-l : goal.overflow_add-before-in-loop-l
+overflow_add-before-in-loop-l c = omega (arith, (own (goal.at.overflow_add-before-in-loop-l c).After-raised-here).least, (own (goal.at.overflow_add-before-in-loop-l c).After-raised-here).inside)
+
+-- the step from line to line
+stride : (e : Start)
+    → (0 < e.args.pass.slices) × (e.args.pass.slices ≤ max_classes) × (e.args.pass.lines ≤ max_cells)
+stride e =
+    let p = e.requires.0 in (
+      slices_least p.shape p.accepted _ p.same,
+      slices_most p.shape p.accepted _ p.same,
+      lines_most_lem p.shape p.accepted _ p.same,
+    )
+
+pub overflow_add-l : goal.overflow_add-l
+overflow_add-l c = let few = stride (entry (goal.at.overflow_add-l c).After-raised-here) in omega (arith, few.1, few.2)
+
+pub loop-l-smaller : goal.loop-l-smaller
+loop-l-smaller c = omega (arith, (stride (entry (goal.at.loop-l-smaller c).After-raised-here)).0)
+
+pub loop-l-preserved : goal.loop-l-preserved
+loop-l-preserved c =
+    (
+      omega arith,
+      λ s accepted same.
+          let is = ((head (goal.at.loop-l-preserved c).After-raised-here).loop.invariant.1 s accepted same).line in
+          (turn (goal.at.loop-l-preserved c).After-raised-here s accepted same).next _ (c.next_line-line.ensures s accepted same _ is),
+    )
+
+pub returns : goal.returns
+returns c =
+    let turn = c.loop-l in
+    λ s accepted same.
+    let whole = (turn.invariant.1 s accepted same).over (omega (arith, lines_are s accepted _ same)) in
+    given_none (layout_of s) _ _ (inr (omega (arith, whole)))

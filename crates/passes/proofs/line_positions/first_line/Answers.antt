@@ -1,0 +1,18 @@
+-- `first_line` meets its contract.
+use Rattle.lattice.proofs.theory.PassRoom.{refuted, filled_line, filled_ready}
+use Rattle.passes.proofs.line_positions.first_line.Goals as goal
+
+pub fill_lists-requires : goal.fill_lists-requires
+fill_lists-requires c = c.has_room.ensures.small c.if-has_room.true
+
+pub returns-then-has_room : goal.returns-then-has_room
+returns-then-has_room c =
+    let filled = c.fill_lists in
+    λ s a same room. (
+      filled_line s a _ same _ _ _ room filled.new.e filled.auto.1.0 filled.ensures.positions,
+      filled_ready s a _ same _ _ _ room filled.new.p filled.new.q filled.auto.1.1.0
+          filled.auto.1.1.1.0 filled.ensures.gains filled.ensures.gains_2,
+    )
+
+pub returns-else-has_room : goal.returns-else-has_room
+returns-else-has_room c = λ s a same room. absurd (refuted c.if-has_room.false (c.has_room.ensures.value s a same room))
