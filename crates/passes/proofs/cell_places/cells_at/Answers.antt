@@ -1,4 +1,5 @@
 -- `cells_at` meets its contract.
+use native.Mathlib.Omega.{arith}
 use mathlib.Core.Path.{◌≡◌, refl, ◌∙◌}
 use native.Mathlib.Nat.{le_refl}
 use Rattle.lattice.specs.Shape.{Accepted}
@@ -26,8 +27,8 @@ returns-in-Refused c =
 pub place_all-requires : goal.place_all-requires
 place_all-requires c = (
   record { shape = _; accepted = accepted (goal.at.place_all-requires c).In_default; same = own (goal.at.place_all-requires c).After-pass },
-  rw c.place_all-arg-1.given.0 (le_refl _),
-  rw c.place_all-arg-2-1.given.0.1 (le_refl _),
+  omega arith,
+  omega arith,
 )
 
 pub returns : goal.returns

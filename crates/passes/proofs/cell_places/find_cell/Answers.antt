@@ -16,35 +16,32 @@ use Rattle.lattice.proofs.theory.SizesByLines.{lines_are, slices_least, slices_m
 use Rattle.passes.proofs.cell_places.find_cell.Goals.{After-raised-here, Start, Then-position-before}
 use Rattle.passes.proofs.cell_places.find_cell.Goals as goal
 
--- the entry and the head of a turn
-abbrev entry : tie.After-raised invariant-loop decreases-loop → tie.Start invariant-loop decreases-loop
-entry c = c.before.before.before.before.before.before.before
-
-abbrev head : tie.After-raised invariant-loop decreases-loop → tie.At-loop invariant-loop decreases-loop
-head c = c.before.before.before.before
-
 -- what the turn's line gives, for a shape of the pass
-abbrev Turn : tie.After-raised invariant-loop decreases-loop → Shape → Type 0
+abbrev Turn : (c : After-raised-here) → Shape → Type 0
 Turn c s =
-    let at = (head c).loop in
-    SearchedLine s (entry c).args.pass (entry c).args.class at.l at.before c.before.next_start.result
-    c.raised.result
+    let at = c.loop-l in
+    SearchedLine s c.args.pass c.args.class at.l at.before c.next_start-x.result
+    c.raised-here.result
 
-turn : (c : After-raised-here) (s : Shape) → Accepted s → (entry c).args.pass ≡ pass_of s → Turn c s
+turn : (c : After-raised-here) (s : Shape) → Accepted s → c.args.pass ≡ pass_of s → Turn c s
 turn c s accepted same =
-    search_line s accepted _ same _ _ _ _ _ _ ((head c).loop.invariant.1 s accepted same) c.loop-l-test.true
+    search_line s accepted _ same _ _ _ _ _ _ (c.loop-l.invariant.1 s accepted same) c.loop-l-test.true
     c.next_start-x.ensures c.raised-here.ensures
 
 -- and for the shape that is there
-own : (c : After-raised-here) → Turn c (entry c).requires.0.shape
-own c = turn c _ (entry c).requires.0.accepted (entry c).requires.0.same
+own : (c : After-raised-here) → Turn c c.requires.0.shape
+own c = turn c _ c.requires.0.accepted c.requires.0.same
 
 -- the cell that is found
 cell : (c : Then-position-before)
-    → (head c«After-raised-here»).loop.l * (entry c«After-raised-here»).args.pass.columns + c.next_start-x.result
-    + ((entry c«After-raised-here»).args.position - (head c«After-raised-here»).loop.before - 1) * (entry c«After-raised-here»).args.pass.period
+    → c.loop-l.l * c.args.pass.columns + c.next_start-x.result
+    + (c.args.position - c.loop-l.before - 1) * c.args.pass.period
     < max_cells
-cell c = (turn c _ (entry c).requires.0.accepted (entry c).requires.0.same).small _ (head c«After-raised-here»).loop.inv.0 c.if-position-before.true
+cell c =
+    let p = c.requires.0 in
+    let line = search_line p.shape p.accepted _ p.same _ _ _ _ _ _ (c.loop-l.invariant.1 _ p.accepted p.same) c.loop-l-test.true
+    c.next_start-x.ensures c.raised-here.ensures in
+    line.small _ c.loop-l.invariant.0 c.if-position-before.true
 
 -- there is a class in a slice
 some : (e : Start) → 0 < e.args.pass.period
@@ -112,8 +109,8 @@ overflow_cast-result c = omega (arith, cell (goal.at.overflow_cast-result c).The
 pub returns-then-position-before : goal.returns-then-position-before
 returns-then-position-before c =
     λ s accepted same.
-    given_cell (layout_of s) _ _ _ (entry (goal.at.returns-then-position-before c).After-raised-here).requires.2
-    ((turn (goal.at.returns-then-position-before c).After-raised-here s accepted same).found _ (head (goal.at.returns-then-position-before c).After-raised-here).loop.invariant.0 c.if-position-before.true)
+    given_cell (layout_of s) _ _ _ c.requires.2
+    ((turn (goal.at.returns-then-position-before c).After-raised-here s accepted same).found _ c.loop-l.invariant.0 c.if-position-before.true)
 
 pub overflow_add-before-in-loop-l : goal.overflow_add-before-in-loop-l
 overflow_add-before-in-loop-l c = omega (arith, (own (goal.at.overflow_add-before-in-loop-l c).After-raised-here).least, (own (goal.at.overflow_add-before-in-loop-l c).After-raised-here).inside)
@@ -129,19 +126,18 @@ stride e =
     )
 
 pub overflow_add-l : goal.overflow_add-l
-overflow_add-l c = let few = stride (entry (goal.at.overflow_add-l c).After-raised-here) in omega (arith, few.1, few.2)
+overflow_add-l c = let few = stride (goal.at.overflow_add-l c).Start in omega (arith, few.1, few.2)
 
 pub loop-l-smaller : goal.loop-l-smaller
-loop-l-smaller c = omega (arith, (stride (entry (goal.at.loop-l-smaller c).After-raised-here)).0)
+loop-l-smaller c = omega (arith, (stride (goal.at.loop-l-smaller c).Start).0)
 
 pub loop-l-preserved : goal.loop-l-preserved
-loop-l-preserved c =
-    (
-      omega arith,
-      λ s accepted same.
-          let is = ((head (goal.at.loop-l-preserved c).After-raised-here).loop.invariant.1 s accepted same).line in
-          (turn (goal.at.loop-l-preserved c).After-raised-here s accepted same).next _ (c.next_line-line.ensures s accepted same _ is),
-    )
+loop-l-preserved c = (
+  omega arith,
+  λ s accepted same.
+      let is = (c.loop-l.invariant.1 s accepted same).line in
+      (turn (goal.at.loop-l-preserved c).After-raised-here s accepted same).next _ (c.next_line-line.ensures s accepted same _ is),
+)
 
 pub returns : goal.returns
 returns c =

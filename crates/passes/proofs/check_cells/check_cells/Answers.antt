@@ -41,7 +41,7 @@ list_lines-requires c =
     let filled = c.fill_gains in
     record {
       of_shape = (record { shape = _; accepted = ok; same = same }, zeros_at max_classes);
-      period_in_bounds = (omega (arith, period_most _ ok _ same, filled.auto.0), filled.ensures);
+      period_in_bounds = (omega (arith, period_most _ ok _ same, filled.auto.gained), filled.ensures);
     }
 
 pub returns : goal.returns

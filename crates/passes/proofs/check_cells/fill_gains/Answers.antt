@@ -23,4 +23,4 @@ pub returns : goal.returns
 returns c =
     let long = part (goal.at.returns c).Start in
     let filled = c.gains in
-    gains_front _ _ _ _ filled.new.p _ (omega (arith, long, filled.auto.0)) (omega (arith, long)) filled.ensures
+    gains_front _ _ _ _ filled.new.p _ (omega (arith, long, filled.auto.p)) (omega (arith, long)) filled.ensures

@@ -27,41 +27,38 @@ slice e =
 
 -- the cell of a turn, its place in the table, its class and the count of that class
 module _ (c : In-loop-x) where
-  abbrev start : tie.Start invariant-loop decreases-loop
-  start = c«Start»
-
   abbrev first : ℕ
   first = c.first_class-first.result
 
-  first_is : first ≡ start.args.l % start.args.pass.slices * start.args.pass.period
+  first_is : first ≡ c.args.l % c.args.pass.slices * c.args.pass.period
   first_is = c.first_class-first.ensures
 
-  inside : start.args.l * start.args.pass.columns + c.loop-x.x < max_cells
+  inside : c.args.l * c.args.pass.columns + c.loop-x.x < max_cells
   inside =
-      let p = start.pre.0.0 in
-      omega (arith, line_within p.shape p.accepted _ p.same start.args.l start.pre.0.1)
+      let p = c.requires.of_shape.0 in
+      omega (arith, line_within p.shape p.accepted _ p.same c.args.l c.requires.of_shape.1)
 
-  below : c.loop-x.a < start.args.pass.period
+  below : c.loop-x.a < c.args.pass.period
   below =
-      let p = start.pre.0.0 in
+      let p = c.requires.of_shape.0 in
       let turn = c.loop-x in
       let low = period_least p.shape p.accepted _ p.same in
-      omega (arith, turn.invariant.1, mod-lt (start.args.line.start + turn.x) low)
+      omega (arith, turn.invariant.1, mod-lt (c.args.line.start + turn.x) low)
 
   abbrev class : ℕ
   class = first + c.loop-x.a
 
   count : get_or c.loop-x.counts class 0 < max_cells
   count =
-      let p = start.pre.0.0 in
+      let p = c.requires.of_shape.0 in
       let turn = c.loop-x in
       let held = turn.invariant.2 p.shape p.accepted p.same in
       omega (
         arith,
         inside,
-        line_few p.shape p.accepted _ p.same _ start.pre.0.1 _ _ turn.counts _ _
-            (start.args.l * start.args.pass.columns + turn.x) held class
-            (omega (arith, below, first_is, line_slice p.shape p.accepted _ p.same start.args.l start.pre.0.1)),
+        line_few p.shape p.accepted _ p.same _ c.requires.of_shape.1 _ _ turn.counts _ _
+            (c.args.l * c.args.pass.columns + turn.x) held class
+            (omega (arith, below, first_is, line_slice p.shape p.accepted _ p.same c.args.l c.requires.of_shape.1)),
       )
 
 pub overflow_mul-cell : goal.overflow_mul-cell
@@ -88,15 +85,14 @@ overflow_add-cell c = omega (arith, inside (goal.at.overflow_add-cell c).In-loop
 
 pub overflow_add-first : goal.overflow_add-first
 overflow_add-first c =
-    omega (arith, below (goal.at.overflow_add-first c).In-loop-x, first_is (goal.at.overflow_add-first c).In-loop-x, slice (start (goal.at.overflow_add-first c).In-loop-x))
+    omega (arith, below (goal.at.overflow_add-first c).In-loop-x, first_is (goal.at.overflow_add-first c).In-loop-x, slice (goal.at.overflow_add-first c).Start)
 
 pub list_cell-n-requires : goal.list_cell-n-requires
-list_cell-n-requires c =
-    (
-      omega (arith, below (goal.at.list_cell-n-requires c).In-loop-x, first_is (goal.at.list_cell-n-requires c).In-loop-x, slice (start (goal.at.list_cell-n-requires c).In-loop-x)),
-      omega (arith, inside (goal.at.list_cell-n-requires c).In-loop-x),
-      omega (arith, count (goal.at.list_cell-n-requires c).In-loop-x),
-    )
+list_cell-n-requires c = (
+  omega (arith, below (goal.at.list_cell-n-requires c).In-loop-x, first_is (goal.at.list_cell-n-requires c).In-loop-x, slice (goal.at.list_cell-n-requires c).Start),
+  omega (arith, inside (goal.at.list_cell-n-requires c).In-loop-x),
+  omega (arith, count (goal.at.list_cell-n-requires c).In-loop-x),
+)
 
 pub overflow_add-x : goal.overflow_add-x
 overflow_add-x c = omega arith
@@ -106,17 +102,16 @@ loop-x-smaller c = omega arith
 
 pub loop-x-preserved : goal.loop-x-preserved
 loop-x-preserved c =
-    let e = start (goal.at.loop-x-preserved c).In-loop-x in
     let turn = c.loop-x in
     let cell = c.list_cell-n in
     let low = c.loop-x-test.true in
-    let more : e.args.line.start + turn.x + 1 ≡ e.args.line.start + (turn.x + 1) = omega arith in (
+    let more : c.args.line.start + turn.x + 1 ≡ c.args.line.start + (turn.x + 1) = omega arith in (
       omega arith,
-      place_next _ (e.args.line.start + turn.x) _ _ turn.invariant.1 (c.next_place-a.ensures (below (goal.at.loop-x-preserved c).In-loop-x))
-          ∙ ap (λ (n : ℕ). n % e.args.pass.period) more,
+      place_next _ (c.args.line.start + turn.x) _ _ turn.invariant.1 (c.next_place-a.ensures (below (goal.at.loop-x-preserved c).In-loop-x))
+          ∙ ap (λ (n : ℕ). n % c.args.pass.period) more,
       λ s ok same.
-          let within = e.pre.0.1 in
-          let own = cell_class_lem s ok _ same _ within _ (e.pre.0.2 s ok same) turn.x low in
+          let within = c.requires.of_shape.1 in
+          let own = cell_class_lem s ok _ same _ within _ (c.requires.of_shape.2 s ok same) turn.x low in
           let room = line_checks s ok _ same _ within turn.x low in
           line_goes s ok _ same _ within _ _ _ _ _ turn.x
           (cell.ensures (layout_of s) (omega (arith, own, first_is (goal.at.loop-x-preserved c).In-loop-x, turn.invariant.1)) room (turn.invariant.2 s ok same)),

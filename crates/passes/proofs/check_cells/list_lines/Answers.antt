@@ -10,13 +10,12 @@ use Rattle.lattice.proofs.theory.NextLine.{pass_first}
 use Rattle.passes.proofs.check_cells.list_lines.Goals as goal
 
 pub loop-l-init : goal.loop-l-init
-loop-l-init c =
-    (
-      zero-le,
-      (λ s ok same. pass_first s ok _ same),
-      (λ s ok same. listed_none s _ c.args.counts.now _ _ c.requires.of_shape.1),
-      (λ a k l p q. absurd (omega arith)),
-    )
+loop-l-init c = (
+  zero-le,
+  (λ s ok same. pass_first s ok _ same),
+  (λ s ok same. listed_none s _ c.args.counts.now _ _ c.requires.of_shape.1),
+  (λ a k l p q. absurd (omega arith)),
+)
 
 pub list_or_count-at-requires : goal.list_or_count-at-requires
 list_or_count-at-requires c =

@@ -28,17 +28,17 @@ module _ (e : Start) where
 
   slice : e.args.l % e.args.pass.slices * e.args.pass.period + e.args.pass.period ≤ e.args.pass.classes
   slice =
-      let p = e.pre.0.0 in
-      line_slice p.shape p.accepted _ p.same e.args.l e.pre.0.1
+      let p = e.requires.of_shape.0 in
+      line_slice p.shape p.accepted _ p.same e.args.l e.requires.of_shape.1
 
   counts : (a : ℕ) → a < e.args.pass.classes → get_or e.args.counts.now a 0 ≤ max_cells
   counts a l =
-      let p = e.pre.0.0 in
+      let p = e.requires.of_shape.0 in
       omega (
         arith,
-        line_few p.shape p.accepted _ p.same _ e.pre.0.1 _ _ e.args.counts.now _ _ _
-            (e.pre.1.1.0 p.shape p.accepted p.same) a l,
-        line_before p.shape p.accepted _ p.same _ e.pre.0.1,
+        line_few p.shape p.accepted _ p.same _ e.requires.of_shape.1 _ _ e.args.counts.now _ _ _
+            (e.requires.lines_listed p.shape p.accepted p.same) a l,
+        line_before p.shape p.accepted _ p.same _ e.requires.of_shape.1,
       )
 
 pub nonzero_div-pass : goal.nonzero_div-pass
@@ -79,14 +79,15 @@ pub returns-then-free-gt0 : goal.returns-then-free-gt0
 returns-then-free-gt0 c =
     let old = c.args.counts.now in
     let gains = c.args.gains.now in
-    let count = rw c.first_class-first.ensures at c.count_line.ensures in
+    let gained = rw c.first_class-first.ensures at c.count_line.ensures.by_index_2 in
+    let kept = rw c.first_class-first.ensures at c.count_line.ensures.by_index_3 in
     let ahead = c.look_ahead-free.ensures in
     let some = c.if-free-gt0.true in
     record {
       lines_listed_2 = (λ s ok same.
           line_passed s ok _ same _ c.requires.of_shape.1 _ (c.requires.of_shape.2 s ok same) _ _ gains old _ _ _
-          c.requires.period_in_bounds.1 (ahead_first old _ _ _ some ahead) count.0 count.1 (c.requires.lines_listed s ok same));
-      free_ahead_2 = ahead_after _ _ _ _ gains old c.count_line.new.counts (few (goal.at.returns-then-free-gt0 c).Start).0 c.requires.period_in_bounds.1 count.0 count.1 _ _ some ahead;
+          c.requires.period_in_bounds.1 (ahead_first old _ _ _ some ahead) gained kept (c.requires.lines_listed s ok same));
+      free_ahead_2 = ahead_after _ _ _ _ gains old c.count_line.new.counts (few (goal.at.returns-then-free-gt0 c).Start).0 c.requires.period_in_bounds.1 gained kept _ _ some ahead;
     }
 
 pub list_line-amount-requires : goal.list_line-amount-requires

@@ -11,4 +11,4 @@ pub overflow_add-high : goal.overflow_add-high
 overflow_add-high c = omega (arith, div-mul-le_self c.room.result c.args.more)
 
 pub returns-then-checks : goal.returns-then-checks
-returns-then-checks c = sym c.checks.ensures ∙ c.if-checks.true ∙ c.checks-2.ensures
+returns-then-checks c = λ some. sym c.checks.ensures ∙ c.if-checks.true ∙ c.checks-2.ensures

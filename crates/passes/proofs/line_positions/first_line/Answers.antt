@@ -9,9 +9,9 @@ pub returns-then-has_room : goal.returns-then-has_room
 returns-then-has_room c =
     let filled = c.fill_lists in
     λ s a same room. (
-      filled_line s a _ same _ _ _ room filled.new.e filled.auto.1.0 filled.ensures.positions,
-      filled_ready s a _ same _ _ _ room filled.new.p filled.new.q filled.auto.1.1.0
-          filled.auto.1.1.1.0 filled.ensures.gains filled.ensures.gains_2,
+      filled_line s a _ same _ _ _ room filled.new.e filled.auto.e filled.ensures.positions,
+      filled_ready s a _ same _ _ _ room filled.new.p filled.new.q filled.auto.p
+          filled.auto.q filled.ensures.gains filled.ensures.gains_2,
     )
 
 pub returns-else-has_room : goal.returns-else-has_room

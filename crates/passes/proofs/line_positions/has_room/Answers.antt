@@ -31,7 +31,7 @@ returns-then-not-within c =
     record {
       small = (λ t. absurd (false≢true t));
       value = (λ s a same room.
-      absurd (refuted (failed _ _ c.if-not-within.true c.within.ensures) (room_first s a _ same _ _ _ room)));
+          absurd (refuted (failed _ _ c.if-not-within.true c.within.ensures) (room_first s a _ same _ _ _ room)));
     }
 
 pub returns-then-not-within-2 : goal.returns-then-not-within-2
@@ -39,7 +39,7 @@ returns-then-not-within-2 c =
     record {
       small = (λ t. absurd (false≢true t));
       value = (λ s a same room.
-      absurd (refuted (failed _ _ c.if-not-within-2.true c.within-2.ensures) (room_row s a _ same _ _ _ room)));
+          absurd (refuted (failed _ _ c.if-not-within-2.true c.within-2.ensures) (room_row s a _ same _ _ _ room)));
     }
 
 pub returns-then-not-within-3 : goal.returns-then-not-within-3
@@ -47,7 +47,7 @@ returns-then-not-within-3 c =
     record {
       small = (λ t. absurd (false≢true t));
       value = (λ s a same room.
-      absurd (refuted (failed _ _ c.if-not-within-3.true c.within-3.ensures) (room_plane s a _ same _ _ _ room)));
+          absurd (refuted (failed _ _ c.if-not-within-3.true c.within-3.ensures) (room_plane s a _ same _ _ _ room)));
     }
 
 pub returns-then-e-gt4096 : goal.returns-then-e-gt4096
