@@ -23,20 +23,20 @@ use Rattle.codec.proofs.theory.AllBelow.{all_below_lem, last_fails, last_passes}
 use Rattle.codec.proofs.theory.Ranks.{rank_all, rank_rises, rank_most, rank_last}
 
 -- a cell that holds a check passes, and a padding cell passes by its value
-check : (d x : Bool) → not d ≡ true → true ≡ (not d || x)
-check true x p = absurd (false≢true p)
+check : (d x : Bool) → d ≡ false → true ≡ (not d || x)
+check true x p = absurd (true≢false p)
 check false x p = refl
 
-filler : (d x : Bool) → not d ≡ false → x ≡ (not d || x)
+filler : (d x : Bool) → d ≡ true → x ≡ (not d || x)
 filler true x p = refl
-filler false x p = absurd (true≢false p)
+filler false x p = absurd (false≢true p)
 
 module _ (pad : ℕ → ℕ) (d : Bool) (j v : ℕ) where
-  pub right_check : not d ≡ true → true ≡ right_at pad d j v
+  pub right_check : d ≡ false → true ≡ right_at pad d j v
   unfolding right_at
   right_check p = check d _ p
 
-  pub right_padding : (x : ℕ) → not d ≡ false → x ≡ pad j → eqb v x ≡ right_at pad d j v
+  pub right_padding : (x : ℕ) → d ≡ true → x ≡ pad j → eqb v x ≡ right_at pad d j v
   unfolding right_at
   right_padding x p e = ap (eqb v) e ∙ filler d _ p
 

@@ -6,9 +6,9 @@ use mathlib.Core.Path.{◌≡◌, refl, sym}
 use native.Mathlib.Decide.{ℕ_discrete, dec_lt}
 use native.Mathlib.Omega.{arith}
 use lib.Dec.{eqb}
-use borrow.Author.Tests.{ne_eqb, eqb-false}
+use borrow.Author.Tests.{ne_eqb, eqb-false, not-true}
 use Rattle.lattice.specs.Counting.{count}
-use Rattle.lattice.proofs.theory.Bools.{and_left, and_right, failed}
+use Rattle.lattice.proofs.theory.Bools.{and_left, and_right}
 use Rattle.lattice.proofs.theory.Counting.{count_more, count_reach}
 
 module _ (P : ℕ → Bool) (n : ℕ) where
@@ -61,5 +61,5 @@ module _ (P : ℕ → Bool) (n : ℕ) where
       go (yes some) =
           let r = count_reach other n 0 some in
           let q = and_left (P r.0) _ r.2 in
-          let d : r.0 ≢ i = eqb-false r.0 i (failed _ _ (and_right (P r.0) _ r.2) refl) in
+          let d : r.0 ≢ i = eqb-false r.0 i (not-true _ (and_right (P r.0) _ r.2)) in
           inr (r.0, r.1, q, d, λ k m o. third r.0 k r.1 m q o d (ℕ_discrete k i) (ℕ_discrete k r.0))

@@ -1,0 +1,136 @@
+-- `padded_with` meets its contract. The loop's invariant: `behind` counts the cells from i on, the padding cells from i on
+-- pass the test, and `unseen` of the cells before i are padding.
+use Prim.Native.Nat.{◌-◌, ◌<◌}
+use mathlib.Core.Path.{◌≡◌, refl}
+use native.Mathlib.Omega.{arith}
+use mir.Facts.{Fits-lt, Fits-lit}
+use Rattle.lattice.specs.Class.{layout_of}
+use Rattle.lattice.specs.Check.{holds_data}
+use Rattle.lattice.proofs.theory.CapacityGiven.{classes_given}
+use Rattle.lattice.proofs.theory.ClassAt.{at_cells}
+use Rattle.codec.specs.Decode.{corrected_field}
+use Rattle.codec.specs.Field.{field_of}
+use Rattle.lattice.specs.Sizes.{HoldsRest, AtCellBack, AtPlace}
+use Rattle.codec.proofs.examine.Corrected.{corrected_at}
+use Rattle.codec.proofs.examine.Data.{data_at}
+use Rattle.codec.proofs.examine.Padding.{padding_start, padding_passes, left_some, padding_fails, padding_more}
+use Rattle.codec.proofs.theory.WorkArrays.{cell_limit, zeros}
+use Rattle.lattice.proofs.theory.PlaceBack.{rest_none, back_cell}
+use Rattle.codec.proofs.examine.padded_with.Goals.{After-corrected_value-value, After-holds_data-is_data, After-place_back-place, In-loop-unseen}
+use Rattle.codec.proofs.examine.padded_with.Goals as goal
+
+-- a cell is left in each turn
+some : (c : In-loop-unseen) → 0 < c.loop-unseen.i
+some c = left_some _ _ _ _ _ c.loop-unseen.invariant.1 c.loop-unseen-test.true
+
+-- the cell of a turn
+cell : (c : In-loop-unseen)
+    → let turn = c.loop-unseen in
+    AtCellBack c.args.shape c.placement-placement.result c.args.sizes.now turn.behind (turn.i - 1)
+cell c =
+    let turn = c.loop-unseen in
+    back_cell
+    _ _ _ _ _
+    c.requires.field_fits.accepted
+    c.placement-placement.ensures
+    c.requires.holds_sizes
+    turn.invariant.0
+    (some c)
+    turn.invariant.1.within
+
+-- its place, and the counts with it
+place : (c : After-place_back-place)
+    → AtPlace c.args.shape (c.loop-unseen.i - 1) c.place_back-place.result.class c.place_back-place.result.position
+place c = c.place_back-place.ensures.at_place (let turn = c.loop-unseen in back_cell _ _ _ _ _ c.requires.field_fits.accepted c.placement-placement.ensures c.requires.holds_sizes turn.invariant.0 (some c) turn.invariant.1.within)
+
+rest : (c : After-place_back-place)
+    → HoldsRest (layout_of c.args.shape) c.place_back-place.new.behind (c.loop-unseen.i - 1)
+rest c = c.place_back-place.ensures.holds_rest (let turn = c.loop-unseen in back_cell _ _ _ _ _ c.requires.field_fits.accepted c.placement-placement.ensures c.requires.holds_sizes turn.invariant.0 (some c) turn.invariant.1.within)
+
+-- it holds no check
+held : (c : After-holds_data-is_data)
+    → c.holds_data-is_data.result ≡ holds_data (layout_of c.args.shape) (c.loop-unseen.i - 1)
+held c =
+    let sized = c.requires.holds_sizes in
+    data_at _ _ sized _ _ _ (c.place_back-place.ensures.at_place (let turn = c.loop-unseen in back_cell _ _ _ _ _ c.requires.field_fits.accepted c.placement-placement.ensures c.requires.holds_sizes turn.invariant.0 (some c) turn.invariant.1.within)) _ c.holds_data-is_data.ensures
+
+-- its value after correction
+value : (c : After-corrected_value-value)
+    → c.corrected_value-value.result
+    ≡ corrected_field c.args.shape (field_of c.args.field.now) (c.loop-unseen.i - 1)
+value c =
+    corrected_at _ c.args.field.now _ _ _ c.requires.located _ _ _ (c.place_back-place.ensures.at_place (let turn = c.loop-unseen in back_cell _ _ _ _ _ c.requires.field_fits.accepted c.placement-placement.ensures c.requires.holds_sizes turn.invariant.0 (some c) turn.invariant.1.within)) (let turn = c.loop-unseen in back_cell _ _ _ _ _ c.requires.field_fits.accepted c.placement-placement.ensures c.requires.holds_sizes turn.invariant.0 (some c) turn.invariant.1.within).below
+    _ _ c.one_at.ensures c.corrected_value-value.ensures
+
+pub loop-unseen-init : goal.loop-unseen-init
+loop-unseen-init c =
+    let accepted = c.requires.field_fits.accepted in
+    let sized = c.requires.holds_sizes in
+    let own = c.classes.ensures in
+    let all = at_cells _ accepted _ c.cells-i.ensures in
+    let amount = c.data_in-unseen.ensures (rw own (classes_given _)) in
+    (rest_none _ _ _ zeros all, padding_start _ _ _ c.args.sizes.now _ _ accepted sized _ own amount all)
+
+pub overflow_sub-i : goal.overflow_sub-i
+overflow_sub-i c = some c
+
+pub overflow_cast-i : goal.overflow_cast-i
+overflow_cast-i c =
+    let at = cell (goal.at.overflow_cast-i c).In-loop-unseen in
+    Fits-lt (cell_limit _ _ refl _ at.below at.accepted) (Fits-lit tt)
+
+pub holds_data-is_data-requires : goal.holds_data-is_data-requires
+holds_data-is_data-requires c = (place c).below
+
+pub overflow_cast-i-in-loop-unseen : goal.overflow_cast-i-in-loop-unseen
+overflow_cast-i-in-loop-unseen c =
+    let at = cell (goal.at.overflow_cast-i-in-loop-unseen c).In-loop-unseen in
+    Fits-lt (cell_limit _ _ refl _ at.below at.accepted) (Fits-lit tt)
+
+pub one_at-requires : goal.one_at-requires
+one_at-requires c =
+    rw c.requires.field_fits.long (cell (goal.at.one_at-requires c).In-loop-unseen).below
+
+pub corrected_value-value-requires : goal.corrected_value-value-requires
+corrected_value-value-requires c = (place (goal.at.corrected_value-value-requires c).After-place_back-place).below
+
+pub overflow_sub-unseen : goal.overflow_sub-unseen
+overflow_sub-unseen c = c.loop-unseen-test.true
+
+pub returns-then-not-is_right : goal.returns-then-not-is_right
+returns-then-not-is_right c =
+    padding_fails
+    _ _ _ _ _
+    c.loop-unseen.invariant.1
+    c.loop-unseen-test.true
+    _ _ _
+    (held (goal.at.returns-then-not-is_right c).After-holds_data-is_data)
+    (value (goal.at.returns-then-not-is_right c).After-corrected_value-value)
+    c.is_right.ensures
+    c.if-not-is_right.true
+
+pub less_if-unseen-requires : goal.less_if-unseen-requires
+less_if-unseen-requires c = c.loop-unseen-test.true
+
+pub loop-unseen-smaller : goal.loop-unseen-smaller
+loop-unseen-smaller c = omega (arith, some (goal.at.loop-unseen-smaller c).In-loop-unseen)
+
+pub loop-unseen-preserved : goal.loop-unseen-preserved
+loop-unseen-preserved c =
+    (
+      rest (goal.at.loop-unseen-preserved c).After-place_back-place,
+      padding_more
+          _ _ _ _ _
+          c.loop-unseen.invariant.1
+          c.loop-unseen-test.true
+          _ _ _
+          (held (goal.at.loop-unseen-preserved c).After-holds_data-is_data)
+          (value (goal.at.loop-unseen-preserved c).After-corrected_value-value)
+          c.is_right.ensures
+          c.if-not-is_right.false
+          _
+          c.less_if-unseen.ensures,
+    )
+
+pub returns : goal.returns
+returns c = padding_passes _ _ _ _ _ c.loop-unseen.invariant.1 c.loop-unseen-test.false

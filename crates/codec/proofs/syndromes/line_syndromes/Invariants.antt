@@ -1,0 +1,18 @@
+-- What the loop of `line_syndromes` keeps.
+use Prim.Native.Nat.{◌-◌, ◌≤◌}
+use mathlib.Core.Path.{◌≡◌}
+use lib.ListN.{length}
+use Rattle.lattice.specs.declared.shape.Shape.{Shape}
+use Rattle.lattice.specs.Shape.{Accepted}
+use Rattle.lattice.specs.Lines.{pass_of}
+use Rattle.codec.specs.Field.{field_of, having}
+use Rattle.codec.proofs.syndromes.SlicesTaken.{SlicesTaken}
+use Rattle.codec.proofs.syndromes.line_syndromes.Given as goal
+
+abbrev pub invariant-loop-j : goal.invariant-loop-j
+invariant-loop-j l =
+    (l.j ≤ l.pass.slices) × (length l.syndromes ≡ length l.initial.syndromes)
+    × ((s : Shape) → Accepted s → l.pass ≡ pass_of s → SlicesTaken s l.pass (having l.value (field_of l.field)) l.j l.syndromes)
+
+abbrev pub decreases-loop-j : goal.decreases-loop-j
+decreases-loop-j l = l.pass.slices - l.j
