@@ -9,11 +9,11 @@ use Rattle.codec.specs.Working.{examined_number}
 use Rattle.codec.proofs.theory.Examinations.{exam_told, exam_none, exam_reason, exam_erased}
 use Rattle.codec.proofs.theory.OperationNumbers.{correct_taken}
 use Rattle.codec.proofs.theory.WorkArrays.{nones}
-use Rattle.codec.proofs.correct.correct.Goals.{In-Passed-2}
+use Rattle.codec.proofs.correct.correct.Goals.{In-Passed}
 use Rattle.codec.proofs.correct.correct.Goals as goal
 
 -- where the tests pass
-none : (c : In-Passed-2)
+none : (c : In-Passed)
     → let a = c.args in
     correct_number a.shape a.field.now ≡ 0
 none c = exam_none c.correct_tests.ensures.result_value c.in-Passed.is
@@ -26,7 +26,7 @@ store_corrected-requires c =
     let given = c.in-Passed.is in
     let sound = c.correct_tests.ensures.sound (ap examined_number given) in
     record {
-      readable = correct_taken _ _ (none (goal.at.store_corrected-requires c).In-Passed-2);
+      readable = correct_taken _ _ (none (goal.at.store_corrected-requires c).In-Passed);
       erased_value = exam_erased sound given;
       located = sound.located;
     }
@@ -46,7 +46,7 @@ returns-in-Refused c =
 pub returns-in-Passed : goal.returns-in-Passed
 unfolding correct_count correct_leaves
 returns-in-Passed c =
-    let z = none (goal.at.returns-in-Passed c).In-Passed-2 in
+    let z = none (goal.at.returns-in-Passed c).In-Passed in
     let made = c.store_corrected.ensures in
     record {
       number = sym z;

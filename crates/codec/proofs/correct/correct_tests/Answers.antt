@@ -38,7 +38,7 @@ pub returns-then-field-cells : goal.returns-then-field-cells
 returns-then-field-cells c =
     record {
       result_value = sym (correct_length _ _ (accepted (goal.at.returns-then-field-cells c).In_default)
-      (λ e. c.if-field-cells.true (e ∙ sym (cells_given _ _ c.cells.ensures))));
+          (λ e. c.if-field-cells.true (e ∙ sym (cells_given _ _ c.cells.ensures))));
       examined_field = (λ e. let z : ◌≡◌ {A = ℕ} 0 1 = cc in omega arith);
       sound = λ z. absurd (omega arith);
     }

@@ -16,10 +16,10 @@ use Rattle.codec.specs.Working.{examined_number, names}
 use Rattle.codec.proofs.theory.Examinations.{exam_told, exam_none, exam_reason, exam_erased}
 use Rattle.codec.proofs.theory.OperationNumbers.{decode_taken}
 use Rattle.codec.proofs.theory.WorkArrays.{nones}
-use Rattle.codec.proofs.decode.decode.Goals.{In-Passed-2}
+use Rattle.codec.proofs.decode.decode.Goals.{In-Passed}
 use Rattle.codec.proofs.decode.decode.Goals as goal
 
-none : (c : In-Passed-2)
+none : (c : In-Passed)
     → let a = c.args in
     decode_number a.shape a.payload.now a.field.now ≡ 0
 none c = exam_none c.decode_tests.ensures.result_value c.in-Passed.is
@@ -30,7 +30,7 @@ decode_tests-requires c = (nones, nones)
 pub store_payload-requires : goal.store_payload-requires
 store_payload-requires c =
     let made = c.decode_tests.ensures.holds_sizes (ap examined_number c.in-Passed.is) in
-    let t = decode_taken _ _ _ (none (goal.at.store_payload-requires c).In-Passed-2) in
+    let t = decode_taken _ _ _ (none (goal.at.store_payload-requires c).In-Passed) in
     record {
       readable = t.0;
       holds_sizes = made.0;
@@ -43,7 +43,7 @@ count_changed-requires c =
     let given = c.in-Passed.is in
     let made = c.decode_tests.ensures.holds_sizes (ap examined_number given) in
     let a = c.args in
-    let ok = (decode_taken _ _ _ (none (goal.at.count_changed-requires c).In-Passed-2)).0.accepted in (
+    let ok = (decode_taken _ _ _ (none (goal.at.count_changed-requires c).In-Passed)).0.accepted in (
       ok,
       omega (
         arith,
@@ -71,7 +71,7 @@ returns-in-Passed c =
     let given = c.in-Passed.is in
     let tests = c.decode_tests in
     let sound = (tests.ensures.holds_sizes (ap examined_number given)).1 in
-    let z = none (goal.at.returns-in-Passed c).In-Passed-2 in
+    let z = none (goal.at.returns-in-Passed c).In-Passed in
     let named : ℕ = count (names tests.new.damaged) (classes_of c.args.shape) in
     record {
       number = sym z;

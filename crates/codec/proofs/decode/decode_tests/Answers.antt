@@ -6,7 +6,7 @@ use Rattle.lattice.specs.Refusal.{tested_number}
 use Rattle.codec.specs.Working.{length_number}
 use Rattle.codec.proofs.theory.Examinations.{exam_field}
 use Rattle.codec.proofs.theory.OperationNumbers.{decode_tests}
-use Rattle.codec.proofs.decode.decode_tests.Goals.{In_default, In_default-1}
+use Rattle.codec.proofs.decode.decode_tests.Goals.{In_default}
 use Rattle.codec.proofs.decode.decode_tests.Goals as goal
 
 -- where the lengths are the plan's
@@ -27,7 +27,7 @@ returns-in-Refused c =
 
 pub examine-requires : goal.examine-requires
 examine-requires c =
-    let fits = c.length_tests-tested.ensures.1.1 (ap tested_number c.enum_told-1.given.1) in
+    let fits = c.length_tests-tested.ensures.fits (ap tested_number c.in_default.is) in
     record {
       field_fits = fits.of_field;
       holds_sizes = fits.of_payload.sized;
@@ -36,9 +36,9 @@ examine-requires c =
 
 pub returns : goal.returns
 returns c =
-    let fits = c.length_tests-tested.ensures.1.1 (ap tested_number c.enum_told-1.given.1) in
+    let fits = c.length_tests-tested.ensures.fits (ap tested_number c.in_default.is) in
     record {
-      result_value = c.examine.ensures.result_value ∙ sym (none_earlier _ _ (none (goal.at.returns c).In_default-1)) ∙ decode_tests _ _ _;
+      result_value = c.examine.ensures.result_value ∙ sym (none_earlier _ _ (none (goal.at.returns c).In_default)) ∙ decode_tests _ _ _;
       examined_field = exam_field _ _ c.examine.ensures.result_value;
       holds_sizes = λ z. (fits.of_payload.sized, c.examine.ensures.sound z);
     }

@@ -22,9 +22,9 @@ gather-requires c =
     record {
       cells_value = all (goal.at.gather-requires c).After-cells-cells;
       field_fits = (
-          record { accepted = readable.accepted; long = readable.long },
-          λ i l. readable.cells i (omega (arith, readable.long)),
-        );
+        record { accepted = readable.accepted; long = readable.long },
+        λ i l. readable.cells i (omega (arith, readable.long)),
+      );
       amount_le_max_checks = (listed.upper_bound, (listed.lists_checks readable.accepted c.requires.holds_sizes).0);
       by_index = c.clear.ensures;
     }

@@ -23,13 +23,12 @@ count_if-n-requires c =
     omega (arith, c.loop-i.invariant.1, count_most (is_erased (field_of c.args.field.now)) c.loop-i.i)
 
 pub loop-i-preserved : goal.loop-i-preserved
-loop-i-preserved c =
-    (
-      omega arith,
-      c.count_if-n.ensures
-          ∙ rw (c.cell_value.ensures, c.loop-i.invariant.1) refl
-          ∙ sym (count_step (is_erased (field_of c.args.field.now)) c.loop-i.i),
-    )
+loop-i-preserved c = (
+  omega arith,
+  c.count_if-n.ensures
+      ∙ rw (c.cell_value.ensures, c.loop-i.invariant.1) refl
+      ∙ sym (count_step (is_erased (field_of c.args.field.now)) c.loop-i.i),
+)
 
 pub returns : goal.returns
 returns c =

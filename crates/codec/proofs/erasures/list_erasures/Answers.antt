@@ -21,7 +21,7 @@ inside c = rw c.requires.field_fits.long at c.loop-i-test.true
 
 -- what the turn leaves: the cell is listed too, or its class has three erasures
 turn : (c : After-list_cell)
-    → let e = (entry c«At-loop-i»).args in
+    → let e = c.args in
     let L = layout_of e.shape in
     let f = field_of e.field.now in
     let i = c.loop-i.i in
@@ -54,9 +54,9 @@ list_cell-requires c =
 
 pub returns-then-not-list_cell : goal.returns-then-not-list_cell
 returns-then-not-list_cell c =
-    let e = entry (goal.at.returns-then-not-list_cell c).At-loop-i in
+    let e = c in
     record {
-      value = sym (three_many e.args.shape e.pre.0.accepted (field_of e.args.field.now) _ _ (omega (arith, inside (goal.at.returns-then-not-list_cell c).In-loop-i))
+      value = sym (three_many e.args.shape e.requires.field_fits.accepted (field_of e.args.field.now) _ _ (omega (arith, inside (goal.at.returns-then-not-list_cell c).In-loop-i))
           ((turn (goal.at.returns-then-not-list_cell c).After-list_cell).1 c.if-not-list_cell.true));
       lists_erasures = λ no. absurd (true≢false (sym no));
     }

@@ -13,7 +13,7 @@ use Rattle.codec.proofs.theory.FieldLists.{ok_received}
 use Rattle.codec.proofs.theory.FieldNumber.{number_erasures, number_reach, number_padding, number_none}
 use Rattle.codec.proofs.theory.WorkArrays.{zeros}
 use Rattle.codec.proofs.examine.Reach.{all_reach}
-use Rattle.codec.proofs.examine.examine_received.Goals.{After-all_in_reach, After-pass, Else-not-locate}
+use Rattle.codec.proofs.examine.examine_received.Goals.{After-all_in_reach, After-pass}
 use Rattle.codec.proofs.examine.examine_received.Goals as goal
 
 -- the pass is the shape's own
@@ -26,7 +26,7 @@ reach : (c : After-all_in_reach)
 reach c =
     let ok = c.requires.field_fits.0.accepted in
     all_reach _ c.args.field.now _ _ _ _ _ _ ok (c.field_syndromes.ensures _ ok (c.pass.ensures ∙ pass_accepted _ c.requires.field_fits.0.accepted))
-    (c.locate.ensures.1 c.if-not-locate.false)
+    (c.locate.ensures.located c.if-not-locate.false)
     (classes_given _ ok _ c.classes.ensures) c.all_in_reach.ensures
 
 pub field_syndromes-requires : goal.field_syndromes-requires
@@ -65,7 +65,7 @@ all_in_reach-requires c =
 pub returns-then-not-all_in_reach : goal.returns-then-not-all_in_reach
 returns-then-not-all_in_reach c =
     record {
-      result_value = number_reach _ _ c.requires.field_fits.1 (passed _ _ c.if-not-locate.false c.locate.ensures.0)
+      result_value = number_reach _ _ c.requires.field_fits.1 (passed _ _ c.if-not-locate.false c.locate.ensures.value)
           (failed _ _ c.if-not-all_in_reach.true (reach (goal.at.returns-then-not-all_in_reach c).After-all_in_reach));
       located = λ z. absurd (omega arith);
     }
@@ -75,14 +75,14 @@ padding_ok-requires c =
     record {
       field_fits = c.requires.field_fits.0;
       holds_sizes = c.requires.holds_sizes;
-      located = c.locate.ensures.1 c.if-not-locate.false;
+      located = c.locate.ensures.located c.if-not-locate.false;
     }
 
 pub returns-then-not-padding_ok : goal.returns-then-not-padding_ok
 returns-then-not-padding_ok c =
     record {
-      result_value = number_padding _ _ c.requires.field_fits.1 (passed _ _ c.if-not-locate.false c.locate.ensures.0)
-          (passed _ _ c.if-not-all_in_reach.false (reach (goal.at.returns-then-not-padding_ok c).Else-not-locate))
+      result_value = number_padding _ _ c.requires.field_fits.1 (passed _ _ c.if-not-locate.false c.locate.ensures.value)
+          (passed _ _ c.if-not-all_in_reach.false (reach (goal.at.returns-then-not-padding_ok c).After-all_in_reach))
           (failed _ _ c.if-not-padding_ok.true c.padding_ok.ensures);
       located = λ z. absurd (omega arith);
     }
@@ -90,8 +90,8 @@ returns-then-not-padding_ok c =
 pub returns : goal.returns
 returns c =
     record {
-      result_value = number_none _ _ c.requires.field_fits.1 (passed _ _ c.if-not-locate.false c.locate.ensures.0)
-          (passed _ _ c.if-not-all_in_reach.false (reach (goal.at.returns c).Else-not-locate))
+      result_value = number_none _ _ c.requires.field_fits.1 (passed _ _ c.if-not-locate.false c.locate.ensures.value)
+          (passed _ _ c.if-not-all_in_reach.false (reach (goal.at.returns c).After-all_in_reach))
           (passed _ _ c.if-not-padding_ok.false c.padding_ok.ensures);
-      located = λ z. c.locate.ensures.1 c.if-not-locate.false;
+      located = λ z. c.locate.ensures.located c.if-not-locate.false;
     }

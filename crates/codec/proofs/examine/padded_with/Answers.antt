@@ -41,25 +41,60 @@ cell c =
 -- its place, and the counts with it
 place : (c : After-place_back-place)
     → AtPlace c.args.shape (c.loop-unseen.i - 1) c.place_back-place.result.class c.place_back-place.result.position
-place c = c.place_back-place.ensures.at_place (let turn = c.loop-unseen in back_cell _ _ _ _ _ c.requires.field_fits.accepted c.placement-placement.ensures c.requires.holds_sizes turn.invariant.0 (some c) turn.invariant.1.within)
+place c = c.place_back-place.ensures.at_place (back_cell
+    _ _ _ _ _
+    c.requires.field_fits.accepted
+    c.placement-placement.ensures
+    c.requires.holds_sizes
+    c.loop-unseen.invariant.0
+    (left_some _ _ _ _ _ c.loop-unseen.invariant.1 c.loop-unseen-test.true)
+    c.loop-unseen.invariant.1.within)
 
 rest : (c : After-place_back-place)
     → HoldsRest (layout_of c.args.shape) c.place_back-place.new.behind (c.loop-unseen.i - 1)
-rest c = c.place_back-place.ensures.holds_rest (let turn = c.loop-unseen in back_cell _ _ _ _ _ c.requires.field_fits.accepted c.placement-placement.ensures c.requires.holds_sizes turn.invariant.0 (some c) turn.invariant.1.within)
+rest c = c.place_back-place.ensures.holds_rest (back_cell
+    _ _ _ _ _
+    c.requires.field_fits.accepted
+    c.placement-placement.ensures
+    c.requires.holds_sizes
+    c.loop-unseen.invariant.0
+    (left_some _ _ _ _ _ c.loop-unseen.invariant.1 c.loop-unseen-test.true)
+    c.loop-unseen.invariant.1.within)
 
 -- it holds no check
 held : (c : After-holds_data-is_data)
     → c.holds_data-is_data.result ≡ holds_data (layout_of c.args.shape) (c.loop-unseen.i - 1)
 held c =
     let sized = c.requires.holds_sizes in
-    data_at _ _ sized _ _ _ (c.place_back-place.ensures.at_place (let turn = c.loop-unseen in back_cell _ _ _ _ _ c.requires.field_fits.accepted c.placement-placement.ensures c.requires.holds_sizes turn.invariant.0 (some c) turn.invariant.1.within)) _ c.holds_data-is_data.ensures
+    data_at _ _ sized _ _ _ (c.place_back-place.ensures.at_place (back_cell
+    _ _ _ _ _
+    c.requires.field_fits.accepted
+    c.placement-placement.ensures
+    c.requires.holds_sizes
+    c.loop-unseen.invariant.0
+    (left_some _ _ _ _ _ c.loop-unseen.invariant.1 c.loop-unseen-test.true)
+    c.loop-unseen.invariant.1.within)) _ c.holds_data-is_data.ensures
 
 -- its value after correction
 value : (c : After-corrected_value-value)
     → c.corrected_value-value.result
     ≡ corrected_field c.args.shape (field_of c.args.field.now) (c.loop-unseen.i - 1)
 value c =
-    corrected_at _ c.args.field.now _ _ _ c.requires.located _ _ _ (c.place_back-place.ensures.at_place (let turn = c.loop-unseen in back_cell _ _ _ _ _ c.requires.field_fits.accepted c.placement-placement.ensures c.requires.holds_sizes turn.invariant.0 (some c) turn.invariant.1.within)) (let turn = c.loop-unseen in back_cell _ _ _ _ _ c.requires.field_fits.accepted c.placement-placement.ensures c.requires.holds_sizes turn.invariant.0 (some c) turn.invariant.1.within).below
+    corrected_at _ c.args.field.now _ _ _ c.requires.located _ _ _ (c.place_back-place.ensures.at_place (back_cell
+    _ _ _ _ _
+    c.requires.field_fits.accepted
+    c.placement-placement.ensures
+    c.requires.holds_sizes
+    c.loop-unseen.invariant.0
+    (left_some _ _ _ _ _ c.loop-unseen.invariant.1 c.loop-unseen-test.true)
+    c.loop-unseen.invariant.1.within)) (back_cell
+    _ _ _ _ _
+    c.requires.field_fits.accepted
+    c.placement-placement.ensures
+    c.requires.holds_sizes
+    c.loop-unseen.invariant.0
+    (left_some _ _ _ _ _ c.loop-unseen.invariant.1 c.loop-unseen-test.true)
+    c.loop-unseen.invariant.1.within).below
     _ _ c.one_at.ensures c.corrected_value-value.ensures
 
 pub loop-unseen-init : goal.loop-unseen-init
@@ -116,21 +151,20 @@ pub loop-unseen-smaller : goal.loop-unseen-smaller
 loop-unseen-smaller c = omega (arith, some (goal.at.loop-unseen-smaller c).In-loop-unseen)
 
 pub loop-unseen-preserved : goal.loop-unseen-preserved
-loop-unseen-preserved c =
-    (
-      rest (goal.at.loop-unseen-preserved c).After-place_back-place,
-      padding_more
-          _ _ _ _ _
-          c.loop-unseen.invariant.1
-          c.loop-unseen-test.true
-          _ _ _
-          (held (goal.at.loop-unseen-preserved c).After-holds_data-is_data)
-          (value (goal.at.loop-unseen-preserved c).After-corrected_value-value)
-          c.is_right.ensures
-          c.if-not-is_right.false
-          _
-          c.less_if-unseen.ensures,
-    )
+loop-unseen-preserved c = (
+  rest (goal.at.loop-unseen-preserved c).After-place_back-place,
+  padding_more
+      _ _ _ _ _
+      c.loop-unseen.invariant.1
+      c.loop-unseen-test.true
+      _ _ _
+      (held (goal.at.loop-unseen-preserved c).After-holds_data-is_data)
+      (value (goal.at.loop-unseen-preserved c).After-corrected_value-value)
+      c.is_right.ensures
+      c.if-not-is_right.false
+      _
+      c.less_if-unseen.ensures,
+)
 
 pub returns : goal.returns
 returns c = padding_passes _ _ _ _ _ c.loop-unseen.invariant.1 c.loop-unseen-test.false

@@ -103,7 +103,7 @@ loop-to-preserved c =
       simp length-set (scattered.auto.part ∙ c.loop-to.invariant.1),
       λ L f counted.
           run_check L _ _ _ _ _ _ _ _ (c.loop-to.invariant.2 L f counted) f.long _ _ inside
-          scattered.ensures (let inside = c.loop-to-test.true in omega (arith, c.scatter_run.auto.part, room (goal.at.bounds-part-to c).At-loop-to, (next (goal.at.bounds-part-to c).At-loop-to).behind, (run (goal.at.bounds-part-to c).At-loop-to).ordered)) (c.run_end-to-in-loop-to.ensures.1 L f.lists f.inside),
+          scattered.ensures (omega (arith, c.scatter_run.auto.part, room (goal.at.loop-to-preserved c).At-loop-to, (next (goal.at.loop-to-preserved c).At-loop-to).behind, (run (goal.at.loop-to-preserved c).At-loop-to).ordered)) (c.run_end-to-in-loop-to.ensures.1 L f.lists f.inside),
     )
 
 pub scatter_run-requires-2 : goal.scatter_run-requires-2

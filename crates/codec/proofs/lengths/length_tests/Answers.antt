@@ -74,7 +74,7 @@ returns c =
       result_value = sym (fit_number _ _ _ (accepted (goal.at.returns c).After-class_sizes) (bytes (goal.at.returns c).Else-payload-data_in) cells);
       no_outside = passed_reason why.OutsideShape;
       fits = λ z. record {
-          of_payload = record { accepted = accepted (goal.at.returns c).After-class_sizes; long = bytes (goal.at.returns c).Else-payload-data_in ∙ plan_bytes_lem _ (accepted (goal.at.returns c).After-class_sizes); sized = sized (goal.at.returns c).After-class_sizes };
-          of_field = record { accepted = accepted (goal.at.returns c).After-class_sizes; long = cells ∙ plan_cells_lem _ (accepted (goal.at.returns c).After-class_sizes) };
-        };
+        of_payload = record { accepted = accepted (goal.at.returns c).After-class_sizes; long = bytes (goal.at.returns c).Else-payload-data_in ∙ plan_bytes_lem _ (accepted (goal.at.returns c).After-class_sizes); sized = sized (goal.at.returns c).After-class_sizes };
+        of_field = record { accepted = accepted (goal.at.returns c).After-class_sizes; long = cells ∙ plan_cells_lem _ (accepted (goal.at.returns c).After-class_sizes) };
+      };
     }

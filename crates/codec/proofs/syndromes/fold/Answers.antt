@@ -19,14 +19,13 @@ place c =
     omega (arith, c.loop-y.invariant.2, mod-lt c.loop-y.y {m = m} (omega arith))
 
 pub loop-y-init : goal.loop-y-init
-loop-y-init c =
-    (
-      zero-le,
-      refl,
-      sym (zero-mod _),
-      (λ b l. c.requires.by_index b l ∙ sym (fold_none _ _ c.args.t.now)),
-      (λ b l. refl),
-    )
+loop-y-init c = (
+  zero-le,
+  refl,
+  sym (zero-mod _),
+  (λ b l. c.requires.by_index b l ∙ sym (fold_none _ _ c.args.t.now)),
+  (λ b l. refl),
+)
 
 pub overflow_add-syndromes : goal.overflow_add-syndromes
 overflow_add-syndromes c = omega (arith, place c)

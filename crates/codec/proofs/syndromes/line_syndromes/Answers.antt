@@ -6,6 +6,7 @@ use native.Mathlib.Omega.{arith}
 use lib.ListN.{length}
 use Rattle.codec.specs.Field.{field_of, having}
 use Rattle.codec.proofs.syndromes.SlicesTaken.{SlicesTaken, slices_none, slice_zeros, slices_more, slices_past, slices_all}
+use Rattle.codec.proofs.syndromes.line_syndromes.Goals.{then-j-pass, else-j-pass}
 use Rattle.codec.proofs.syndromes.line_syndromes.Goals as goal
 
 pub loop-j-init : goal.loop-j-init
@@ -30,16 +31,15 @@ loop-j-preserved c =
     let slice = c.loop-j-test.true in
     let f = having c.args.value (field_of c.args.field.now) in (
       omega arith,
-      ⊎_elim (λ w. ap length w.5 ∙ w.2.kept.1.1.1.1.0 ∙ turn.invariant.1) (λ w. ap length w.1 ∙ turn.invariant.1)
-          c.if-j-pass.branch,
+      c.if-j-pass.auto.syndromes ∙ turn.invariant.1,
       λ s ok same.
           let held = turn.invariant.2 s ok same in
-          ⊎_elim
-          (λ w. subst (SlicesTaken s c.args.pass f (turn.j + 1)) (sym w.5)
-          (slices_more s ok _ same f turn.j turn.syndromes held slice _ w.2.ensures))
-          (λ w. subst (SlicesTaken s c.args.pass f (turn.j + 1)) (sym w.1)
-          (slices_past s ok _ same f turn.j turn.syndromes held slice w.0.left))
-          c.if-j-pass.branch,
+          elim c.if-j-pass.branch [
+            | then-j-pass w ↦
+                rw w.syndromes-is (slices_more s ok _ same f turn.j turn.syndromes held slice _ w.slice_syndromes.ensures)
+            | else-j-pass w ↦
+                rw w.syndromes-is (slices_past s ok _ same f turn.j turn.syndromes held slice w.if-j-pass.false)
+          ],
     )
 
 pub shape_of-syndromes : goal.shape_of-syndromes

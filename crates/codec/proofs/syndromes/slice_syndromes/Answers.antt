@@ -58,10 +58,10 @@ listed_syndromes-requires c =
       field_len = c.requires.field_len;
       by_index = c.requires.by_index;
       room = (
-              pass_space p.shape p.accepted _ p.same _ _ _ (sym (front_length _ 768 narrow))
-                  (sym (front_length _ 1280 long)) (sym (front_length _ 1280 long)),
-              refl,
-            );
+        pass_space p.shape p.accepted _ p.same _ _ _ (sym (front_length _ 768 narrow))
+            (sym (front_length _ 1280 long)) (sym (front_length _ 1280 long)),
+        refl,
+      );
       by_index_2 = front_zeros (c.args.pass.period + c.args.pass.columns) 768;
     }
 

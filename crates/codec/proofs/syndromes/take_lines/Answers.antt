@@ -13,14 +13,13 @@ use Rattle.codec.proofs.syndromes.take_lines.Goals.{Start}
 use Rattle.codec.proofs.syndromes.take_lines.Goals as goal
 
 pub loop-l-init : goal.loop-l-init
-loop-l-init c =
-    (
-      refl,
-      refl,
-      λ s ok same.
-          taken_first s ok _ _ _ c.args.e.now c.args.t.now (omega (arith, slices_are s ok _ same))
-          (omega (arith, lines_are s ok _ same)) (c.requires.at_line s ok same) c.requires.by_index,
-    )
+loop-l-init c = (
+  refl,
+  refl,
+  λ s ok same.
+      taken_first s ok _ _ _ c.args.e.now c.args.t.now (omega (arith, slices_are s ok _ same))
+      (omega (arith, lines_are s ok _ same)) (c.requires.at_line s ok same) c.requires.by_index,
+)
 
 pub overflow_mul-l : goal.overflow_mul-l
 overflow_mul-l c =
