@@ -1,0 +1,9 @@
+-- `holds_digit` meets its contract.
+use Rattle.levels.proofs.spot.SpotCells.{holds_inside, holds_ignored}
+use Rattle.levels.proofs.spot.holds_digit.Goals as goal
+
+pub returns-then-spot : goal.returns-then-spot
+returns-then-spot c = holds_inside _ c.if-spot.true
+
+pub returns-else-spot : goal.returns-else-spot
+returns-else-spot c = holds_ignored _ c.if-spot.false

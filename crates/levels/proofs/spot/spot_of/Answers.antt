@@ -1,0 +1,50 @@
+-- `spot_of` meets its contract: the walk gives the class, its count the position, and the arrays the word.
+use Prim.Native.Nat.{◌+◌, ◌*◌, ◌<◌}
+use native.Mathlib.Omega.{arith}
+use Rattle.lattice.specs.Shape.{max_classes}
+use Rattle.levels.proofs.spot.SpotCells.{class_below, count_below, cell_counted, position_some, spot_is}
+use Rattle.levels.proofs.spot.spot_of.Goals.{Start}
+use Rattle.levels.proofs.spot.spot_of.Goals as goal
+
+-- the class has a place in the arrays
+below : (c : Start) → c.args.walk.slice * c.args.pass.period + c.args.walk.place < max_classes
+below c = class_below _ _ _ c.requires.laid _ _ _ _ c.requires.at_cell
+
+pub overflow_mul-class : goal.overflow_mul-class
+overflow_mul-class c = omega (arith, below (goal.at.overflow_mul-class c).Start)
+
+pub overflow_add-class : goal.overflow_add-class
+overflow_add-class c = omega (arith, below (goal.at.overflow_add-class c).Start)
+
+pub count_in-position-requires : goal.count_in-position-requires
+count_in-position-requires c =
+    record {
+      class_in_bounds = rw c.count_in-arg-1.given.0.1 (below (goal.at.count_in-position-requires c).Start);
+      class_bound = count_below _ _ _ c.requires.laid _ _ _ _ c.requires.at_cell;
+    }
+
+pub offset_bounds-sizes-class : goal.offset_bounds-sizes-class
+offset_bounds-sizes-class c = omega (arith, below (goal.at.offset_bounds-sizes-class c).Start)
+
+pub bounds-sizes-class : goal.bounds-sizes-class
+bounds-sizes-class c = below (goal.at.bounds-sizes-class c).Start
+
+pub offset_bounds-offsets-class : goal.offset_bounds-offsets-class
+offset_bounds-offsets-class c = omega (arith, below (goal.at.offset_bounds-offsets-class c).Start)
+
+pub bounds-offsets-class : goal.bounds-offsets-class
+bounds-offsets-class c = below (goal.at.bounds-offsets-class c).Start
+
+pub spot_at-requires : goal.spot_at-requires
+spot_at-requires c =
+    let pre = c.requires in
+    position_some _ _ _ pre.laid _ _ _ _ pre.at_cell _ c.count_in-position.ensures.value
+
+pub returns : goal.returns
+returns c =
+    let pre = c.requires in
+    let made = c.count_in-position.ensures in
+    record {
+      spot_of = spot_is _ _ _ pre.laid _ _ _ _ pre.at_cell _ made.value _ c.spot_at.ensures;
+      holds_sizes = cell_counted _ _ _ pre.laid _ _ _ _ pre.at_cell _ _ made.value made.entry_stored;
+    }
