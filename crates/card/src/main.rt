@@ -11,7 +11,13 @@ mod run;
 mod scan;
 
 use crate::run::{MAX_ANSWER, MAX_READ, answer_card};
-use libc::{STDERR_FILENO, STDIN_FILENO, STDOUT_FILENO};
+
+// The standard streams.
+const STDIN_FILENO: i32 = 0;
+
+const STDOUT_FILENO: i32 = 1;
+
+const STDERR_FILENO: i32 = 2;
 
 fn main() {
     let mut input = [0u8; MAX_READ];
