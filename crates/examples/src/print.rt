@@ -2,8 +2,10 @@
 // every % for the next in two hexadecimal digits.
 ghost use Rattle.std.specs.Prelude.{◌<◌};
 
-use libc::STDOUT_FILENO;
 use second::answer::{FIGURES, Figures};
+
+// The standard output.
+const STDOUT_FILENO: i32 = 1;
 
 // The first forms are the names of the operations, in the order of the tally.
 pub(crate) const COMPARED: usize = 10;

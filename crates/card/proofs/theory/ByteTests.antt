@@ -50,10 +50,10 @@ module _ (P : ℕ → Bool) (s : List ℕ) (start n : ℕ) where
     next : P b ≡ test_at j
     next = ap P byte
 
-    pub tested_more : TestedTo j → not t ≡ false → TestedTo (j + 1)
+    pub tested_more : TestedTo j → t ≡ true → TestedTo (j + 1)
     tested_more x p = record { some = omega arith; each = passed_more test_at j x.each (sym next ∙ passed t (P b) p says) }
 
-    pub tested_fails : not t ≡ true → false ≡ all_below test_at n
+    pub tested_fails : t ≡ false → false ≡ all_below test_at n
     tested_fails p = failed_at test_at j n l (sym next ∙ failed t (P b) p says)
 
   pub tested_all : (j : ℕ) → TestedTo j → n ≤ j → true ≡ all_below test_at n

@@ -1,0 +1,31 @@
+-- `all_cells` meets its contract. The loop's invariant: the first j bytes are digits of cells.
+use Prim.Native.Nat.{◌-◌}
+use native.Mathlib.Omega.{arith}
+use Rattle.card.specs.Parse.{is_cell_digit}
+use Rattle.card.proofs.theory.ByteTests.{tested_none, tested_more, tested_fails, tested_all}
+use Rattle.card.proofs.body.all_cells.Goals as goal
+
+pub loop-j-init : goal.loop-j-init
+loop-j-init c = tested_none _ _ _ _
+
+pub returns-then-not-is_cell_digit : goal.returns-then-not-is_cell_digit
+returns-then-not-is_cell_digit c =
+    let a = c.args in
+    tested_fails is_cell_digit a.text.now a.start a.n _ _ _ c.loop-j-test.true c.byte_at.ensures
+    c.is_cell_digit.ensures c.if-not-is_cell_digit.true
+
+pub overflow_add-j : goal.overflow_add-j
+overflow_add-j c = omega arith
+
+pub loop-j-smaller : goal.loop-j-smaller
+loop-j-smaller c = omega arith
+
+pub loop-j-preserved : goal.loop-j-preserved
+loop-j-preserved c =
+    tested_more _ _ _ _ _ _ _ c.loop-j-test.true c.byte_at.ensures c.is_cell_digit.ensures
+    c.loop-j.invariant c.if-not-is_cell_digit.false
+
+pub returns : goal.returns
+returns c =
+    let a = c.args in
+    tested_all is_cell_digit a.text.now a.start a.n _ c.loop-j.invariant c.loop-j-test.false
