@@ -2,8 +2,8 @@
  * setting, any damage inside one window of p rows by q columns; or in a field of cells of 25 levels, where each cell of the hole or the
  * window may be read as at most 3 higher or 1 lower than it was written.
  *
- * For x86-64 with the System V calling convention. Link target/staticlib/libvarmintfoil.a, which `rt staticlib varmintfoil` writes
- * at the repository's root; it needs the C library's memset and nothing else. Header and archive must be of one version.
+ * For x86-64 with the System V calling convention. Link crates/varmintfoil/out/libvarmintfoil.a, which `rt lib` writes in
+ * crates/varmintfoil; it needs the C library's memset and nothing else. Header and archive must be of one version.
  *
  * A shape is six numbers: columns W and rows H from 1 to 256, planes D from 1 to 16, W * H * D at most 65,536, the strength t, 1 to 32
  * where D is 1 and 1 to 8 where D is above, and the rows p and columns q of a window, both 0. Or, for damage that tears across corners,

@@ -1,5 +1,4 @@
-//! Links the proved library, libvarmintfoil.a, from the folder that `VARMINTFOIL_LIB_DIR` names, or from target/staticlib at the
-//! repository's root, where `rt staticlib varmintfoil` writes it. Writes the text of the proved crates as Rust, for
+//! Links the proved library, libvarmintfoil.a, from the folder that `VARMINTFOIL_LIB_DIR` names, or from crates/varmintfoil/out, where `rt lib` writes it. Writes the text of the proved crates as Rust, for
 //! `others/same.rs`. Sets the condition `liquid` where liquid-dsp can be linked, which the benchmark alone does.
 
 #[path = "build/same.rs"]
@@ -21,13 +20,13 @@ fn main() {
     println!("cargo:rerun-if-env-changed=VARMINTFOIL_LIB_DIR");
     let folder = match std::env::var_os("VARMINTFOIL_LIB_DIR") {
         Some(named) => package.join(named),
-        None => package.parent().unwrap().join("target/staticlib"),
+        None => package.parent().unwrap().join("crates/varmintfoil/out"),
     };
     let archive = folder.join("libvarmintfoil.a");
     println!("cargo:rerun-if-changed={}", archive.display());
     if !archive.is_file() {
         eprintln!("\nThe proved library {} is not there.", archive.display());
-        eprintln!("Run `rt staticlib varmintfoil` at the repository's root, or name its folder in VARMINTFOIL_LIB_DIR.");
+        eprintln!("Run `rt lib` in crates/varmintfoil, or name its folder in VARMINTFOIL_LIB_DIR.");
         eprintln!("Without it, `cargo test --release --no-default-features` still checks the reference implementation.\n");
         std::process::exit(1);
     }

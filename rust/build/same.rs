@@ -1,5 +1,5 @@
-//! The text of the proved crates as Rust: the contracts are left out, and nothing else changes but the paths of `use`, and that
-//! each struct and enum can be copied, as in Rattle.
+//! The text of the proved crates as Rust: the contracts and what asks for a tactic are left out, and nothing else changes but the
+//! paths of `use`.
 
 use std::path::Path;
 
@@ -28,8 +28,6 @@ fn module(crates: &Path, name: &str, file: &str, depth: usize) -> String {
             rust += &format!("{head} {{\n{}}}\n", module(crates, name, &below, depth + 1));
         } else if let Some(used) = plain.strip_prefix("use ") {
             rust += &format!("{}{}\n", &code[..code.len() - used.len()], path_in_rust(name, used));
-        } else if plain.starts_with("struct ") || plain.starts_with("enum ") {
-            rust += &format!("#[derive(Clone, Copy)]\n{line}\n");
         } else {
             rust += &format!("{line}\n");
         }
@@ -37,7 +35,7 @@ fn module(crates: &Path, name: &str, file: &str, depth: usize) -> String {
     rust
 }
 
-/// The lines of a source file without what speaks to the prover: ghost items and the clauses of contracts.
+/// The lines of a source file without what speaks to the prover: ghost items, the clauses of contracts, and tactics.
 fn without_contracts(text: &str) -> Vec<&str> {
     let mut lines = Vec::new();
     let mut ghost = false;
@@ -50,7 +48,7 @@ fn without_contracts(text: &str) -> Vec<&str> {
         } else if depth > 0 || clause {
             depth += line.matches('{').count();
             depth -= line.matches('}').count();
-        } else {
+        } else if !code.starts_with("#![tactic(") && !code.starts_with("#[tactic(") {
             lines.push(line);
         }
     }

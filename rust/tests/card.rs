@@ -1,5 +1,5 @@
 //! The card program, run as a process: the worked card, a witness for each refusal and each fault of form, and generated texts against
-//! the reference implementation. `VARMINTFOIL_CARD` names the program; without it, target/bin/card at the repository's root.
+//! the reference implementation. `VARMINTFOIL_CARD` names the program; without it, crates/card/out/card.
 
 mod common;
 
@@ -12,9 +12,9 @@ use std::process::{Command, Output, Stdio};
 fn program() -> PathBuf {
     let path = match std::env::var_os("VARMINTFOIL_CARD") {
         Some(path) => PathBuf::from(path),
-        None => PathBuf::from(env!("CARGO_MANIFEST_DIR")).parent().unwrap().join("target/bin/card"),
+        None => PathBuf::from(env!("CARGO_MANIFEST_DIR")).parent().unwrap().join("crates/card/out/card"),
     };
-    assert!(path.is_file(), "the card program {} is not there: run `rt check card` at the repository's root", path.display());
+    assert!(path.is_file(), "the card program {} is not there: run `rt run` in crates/card", path.display());
     path
 }
 

@@ -56,7 +56,7 @@ fn the_commands() {
     let folder = std::env::temp_dir().join(format!("varmintfoil-readme-{}", std::process::id()));
     std::fs::create_dir_all(&folder).unwrap();
     std::fs::write(folder.join("card.c"), program("#include")).unwrap();
-    for name in ["include", "target"] {
+    for name in ["include", "crates"] {
         std::os::unix::fs::symlink(root().join(name), folder.join(name)).unwrap();
     }
     let commands = commands();

@@ -9,7 +9,7 @@ use native.Mathlib.Omega.{arith}
 use lib.IntN.{ℤ, pos, ◌+ℤ◌, +ℤ-suc_ℤ, +ℤ_idr}
 use Rattle.lattice.specs.declared.settings.Settings.{Settings}
 use Rattle.lattice.specs.declared.distance.Triple.{Triple}
-use Rattle.lattice.specs.Order.{triple, run}
+use Rattle.lattice.specs.Order.{run}
 use Rattle.lattice.specs.DistanceTest.{fails_at, after, scan, Scan}
 
 -- a scan that ends at x, and the rest of the list is not looked at

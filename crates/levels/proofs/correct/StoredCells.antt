@@ -11,7 +11,7 @@ use lib.Seq.{get_or-append-add, get_or-drop}
 use Rattle.lattice.specs.declared.shape.Shape.{Shape}
 use Rattle.lattice.specs.Shape.{max_cells, cells_of}
 use Rattle.lattice.proofs.theory.Counting.{bit, count_step, count_most}
-use Rattle.codec.specs.Field.{Field, field_of, list_of, differences}
+use Rattle.codec.specs.Field.{field_of, list_of, differences}
 use Rattle.codec.proofs.theory.FieldLists.{length_list_of}
 use Rattle.codec.proofs.theory.FilledLists.{filled_more, length_filled}
 use Rattle.levels.specs.Level.{max_level, Levels}

@@ -7,16 +7,15 @@ use mathlib.Core.List.Memᴰ
 use mathlib.Core.List.{List, [], ◌∷◌}
 use mathlib.Core.Logic.{◌≢◌, ⊎_elim}
 use mathlib.Core.Path.{◌≡◌, refl, subst⁻¹}
-use native.Mathlib.Decide.{ℕ_discrete}
 use native.Mathlib.Omega.{arith}
-use lib.Dec.{T, ltb, leb, eqb, lit<, lit≤}
+use lib.Dec.{T, ltb, leb, eqb, lit<}
 use lib.IntN.{negsuc}
 use lib.ListN.{length}
 use borrow.Author.Tests.{eqb-true, leb-true}
 use Rattle.lattice.specs.declared.shape.Shape.{Shape}
 use Rattle.lattice.specs.Counting.{all_below}
 use Rattle.lattice.specs.Range.{in_range}
-use Rattle.lattice.specs.Shape.{is_none, max_strength, size_ok, strength_ok, window_ok, shape_number, Accepted, cells_of}
+use Rattle.lattice.specs.Shape.{is_none, max_strength, size_ok, strength_ok, window_ok, shape_number, cells_of}
 use Rattle.lattice.specs.Settings.{odd_settings, flat_settings, settings_for}
 use Rattle.lattice.specs.Cell.{Cell, cell, cell_at, InField}
 use Rattle.lattice.specs.Cluster.{apart, by_column, Cluster, AtMost}

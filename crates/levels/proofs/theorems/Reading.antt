@@ -1,10 +1,9 @@
 -- Demand 2, reading: the terms of the theorems.
-use Prim.Native.Nat.{ℕ, ◌<◌, ◌≤◌}
+use Prim.Native.Nat.{ℕ}
 use mathlib.Core.List.{List}
 use mathlib.Core.Logic.{◌↔◌}
 use mathlib.Core.Path.{◌≡◌, refl, sym, ap, ◌∙◌}
 use lib.ListN.{length, get_or}
-use Rattle.lattice.specs.declared.shape.Shape.{Shape}
 use Rattle.lattice.specs.Shape.{cells_of}
 use Rattle.lattice.specs.Class.{layout_of}
 use Rattle.lattice.specs.Counting.{count}
@@ -14,11 +13,11 @@ use Rattle.codec.specs.Plan.{plan_digits}
 use Rattle.codec.proofs.theory.Accepted.{plan_digits_lem}
 use Rattle.codec.proofs.theory.Differences.{differences_same}
 use Rattle.codec.proofs.theory.FieldLists.{length_list_of, get_d_list_of}
-use Rattle.levels.specs.Level.{max_level, Levels}
+use Rattle.levels.specs.Level.{Levels}
 use Rattle.levels.specs.Payload.{holds_digit, digit_rank}
 use Rattle.levels.specs.Decode.{restored_field, levels_number, decode_levels_number, decode_levels_leaves}
 use Rattle.levels.specs.Correct.{correct_levels_number}
-use Rattle.levels.specs.Reach.{ReadableLevels, FromLawful}
+use Rattle.levels.specs.Reach.{FromLawful}
 use Rattle.levels.specs.theorems.Reading.{OneLawful, DecodeLevelsMeaning, CorrectLevelsMeaning}
 use Rattle.levels.proofs.theory.HeldDigits.{held_length, held_level, held_carries, words_same}
 use Rattle.levels.proofs.theory.LevelNumbers.{decode_number_lem, correct_number_lem, number_success, number_none}

@@ -1,7 +1,7 @@
 -- Demand 2, writing: the terms of the theorems.
 use Prim.Native.Nat.{ℕ}
 use mathlib.Core.List.{List}
-use mathlib.Core.Path.{◌≡◌, sym, ap, ◌∙◌}
+use mathlib.Core.Path.{sym, ap, ◌∙◌}
 use Rattle.lattice.specs.Class.{layout_of}
 use Rattle.lattice.specs.Digits.{digits_of}
 use Rattle.lattice.proofs.theory.Answers.{beside_zero}

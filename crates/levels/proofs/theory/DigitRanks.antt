@@ -1,7 +1,6 @@
 -- The cells that hold digits, counted in a pass over the cells.
 use Prim.Native.Nat.{ℕ, ◌+◌, ◌<◌}
 use mathlib.Core.Bool.{Bool, cond, not, ◌&&◌}
-use mathlib.Core.List.{List}
 use mathlib.Core.Path.{◌≡◌, refl, sym, ap₂, ◌∙◌}
 use native.Mathlib.Nat.{lt_of_le_of_lt}
 use lib.Dec.{eqb}

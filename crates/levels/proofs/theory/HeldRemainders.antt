@@ -18,7 +18,7 @@ use Rattle.codec.specs.Field.{Field}
 use Rattle.levels.specs.declared.spot.Spot.{Spot}
 use Rattle.levels.specs.Level.{max_level, is_level}
 use Rattle.levels.specs.Faults.{multiplier, change}
-use Rattle.levels.specs.Words.{slot, in_word, word, is_of, weighted, remainder}
+use Rattle.levels.specs.Words.{slot, in_word, is_of, weighted, remainder}
 use Rattle.levels.specs.Restored.{change_at, corrected_levels, restored, restores, fits}
 use Rattle.levels.specs.Working.{max_words, HoldsRemainders, SpotOf, LevelTaken, Remainders, change_of}
 use Rattle.levels.proofs.theory.Remainders.{weighted_zero, remainder_own, remainder_other}

@@ -1,5 +1,4 @@
 -- `all_cells` meets its contract. The loop's invariant: the first j bytes are digits of cells.
-use Prim.Native.Nat.{◌-◌}
 use native.Mathlib.Omega.{arith}
 use Rattle.card.specs.Parse.{is_cell_digit}
 use Rattle.card.proofs.theory.ByteTests.{tested_none, tested_more, tested_fails, tested_all}

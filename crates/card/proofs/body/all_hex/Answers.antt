@@ -1,5 +1,4 @@
 -- `all_hex` meets its contract. The loop's invariant: the first j bytes are hexadecimal digits.
-use Prim.Native.Nat.{◌-◌}
 use native.Mathlib.Omega.{arith}
 use Rattle.card.specs.Parse.{is_hex}
 use Rattle.card.proofs.theory.ByteTests.{tested_none, tested_more, tested_fails, tested_all}

@@ -1,6 +1,6 @@
 -- `fill_cells` meets its contract. The loop's invariant: the first i bytes of the field are cells of the rows, and the others are
 -- as they were.
-use Prim.Native.Nat.{◌+◌, ◌-◌, ◌*◌, ◌/◌, ◌≤◌, zero-le}
+use Prim.Native.Nat.{◌+◌, ◌*◌, ◌/◌, ◌≤◌, zero-le}
 use native.Mathlib.Omega.{arith}
 use lib.ListN.{length, length-set}
 use Rattle.card.proofs.theory.StoredFront.{stored_none, stored_more}

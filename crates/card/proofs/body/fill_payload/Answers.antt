@@ -1,6 +1,6 @@
 -- `fill_payload` meets its contract. The loop's invariant: the first j bytes of the payload are those of the line, and the others
 -- are as they were.
-use Prim.Native.Nat.{◌+◌, ◌-◌, ◌*◌, zero-le}
+use Prim.Native.Nat.{◌+◌, ◌*◌, zero-le}
 use mathlib.Core.Bool.{true}
 use mathlib.Core.Path.{◌≡◌, ◌∙◌}
 use native.Mathlib.Nat.{le_refl}

@@ -1,5 +1,5 @@
 -- `rows_ok` meets its contract. The loop's invariant: the first r lines are rows.
-use Prim.Native.Nat.{◌+◌, ◌-◌, ◌*◌, ◌≤◌, zero-le}
+use Prim.Native.Nat.{◌+◌, ◌*◌, ◌≤◌, zero-le}
 use native.Mathlib.Omega.{arith}
 use lib.ListN.{length}
 use Rattle.lattice.proofs.theory.Bools.{failed, passed}

@@ -1,5 +1,5 @@
 -- `digit_run` meets its contract. The loop's invariant: the first k bytes are digits.
-use Prim.Native.Nat.{◌-◌, zero-le}
+use Prim.Native.Nat.{zero-le}
 use native.Mathlib.Omega.{arith}
 use Rattle.lattice.proofs.theory.Bools.{failed, passed}
 use Rattle.card.proofs.line.Digits.{run_none, run_more, run_ends, run_full}

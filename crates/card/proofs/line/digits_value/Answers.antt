@@ -1,5 +1,5 @@
 -- `digits_value` meets its contract. The loop's invariant: the value is that of the first i digits.
-use Prim.Native.Nat.{◌-◌, ◌≤◌, zero-le, ◌<◌}
+use Prim.Native.Nat.{◌≤◌, zero-le, ◌<◌}
 use mathlib.Core.Path.{refl}
 use native.Mathlib.Omega.{arith}
 use Rattle.card.proofs.line.Digits.{digit_low, digit_high, value_room, value_more, value_all}

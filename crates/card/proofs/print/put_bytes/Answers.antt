@@ -1,5 +1,5 @@
 -- `put_bytes` meets its contract. The loop's invariant: the first i bytes are written.
-use Prim.Native.Nat.{◌-◌, zero-le}
+use Prim.Native.Nat.{zero-le}
 use mathlib.Core.Path.{refl}
 use native.Mathlib.Omega.{arith}
 use Rattle.card.proofs.theory.Printed.{prefix_none, prefix_more, prefix_index, prefix_long, prefix_all}

@@ -1,5 +1,5 @@
 -- `put_cells` meets its contract. The loop's invariant: the digits of the first i cells are written.
-use Prim.Native.Nat.{◌-◌, ◌<◌, zero-le}
+use Prim.Native.Nat.{◌<◌, zero-le}
 use native.Mathlib.Omega.{arith}
 use lib.ListN.{length}
 use Rattle.card.specs.Text.{cells_text}

@@ -1,5 +1,5 @@
 -- `put_hex` meets its contract. The loop's invariant: the digits of the first j bytes are written, and end at `next`.
-use Prim.Native.Nat.{◌+◌, ◌-◌, ◌<◌, zero-le}
+use Prim.Native.Nat.{◌+◌, ◌<◌, zero-le}
 use mathlib.Core.Path.{refl}
 use native.Mathlib.Omega.{arith}
 use lib.ListN.{length, length-set}

@@ -1,5 +1,5 @@
 -- `key_at` meets its contract. The loop's invariant: the first j bytes of the key stand at the position.
-use Prim.Native.Nat.{◌-◌, zero-le}
+use Prim.Native.Nat.{zero-le}
 use native.Mathlib.Omega.{arith}
 use Rattle.codec.proofs.theory.OneByOne.{passed_none, passed_more}
 use Rattle.card.proofs.theory.ByteTests.{key_passes, key_fails, key_all}

@@ -1,5 +1,4 @@
 -- `clear_erased` meets its contract. The loop's invariant: the cells before i are cleared.
-use Prim.Native.Nat.{◌-◌}
 use mathlib.Core.Path.{refl, sym, ◌∙◌}
 use native.Mathlib.Omega.{arith}
 use lib.ListN.{length-set}

@@ -1,5 +1,5 @@
 -- `checks_before` meets its contract. The loop's invariant: the number stands between low and high.
-use Prim.Native.Nat.{◌+◌, ◌-◌, ◌/◌, zero-le}
+use Prim.Native.Nat.{◌+◌, ◌/◌, zero-le}
 use native.Mathlib.Nat.{le_refl}
 use native.Mathlib.Omega.{arith}
 use Rattle.lattice.proofs.theory.Runs.{checks_mono, listed_before, listed_behind}

@@ -1,6 +1,6 @@
 -- `flip_bits` meets its contract. The loop's invariant: the payload has the bits of the field with the
 -- named cells of the classes below a flipped.
-use Prim.Native.Nat.{ℕ, ◌-◌, zero-le}
+use Prim.Native.Nat.{ℕ, zero-le}
 use mathlib.Core.Path.{refl, subst, ◌∙◌}
 use native.Mathlib.Nat.{le_antisymm}
 use native.Mathlib.Omega.{arith}

@@ -1,5 +1,5 @@
 -- `flip_cells` meets its contract. The loop's invariant: the named cells of the classes below a are flipped.
-use Prim.Native.Nat.{ℕ, ◌-◌, zero-le}
+use Prim.Native.Nat.{ℕ, zero-le}
 use mathlib.Core.Path.{refl, ap, ◌∙◌}
 use native.Mathlib.Nat.{le_antisymm}
 use native.Mathlib.Omega.{arith}

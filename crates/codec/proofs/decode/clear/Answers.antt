@@ -1,5 +1,4 @@
 -- `clear` meets its contract. The loop's invariant: the bytes before j are 0.
-use Prim.Native.Nat.{◌-◌}
 use mathlib.Core.Path.{refl}
 use native.Mathlib.Nat.{not-suc-le-zero}
 use native.Mathlib.Omega.{arith}

@@ -1,6 +1,6 @@
 -- `keep_ones` meets its contract. The loop's invariant: the entries of the classes before a are kept cells, and the others are as
 -- they were.
-use Prim.Native.Nat.{◌-◌, zero-le}
+use Prim.Native.Nat.{zero-le}
 use mathlib.Core.Path.{◌≡◌, refl, ap, ◌∙◌}
 use native.Mathlib.Omega.{arith}
 use lib.ListN.{get_or, length-set}

@@ -1,5 +1,5 @@
 -- `list_erasures` meets its contract. The loop's invariant: the erasures among the cells before i are listed.
-use Prim.Native.Nat.{◌+◌, ◌-◌, ◌<◌, ◌≤◌, zero-le}
+use Prim.Native.Nat.{◌+◌, ◌<◌, ◌≤◌, zero-le}
 use mathlib.Core.Bool.{true, false, true≢false}
 use mathlib.Core.Path.{◌≡◌, refl, sym, ◌∙◌}
 use native.Mathlib.Nat.{le_antisymm}

@@ -1,5 +1,5 @@
 -- `none_erased` meets its contract. The loop's invariant: none of the d cells is above `most`.
-use Prim.Native.Nat.{ℕ, ◌+◌, ◌-◌, ◌<◌, ◌≤◌, max, zero-le}
+use Prim.Native.Nat.{ℕ, ◌+◌, ◌<◌, ◌≤◌, max, zero-le}
 use mathlib.Core.Bool.{true≢false}
 use mathlib.Core.Path.{◌≡◌, sym, ap}
 use native.Mathlib.Decide.{ℕ_discrete}

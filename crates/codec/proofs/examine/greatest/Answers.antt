@@ -1,5 +1,5 @@
 -- `greatest` meets its contract. The loop's invariant: `most` is the greatest of the bytes before i.
-use Prim.Native.Nat.{◌-◌, zero-le}
+use Prim.Native.Nat.{zero-le}
 use native.Mathlib.Omega.{arith}
 use Rattle.codec.proofs.examine.Cells.{tells_none, tells_more, tells_all}
 use Rattle.codec.proofs.examine.greatest.Goals as goal

@@ -1,5 +1,4 @@
 -- What the loop of `padded_with` keeps.
-use Prim.Native.Nat.{◌-◌}
 use Rattle.lattice.specs.Class.{layout_of}
 use Rattle.codec.specs.Decode.{corrected_field}
 use Rattle.codec.specs.Field.{field_of}

@@ -1,5 +1,5 @@
 -- `fill_plane` meets its contract. The loop's invariant: the part is filled up to the run that is next.
-use Prim.Native.Nat.{◌+◌, ◌-◌, ◌≤◌}
+use Prim.Native.Nat.{◌+◌, ◌≤◌}
 use mathlib.Core.Path.{refl, ◌∙◌}
 use native.Mathlib.Nat.{le_antisymm, le_refl, le_trans}
 use native.Mathlib.Omega.{arith}

@@ -1,5 +1,5 @@
 -- `fill_planes` meets its contract. The loop's invariant: the field is filled with the planes before z.
-use Prim.Native.Nat.{◌*◌, ◌-◌, ◌≤◌, zero-le}
+use Prim.Native.Nat.{◌*◌, ◌≤◌, zero-le}
 use mathlib.Core.Path.{sym, ◌∙◌}
 use native.Mathlib.Nat.{le_refl}
 use native.Mathlib.Omega.{arith}

@@ -1,5 +1,5 @@
 -- `gather` meets its contract. The loop's invariant: the cells before `begin` are gathered, and k checks stand among them.
-use Prim.Native.Nat.{◌-◌, zero-le}
+use Prim.Native.Nat.{zero-le}
 use mathlib.Core.Path.{◌≡◌, refl, sym, subst, ◌∙◌}
 use native.Mathlib.Nat.{le_antisymm, le_of_eq}
 use native.Mathlib.Omega.{arith}

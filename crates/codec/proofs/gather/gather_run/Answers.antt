@@ -1,5 +1,4 @@
 -- `gather_run` meets its contract. The loop's invariant: the cells before i are gathered.
-use Prim.Native.Nat.{◌-◌}
 use mathlib.Core.Path.{refl, subst, ◌∙◌}
 use native.Mathlib.Nat.{le_antisymm, le_refl}
 use native.Mathlib.Omega.{arith}

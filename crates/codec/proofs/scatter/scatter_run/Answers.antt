@@ -1,5 +1,5 @@
 -- `scatter_run` meets its contract. The loop's invariant: the cells before i have their values.
-use Prim.Native.Nat.{ℕ, ◌-◌}
+use Prim.Native.Nat.{ℕ}
 use mathlib.Core.Path.{refl, subst, ◌∙◌}
 use native.Mathlib.Nat.{le_antisymm, le_refl}
 use native.Mathlib.Omega.{arith}

@@ -1,11 +1,9 @@
 -- `line_syndromes` meets its contract. The loop's invariant: the classes of the slices before j have their syndromes.
-use Prim.Native.Nat.{◌+◌, ◌-◌, zero-le}
-use mathlib.Core.Logic.{⊎_elim}
-use mathlib.Core.Path.{refl, sym, ap, subst, ◌∙◌}
+use Prim.Native.Nat.{zero-le}
+use mathlib.Core.Path.{refl, ◌∙◌}
 use native.Mathlib.Omega.{arith}
-use lib.ListN.{length}
 use Rattle.codec.specs.Field.{field_of, having}
-use Rattle.codec.proofs.syndromes.SlicesTaken.{SlicesTaken, slices_none, slice_zeros, slices_more, slices_past, slices_all}
+use Rattle.codec.proofs.syndromes.SlicesTaken.{slices_none, slice_zeros, slices_more, slices_past, slices_all}
 use Rattle.codec.proofs.syndromes.line_syndromes.Goals.{then-j-pass, else-j-pass}
 use Rattle.codec.proofs.syndromes.line_syndromes.Goals as goal
 

@@ -1,5 +1,5 @@
 -- `one_syndrome` meets its contract. The loop's invariant: the sum is the syndrome of the first i cells.
-use Prim.Native.Nat.{◌-◌, zero-le}
+use Prim.Native.Nat.{zero-le}
 use mathlib.Core.Path.{◌≡◌, refl, ap, ◌∙◌}
 use native.Mathlib.Omega.{arith}
 use Rattle.codec.specs.Field.{field_of, having}

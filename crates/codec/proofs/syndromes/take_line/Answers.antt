@@ -1,5 +1,5 @@
 -- `take_line` meets its contract. The loop's invariant: the first x cells are taken in.
-use Prim.Native.Nat.{ℕ, ◌+◌, ◌-◌, zero-le}
+use Prim.Native.Nat.{ℕ, ◌+◌, zero-le}
 use mathlib.Core.Path.{◌≡◌, refl, ap, subst}
 use native.Mathlib.Omega.{arith}
 use lib.Bits.{bit_xor}

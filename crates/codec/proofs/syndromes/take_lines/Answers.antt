@@ -1,6 +1,6 @@
 -- `take_lines` meets its contract. The loop's invariant: line l is next in the slice, and the slice's lines before it are
 -- taken in.
-use Prim.Native.Nat.{◌-◌, ◌<◌, ◌≤◌}
+use Prim.Native.Nat.{◌<◌, ◌≤◌}
 use mathlib.Core.Path.{refl, ◌∙◌}
 use native.Mathlib.Omega.{arith}
 use lib.ListN.{length}

@@ -1,6 +1,6 @@
 -- `count_starts` meets its contract. The loop's invariant: `line` is line l, and each entry is the number of lines before it that
 -- begin there.
-use Prim.Native.Nat.{◌-◌, ◌<◌, ◌≤◌, zero-le}
+use Prim.Native.Nat.{◌<◌, ◌≤◌, zero-le}
 use mathlib.Core.Path.{◌≡◌, refl, ap, ◌∙◌}
 use native.Mathlib.Omega.{arith}
 use lib.ListN.{get_or, length-set}

@@ -1,5 +1,5 @@
 -- `sizes_by_slices` meets its contract. The loop's invariant: the entries before a are set, and the others are as they were.
-use Prim.Native.Nat.{◌-◌, ◌*◌, ◌/◌, ◌%◌, ◌<◌, ◌≤◌, zero-le}
+use Prim.Native.Nat.{◌*◌, ◌/◌, ◌%◌, ◌<◌, ◌≤◌, zero-le}
 use mathlib.Core.Path.{◌≡◌, refl, ap₂}
 use native.Mathlib.Nat.{mod-lt}
 use native.Mathlib.Omega.{arith}

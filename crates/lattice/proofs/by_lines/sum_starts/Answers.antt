@@ -1,5 +1,5 @@
 -- `sum_starts` meets its contract. The loop's invariant: a is y mod m, and the entries up to y are the sums.
-use Prim.Native.Nat.{ℕ, ◌+◌, ◌-◌, ◌%◌, ◌<◌, ◌≤◌, zero-le}
+use Prim.Native.Nat.{ℕ, ◌+◌, ◌%◌, ◌<◌, ◌≤◌, zero-le}
 use mathlib.Core.Path.{refl, sym, ap}
 use native.Mathlib.Nat.{mod-lt, zero-mod}
 use native.Mathlib.Omega.{arith}

@@ -1,5 +1,5 @@
 -- `data_in` meets its contract. The loop's invariant: the sum is that of the data cells of the classes before a.
-use Prim.Native.Nat.{◌-◌, zero-le}
+use Prim.Native.Nat.{zero-le}
 use mathlib.Core.Path.{refl, ap, ◌∙◌}
 use native.Mathlib.Nat.{le_antisymm}
 use native.Mathlib.Omega.{arith}

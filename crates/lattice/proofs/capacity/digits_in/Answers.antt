@@ -1,5 +1,5 @@
 -- `digits_in` meets its contract. The loop's invariant: `words` is the number of words of the classes before a.
-use Prim.Native.Nat.{ℕ, ◌*◌, ◌-◌, zero-le}
+use Prim.Native.Nat.{ℕ, ◌*◌, zero-le}
 use mathlib.Core.Path.{refl, ap, ◌∙◌}
 use native.Mathlib.Nat.{le_antisymm}
 use native.Mathlib.Omega.{arith}

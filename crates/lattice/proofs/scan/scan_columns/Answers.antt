@@ -1,6 +1,5 @@
 -- `scan_columns` meets its contract. The loop's invariant: the scan of all columns is the scan of those that are
 -- left, after those tried.
-use Prim.Native.Nat.{◌-◌}
 use mathlib.Core.Path.{◌≡◌, refl, sym, ◌∙◌, ap}
 use native.Mathlib.Omega.{arith}
 use lib.IntN.{pos, ◌+ℤ◌}

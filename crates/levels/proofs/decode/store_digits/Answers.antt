@@ -1,6 +1,6 @@
 -- `store_digits` meets its contract. The loop's invariant: the walk is at cell i, and the counts, the rank, the digits and the
 -- word cells that differ are those of the cells before it.
-use Prim.Native.Nat.{◌-◌, ◌<◌, zero-le}
+use Prim.Native.Nat.{◌<◌, zero-le}
 use mathlib.Core.Path.{◌≡◌, refl, ◌∙◌}
 use native.Mathlib.Omega.{arith}
 use Rattle.lattice.specs.Shape.{max_cells, cells_of}

@@ -1,6 +1,6 @@
 -- `digit_remainders` meets its contract. The loop's invariant: the walk is at cell i, and the counts, the rank and the remainders
 -- are those of the cells before it.
-use Prim.Native.Nat.{◌-◌, ◌<◌, zero-le}
+use Prim.Native.Nat.{◌<◌, zero-le}
 use mathlib.Core.Path.{◌≡◌}
 use native.Mathlib.Omega.{arith}
 use Rattle.lattice.specs.Shape.{max_cells, cells_of}

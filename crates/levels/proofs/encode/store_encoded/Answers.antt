@@ -1,6 +1,6 @@
 -- `store_encoded` meets its contract. The loop's invariant: the walk is at cell i, the counts and the rank are those of the cells
 -- before it, and these are stored.
-use Prim.Native.Nat.{◌-◌, ◌<◌, zero-le}
+use Prim.Native.Nat.{◌<◌, zero-le}
 use mathlib.Core.Path.{◌≡◌}
 use native.Mathlib.Omega.{arith}
 use lib.ListN.{length, length-set}

@@ -1,6 +1,6 @@
 -- `levels_in_reach` meets its contract. The loop's invariant: the walk is at cell i, the counts are those of the cells before it,
 -- and these pass the test.
-use Prim.Native.Nat.{◌-◌, zero-le}
+use Prim.Native.Nat.{zero-le}
 use mathlib.Core.Path.{◌≡◌}
 use native.Mathlib.Omega.{arith}
 use Rattle.lattice.specs.Class.{layout_of}

@@ -1,5 +1,5 @@
 -- `levels_ok` meets its contract. The loop's invariant: the cells before i are levels.
-use Prim.Native.Nat.{◌-◌, zero-le}
+use Prim.Native.Nat.{zero-le}
 use native.Mathlib.Omega.{arith}
 use Rattle.codec.proofs.theory.OneByOne.{passed_none, passed_more}
 use Rattle.levels.proofs.examine.Tests.{level_passes, level_fails, levels_pass}

@@ -1,6 +1,6 @@
 -- `field_remainders` meets its contract. The loop's invariant: the walk is at cell i, and the counts and the remainders are
 -- those of the cells before it.
-use Prim.Native.Nat.{◌-◌, zero-le}
+use Prim.Native.Nat.{zero-le}
 use mathlib.Core.Path.{refl}
 use native.Mathlib.Omega.{arith}
 use Rattle.levels.proofs.theory.HeldRemainders.{remainders_none, remainders_more, remainders_all}

@@ -1,6 +1,6 @@
 -- `word_offsets` meets its contract. The loop's invariant: the sum is that of the words of the classes before a, and the entries
 -- before a are stored.
-use Prim.Native.Nat.{ℕ, ◌-◌, ◌≤◌, zero-le}
+use Prim.Native.Nat.{ℕ, ◌≤◌, zero-le}
 use mathlib.Core.Path.{refl, ap, ◌∙◌}
 use native.Mathlib.Nat.{le_antisymm, lt_of_lt_of_le, not-suc-le-zero}
 use native.Mathlib.Omega.{arith}

@@ -1,7 +1,6 @@
 -- `cells_at` meets its contract.
 use native.Mathlib.Omega.{arith}
 use mathlib.Core.Path.{◌≡◌, refl, ◌∙◌}
-use native.Mathlib.Nat.{le_refl}
 use Rattle.lattice.specs.Shape.{Accepted}
 use Rattle.lattice.specs.Lines.{pass_of}
 use Rattle.lattice.proofs.theory.Answers.{some_number, told, told_none}

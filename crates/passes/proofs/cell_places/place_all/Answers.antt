@@ -1,5 +1,5 @@
 -- `place_all` meets its contract. The loop's invariant: the entries of the classes before a are their cells.
-use Prim.Native.Nat.{◌-◌, ◌≤◌, zero-le}
+use Prim.Native.Nat.{◌≤◌, zero-le}
 use mathlib.Core.Path.{refl}
 use native.Mathlib.Omega.{arith}
 use lib.ListN.{length-set}

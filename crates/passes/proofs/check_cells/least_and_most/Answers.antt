@@ -1,5 +1,5 @@
 -- `least_and_most` meets its contract. The loop's invariant: the entries before a are from `low` to `high`.
-use Prim.Native.Nat.{◌-◌, zero-le}
+use Prim.Native.Nat.{zero-le}
 use native.Mathlib.Omega.{arith}
 use Rattle.passes.proofs.check_cells.LeastMost.{least_more, most_more}
 use Rattle.passes.proofs.check_cells.least_and_most.Goals as goal

@@ -1,6 +1,6 @@
 -- `list_lines` meets its contract. The loop's invariant: `line` is line l, the lines before it are listed, and
 -- no class reaches a power of two in the lines that are said to be free.
-use Prim.Native.Nat.{ℕ, ◌*◌, ◌-◌, zero-le}
+use Prim.Native.Nat.{ℕ, ◌*◌, zero-le}
 use mathlib.Core.Path.{◌≡◌, subst}
 use native.Mathlib.Omega.{arith}
 use Rattle.lattice.specs.Class.{layout_of}
