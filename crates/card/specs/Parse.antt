@@ -1,6 +1,7 @@
 -- How a card text is read: what stands at a position of the input. `get_or s i 0` is byte i, and 0, which no card text has, past
 -- the end.
-use Rattle.std.specs.Prelude.{ℕ, zero, suc, ◌+◌, ◌-◌, ◌*◌, ◌/◌, ◌%◌, Bool, false, cond, not, ◌&&◌, ◌||◌, List, [], ◌∷◌, ◌++◌, leb, ltb, eqb, length, get_or}
+use Rattle.std.specs.Prelude.{ℕ, zero, suc, ◌+◌, ◌-◌, ◌*◌, ◌/◌, ◌%◌, Bool, false, cond, not, ◌&&◌, ◌||◌, List, [], ◌∷◌, ◌++◌, leb}
+use Rattle.std.specs.Prelude.{ltb, eqb, length, get_or}
 use Rattle.lattice.specs.Range.{in_range}
 use Rattle.lattice.specs.Counting.{all_below}
 use Rattle.codec.specs.Field.{list_of, is_received}
@@ -107,7 +108,8 @@ payload_ok s at =
 unfoldable pub payload_of : List ℕ → ℕ → List ℕ
 payload_of s at =
     list_of
-    (λ j. hex_value (get_or s (at + length payload_key + 2 * j) 0) * 16 + hex_value (get_or s (at + length payload_key + 2 * j + 1) 0))
+    (λ j. hex_value (get_or s (at + length payload_key + 2 * j) 0) * 16
+    + hex_value (get_or s (at + length payload_key + 2 * j + 1) 0))
     (hex_count s at / 2)
 
 -- where row r of w digits starts, and the byte of cell i

@@ -8,7 +8,8 @@ use Rattle.codec.specs.Decode.{decode_number, decode_count, decode_leaves}
 use Rattle.card.specs.declared.header.Header.{Header}
 use Rattle.card.specs.declared.header.HeaderAnswer.{HeaderAnswer}
 use Rattle.card.specs.declared.header.HeaderAnswer.TheVariants as head
-use Rattle.card.specs.Text.{number_line, header_text, payload_text, field_text, refusal_text, classes_key, mended_key, payload_key}
+use Rattle.card.specs.Text.{number_line, header_text, payload_text, field_text, refusal_text, classes_key, mended_key}
+use Rattle.card.specs.Text.{payload_key}
 use Rattle.card.specs.Card.{max_input, max_card_cells, shape_of}
 use Rattle.card.specs.Parse.{header_of, key_at, payload_ok, payload_of, rows_ok, cells_of_rows}
 
@@ -68,7 +69,8 @@ read_text h cells =
 -- a success; a fault in the first lines is none, and is refused with 8 before this is asked
 unfoldable pub success_text : List ℕ → HeaderAnswer → List ℕ
 success_text s head.Fault = refusal_text 8
-success_text s (head.Found h next) = cond (is_payload s next) (written_text h (payload_of s next)) (read_text h (cells_in s h next))
+success_text s (head.Found h next) =
+    cond (is_payload s next) (written_text h (payload_of s next)) (read_text h (cells_in s h next))
 
 -- the answer to an input
 unfoldable pub answer : List ℕ → List ℕ

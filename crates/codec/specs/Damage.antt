@@ -56,5 +56,6 @@ pub record Recovered (s : Shape) (p F G buffer : List ℕ) : Type 0 where
 -- them are less than t apart
 pub record WithinPromise (s : Shape) (before after : List ℕ) : Type 0 where
   pub few : differences (field_of before) (field_of after) (cells_of s) ≤ s.strength
-  pub near : (i j : ℕ) → i < cells_of s → j < cells_of s → field_of before i ≢ field_of after i → field_of before j ≢ field_of after j
+  pub near : (i j : ℕ) → i < cells_of s → j < cells_of s
+      → field_of before i ≢ field_of after i → field_of before j ≢ field_of after j
       → distance (cell_at s i) (cell_at s j) < s.strength

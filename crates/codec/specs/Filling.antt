@@ -1,6 +1,7 @@
 -- The data cells of a field, filled plane by plane and run by run, and then its checks. Only contracts of functions that are
 -- private to the crate cite this file: among them the plane filler's, `Filled`.
-use Rattle.std.specs.Prelude.{ℕ, ◌+◌, ◌-◌, ◌*◌, ◌/◌, ◌%◌, ◌^◌, ◌<◌, ◌≤◌, false, cond, List, ◌++◌, ◌⊎◌, ◌≡◌, ltb, length, get_or, drop}
+use Rattle.std.specs.Prelude.{ℕ, ◌+◌, ◌-◌, ◌*◌, ◌/◌, ◌%◌, ◌^◌, ◌<◌, ◌≤◌, false, cond, List, ◌++◌, ◌⊎◌, ◌≡◌, ltb, length, get_or}
+use Rattle.std.specs.Prelude.{drop}
 use Rattle.lattice.specs.declared.shape.Shape.{Shape}
 use Rattle.lattice.specs.Shape.{max_cells, Accepted, cells_of}
 use Rattle.lattice.specs.Class.{layout_of}

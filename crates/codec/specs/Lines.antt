@@ -25,7 +25,8 @@ Taken L m first f t n = (a : ℕ) → a < m → folded m a (length t) t ≡ synd
 
 -- a line of w cells that begins at cell n is taken in: each product of position and cell, from the place `start` on
 pub record LineTaken (f : Field) (start n w : ℕ) (e before after : List ℕ) : Type 0 where
-  pub own : (x : ℕ) → x < w → get_or after (start + x) 0 ≡ bit_xor (get_or before (start + x) 0) (get_or e (start + x) 0 * f (n + x))
+  pub own : (x : ℕ) → x < w
+      → get_or after (start + x) 0 ≡ bit_xor (get_or before (start + x) 0) (get_or e (start + x) 0 * f (n + x))
   pub below : (y : ℕ) → y < start → get_or after y 0 ≡ get_or before y 0
   pub above : (y : ℕ) → start + w ≤ y → get_or after y 0 ≡ get_or before y 0
 

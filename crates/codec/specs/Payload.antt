@@ -1,5 +1,6 @@
 -- Payload, padding and checks, for any layout of cells: the field of a payload and a padding, and the payload a field holds.
-use Rattle.std.specs.Prelude.{ℕ, zero, suc, ◌+◌, ◌-◌, ◌*◌, ◌/◌, ◌%◌, ◌^◌, ◌<◌, ◌≤◌, Bool, true, cond, not, ◌&&◌, ◌||◌, List, ◌⊎◌, ◌≡◌, leb, ltb, eqb, get_or}
+use Rattle.std.specs.Prelude.{ℕ, zero, suc, ◌+◌, ◌-◌, ◌*◌, ◌/◌, ◌%◌, ◌^◌, ◌<◌, ◌≤◌, Bool, true, cond, not, ◌&&◌, ◌||◌, List, ◌⊎◌}
+use Rattle.std.specs.Prelude.{◌≡◌, leb, ltb, eqb, get_or}
 use Rattle.lattice.specs.Position.{Layout, position}
 use Rattle.lattice.specs.Check.{holds_data, capacity}
 use Rattle.lattice.specs.Counting.{count, all_below}

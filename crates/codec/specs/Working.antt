@@ -126,7 +126,8 @@ pub record Located (s : Shape) (field damaged first second : List ℕ) : Type 0 
   pub counted : count (names damaged) (classes_of s) + count (is_erased (field_of field)) (cells_of s)
       ≡ corrected_count s (field_of field)
   pub reaches : (a : ℕ) → a < classes_of s
-      → reached_by (syndrome (layout_of s) (tags_at s) (field_of field) a) (get_or damaged a 0) (get_or first a 0) (get_or second a 0)
+      → reached_by (syndrome (layout_of s) (tags_at s) (field_of field) a)
+      (get_or damaged a 0) (get_or first a 0) (get_or second a 0)
       ≡ in_reach (layout_of s) (tags_at s) (field_of field) a
 
 -- a field that passes its tests: the arrays say what correction flips, and the erased cells are counted

@@ -8,7 +8,8 @@ use Rattle.codec.specs.declared.decode.DecodeAnswer.{DecodeAnswer}
 use Rattle.codec.specs.declared.decode.DecodeAnswer.TheVariants as dec
 use Rattle.codec.specs.declared.correct.CorrectAnswer.{CorrectAnswer}
 use Rattle.codec.specs.declared.correct.CorrectAnswer.TheVariants as cor
-use Rattle.codec.specs.Answer.{encode_answer_number, decode_answer_number, decode_answer_count, correct_answer_number, correct_answer_count}
+use Rattle.codec.specs.Answer.{encode_answer_number, decode_answer_number, decode_answer_count, correct_answer_number}
+use Rattle.codec.specs.Answer.{correct_answer_count}
 use Rattle.levels.specs.Encode.{encode_levels_number, encode_levels_leaves}
 use Rattle.levels.specs.Decode.{decode_levels_number, decode_levels_count, decode_levels_leaves}
 use Rattle.levels.specs.Correct.{correct_levels_number, correct_levels_count, correct_levels_leaves}

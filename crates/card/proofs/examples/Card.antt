@@ -20,7 +20,8 @@ use Rattle.codec.specs.Encode.{encoded_field}
 use Rattle.codec.specs.Damage.{erased_field}
 use Rattle.codec.proofs.examples.Coding.{accepted, payload, payload_long, payload_bytes_lem, written_from}
 use Rattle.codec.proofs.examples.Erased.{is_mate, mates_selected}
-use Rattle.codec.proofs.examples.Windows.{window_payload, window_payload_long, window_payload_bytes, window_written, window_from_lem}
+use Rattle.codec.proofs.examples.Windows.{window_payload, window_payload_long, window_payload_bytes, window_written}
+use Rattle.codec.proofs.examples.Windows.{window_from_lem}
 use Rattle.codec.proofs.examples.Windows.{is_edge, window_selected, window_damaged, is_either, windows_selected, windows_erased}
 use Rattle.card.specs.declared.header.Header.{Header}
 use Rattle.card.specs.declared.header.HeaderAnswer.TheVariants as head

@@ -40,19 +40,21 @@ module _ (count : ℕ) (r : Lines) (x : LinesRead) (says : read_lines count r �
 
 -- the lines of the window are read
 module _ (s : List ℕ) (at : ℕ) where
-  pub window_left : any_key_at (keys_from 4 2) s at ≡ false → answer.Found sides.Absent at ≡ window_read (optional_at window_keys s at)
+  pub window_left : any_key_at (keys_from 4 2) s at ≡ false → answer.Found sides.Absent at ≡ window_read
+      (optional_at window_keys s at)
   unfolding keys_from optional_at
   window_left e = rw e
 
-  module _ (some : any_key_at (keys_from 4 2) s at ≡ true) (r : Lines) (says : read_lines 2 r ≡ lines_at (keys_from 4 2) s at) where
-    pub window_fault : r.found ≡ false → answer.Fault ≡ window_read (optional_at window_keys s at)
-    unfolding keys_from optional_at
-    window_fault e = rw (some, says_fault 2 r _ says e)
+  module _ (some : any_key_at (keys_from 4 2) s at ≡ true) (r : Lines) (says : read_lines 2 r ≡ lines_at (keys_from 4 2) s at)
+    where
+      pub window_fault : r.found ≡ false → answer.Fault ≡ window_read (optional_at window_keys s at)
+      unfolding keys_from optional_at
+      window_fault e = rw (some, says_fault 2 r _ says e)
 
-    pub window_given : r.found ≡ true
-        → answer.Found (window_from (list_of (field_of r.numbers) 2)) r.next ≡ window_read (optional_at window_keys s at)
-    unfolding keys_from optional_at
-    window_given e = rw (some, says_read 2 r _ says e)
+      pub window_given : r.found ≡ true
+          → answer.Found (window_from (list_of (field_of r.numbers) 2)) r.next ≡ window_read (optional_at window_keys s at)
+      unfolding keys_from optional_at
+      window_given e = rw (some, says_read 2 r _ says e)
 
 -- the lines that every header has are read, and then those of the window
 module _ (s : List ℕ) (r : Lines) (says : read_lines 4 r ≡ lines_at (keys_from 0 4) s 0) where

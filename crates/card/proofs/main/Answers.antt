@@ -20,4 +20,5 @@ slice_bounds-output-end c = within (goal.at.slice_bounds-output-end c).After-ans
 
 pub slice_bounds-write_all-end : goal.slice_bounds-write_all-end
 slice_bounds-write_all-end c =
-    sym (length-take-le _ c.answer_card-length.new.output (within (goal.at.slice_bounds-write_all-end c).After-answer_card-length))
+    sym (length-take-le _ c.answer_card-length.new.output (within (goal.at.slice_bounds-write_all-end
+    c).After-answer_card-length))

@@ -45,7 +45,8 @@ digits_last (suc k) n p = let e : suc k - 1 ≡ k = omega arith in rw e
 
 -- the rows: one row more behind them
 rows_last : (w k : ℕ) (cells : List ℕ) → rows_text w (suc k) cells ≡ rows_text w k cells ++ row_text (take w (drop (k * w) cells))
-rows_last w zero cells = append-nil (row_text (take w cells)) ∙ ap (λ (m : ℕ). row_text (take w (drop m cells))) (sym (zero-mul w))
+rows_last w zero cells = append-nil (row_text (take w cells)) ∙ ap (λ (m : ℕ). row_text (take w (drop m cells)))
+    (sym (zero-mul w))
 rows_last w (suc k) cells =
     let far : w + k * w ≡ suc k * w = omega arith in
     let rest : rows_text w (suc k) (drop w cells)

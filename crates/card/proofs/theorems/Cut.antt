@@ -8,7 +8,8 @@ use Rattle.codec.specs.Plan.{plan_classes}
 use Rattle.codec.specs.Encode.{encoded_field}
 use Rattle.codec.specs.Decode.{decode_count, decode_leaves}
 use Rattle.card.specs.declared.header.Header.{Header}
-use Rattle.card.specs.Text.{number_line, header_text, payload_text, field_text, refusal_text, classes_key, mended_key, refusal_key}
+use Rattle.card.specs.Text.{number_line, header_text, payload_text, field_text, refusal_text, classes_key, mended_key}
+use Rattle.card.specs.Text.{refusal_key}
 use Rattle.card.specs.Card.{shape_of, CardHeader}
 use Rattle.card.specs.Program.{program_number, written_text, read_text, answer, blank_payload}
 use Rattle.card.specs.Form.{OneOfThree}
@@ -145,13 +146,15 @@ cut_answer s t cut (OneOfThree.written h p ch _ _ _ _ b) (OneOfThree.read k d ck
 cut_answer s t cut (OneOfThree.read h c ch _ _ _ b) (OneOfThree.written k q ck _ _ _ _ a) e =
     absurd (written_read h k ch ck cut q c (sym a ∙ e ∙ ap (λ (l : List ℕ). l ++ cut) b))
 cut_answer s t cut (OneOfThree.written h p ch _ _ _ _ b) (OneOfThree.refused _ a) e =
-    let alike = begin_alike (refusal_text (program_number t)) (written_text h p) cut (sym a ∙ e ∙ ap (λ (l : List ℕ). l ++ cut) b) in
+    let alike = begin_alike (refusal_text (program_number t)) (written_text h p) cut (sym a ∙ e ∙ ap (λ (l : List ℕ). l ++ cut)
+    b) in
     absurd (omega (arith, alike, first_refusal (program_number t) [], first_written h p cut))
 cut_answer s t cut (OneOfThree.read h c ch _ _ _ b) (OneOfThree.refused _ a) e =
     let alike = begin_alike (refusal_text (program_number t)) (read_text h c) cut (sym a ∙ e ∙ ap (λ (l : List ℕ). l ++ cut) b) in
     absurd (omega (arith, alike, first_refusal (program_number t) [], first_read h c cut))
 cut_answer s t cut (OneOfThree.refused _ b) (OneOfThree.written k q ck _ _ _ _ a) e =
-    let alike = begin_alike (written_text k q) (refusal_text (program_number s)) cut (sym a ∙ e ∙ ap (λ (l : List ℕ). l ++ cut) b) in
+    let alike = begin_alike (written_text k q) (refusal_text (program_number s)) cut (sym a ∙ e ∙ ap (λ (l : List ℕ). l ++ cut)
+    b) in
     absurd (omega (arith, alike, first_written k q [], first_refusal (program_number s) cut))
 cut_answer s t cut (OneOfThree.refused _ b) (OneOfThree.read k d ck _ _ _ a) e =
     let alike = begin_alike (read_text k d) (refusal_text (program_number s)) cut (sym a ∙ e ∙ ap (λ (l : List ℕ). l ++ cut) b) in

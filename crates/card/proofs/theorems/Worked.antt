@@ -105,7 +105,8 @@ unfolding
     encode_number field_with
     field_number corrected_count decode_number decode_count decode_leaves
     digit_count decimal number_line header_text hex_digit payload_text cells_text row_text field_text refusal_text
-    key_at number_ends number_at line_at optional_at header_of is_hex hex_value payload_ok payload_of is_cell_digit row_ok rows_ok cells_of_rows
+    key_at number_ends number_at line_at optional_at header_of is_hex hex_value payload_ok payload_of is_cell_digit row_ok
+    rows_ok cells_of_rows
     body_ok operation_number number_after program_number written_text read_text success_text answer
 program_examples =
     record {

@@ -86,7 +86,8 @@ pub field_key : (before : List ℕ) (h : Header) (cells : List ℕ) → 0 < h.pl
     → is_payload (before ++ field_text h cells) (length before) ≡ false
 unfolding field_text key_at
 field_key before h cells l =
-    fails_below (λ j. eqb (get_or (before ++ field_text h cells) (length before + j) 0) (get_or payload_key j 0)) 0 8 (omega arith)
+    fails_below (λ j. eqb (get_or (before ++ field_text h cells) (length before + j) 0) (get_or payload_key j 0)) 0 8
+    (omega arith)
     (rw (get_or-append-add before (field_text h cells) 0 0 ∙ first_byte h.columns (rows_of h) cells l))
 
 pub field_not_payload : (h : Header) (cells p : List ℕ) → 0 < h.planes * h.rows

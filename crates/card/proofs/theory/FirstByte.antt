@@ -28,7 +28,13 @@ payload_other p =
 
 pub rows_other : (h : Header) (cells : List ℕ) → 0 < h.planes * h.rows → NoWindowLine (field_text h cells)
 rows_other h cells some =
-    other_byte (field_text h cells) (λ e. omega (arith, e, ap first (append-nil (field_text h cells)), first_rows h cells [] some))
+    other_byte (field_text h cells) (λ e. omega (
+      arith,
+      e,
+      ap first (append-nil (field_text h cells)),
+      first_rows h cells []
+          some,
+    ))
 
 -- nor are they where more stands behind them
 pub body_other : (h : Header) (rest more : List ℕ) → 0 < h.planes * h.rows → Body h rest → NoWindowLine (rest ++ more)

@@ -71,13 +71,25 @@ module _ (s : List ℕ) (at : ℕ) where
         pub payload_odd : (hex_count s at % 2 ≡ 0 → ⊥) → false ≡ payload_ok s at
         unfolding payload_ok
         payload_odd p =
-            rw (key, lt-ltb (at + 8) (length s) fits, eq-eqb (get_or s (length s - 1) 0) 10 ended, ne_eqb (hex_count s at % 2) 0 p)
+            rw (
+              key,
+              lt-ltb (at + 8) (length s) fits,
+              eq-eqb (get_or s (length s - 1) 0) 10 ended,
+              ne_eqb (hex_count s at % 2) 0
+                  p,
+            )
 
         pub payload_digits : hex_count s at % 2 ≡ 0 → (t : Bool)
             → t ≡ all_below (λ j. is_hex (get_or s (at + 8 + j) 0)) (hex_count s at) → t ≡ payload_ok s at
         unfolding payload_ok
         payload_digits p t e =
-            rw (key, lt-ltb (at + 8) (length s) fits, eq-eqb (get_or s (length s - 1) 0) 10 ended, eq-eqb (hex_count s at % 2) 0 p) e
+            rw (
+              key,
+              lt-ltb (at + 8) (length s) fits,
+              eq-eqb (get_or s (length s - 1) 0) 10 ended,
+              eq-eqb (hex_count s at % 2) 0
+                  p,
+            ) e
 
 -- the bytes of the payload, stored one by one
 module _ (s : List ℕ) (at : ℕ) where

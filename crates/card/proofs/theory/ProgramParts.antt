@@ -16,7 +16,8 @@ use Rattle.card.specs.declared.header.HeaderAnswer.TheVariants as head
 use Rattle.card.specs.Text.{refusal_text}
 use Rattle.card.specs.Card.{max_input, max_card_cells, shape_of, CardHeader}
 use Rattle.card.specs.Parse.{header_of, payload_ok, payload_of}
-use Rattle.card.specs.Program.{blank_field, blank_payload, is_payload, rows_fit, cells_in, body_ok, operation_number, number_after}
+use Rattle.card.specs.Program.{blank_field, blank_payload, is_payload, rows_fit, cells_in, body_ok, operation_number}
+use Rattle.card.specs.Program.{number_after}
 use Rattle.card.specs.Program.{program_number, written_text, read_text, success_text, answer}
 
 -- the buffers that are lent have the plan's lengths
@@ -65,7 +66,8 @@ unfolding answer
 answer_refused s other = beside_other (program_number s) _ _ other
 
 -- an input that passes every test but the operation's own has the operation's number
-pub number_operation : (s : List ℕ) (h : Header) (next : ℕ) → length s ≤ max_input → header_of s ≡ head.Found h next → CardHeader h
+pub number_operation : (s : List ℕ) (h : Header) (next : ℕ) → length s ≤ max_input → header_of s ≡ head.Found h next →
+    CardHeader h
     → body_ok s h next ≡ true → program_number s ≡ operation_number s h next
 unfolding program_number number_after
 number_operation s h next short found card right =

@@ -57,7 +57,8 @@ module _ (s : List ℕ) (h : Header) (next : ℕ) (found : header_of s ≡ head.
 
   pub cells_condition : Decides (leb (cells_of (shape_of h)) max_card_cells) (TooManyCells s)
   cells_condition =
-      decides_same (start_condition (λ g r. max_card_cells < cells_of (shape_of g))) (at_most (cells_of (shape_of h)) max_card_cells)
+      decides_same (start_condition (λ g r. max_card_cells < cells_of (shape_of g))) (at_most (cells_of (shape_of h))
+      max_card_cells)
 
   module _ (card : CardHeader h) where
     -- the form of the later lines is that of what follows the header's text

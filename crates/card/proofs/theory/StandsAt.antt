@@ -89,7 +89,8 @@ key_at_lem key s at p = all_below_lem _ (length key) (λ j l. eq-eqb (get_or s (
 pub at_key : (key s : List ℕ) (at : ℕ) → key_at key s at ≡ true → StandsAt key s at
 unfolding key_at
 at_key key s at p j l =
-    eqb-true (get_or s (at + j) 0) (get_or key j 0) (below_all (λ i. eqb (get_or s (at + i) 0) (get_or key i 0)) (length key) p j l)
+    eqb-true (get_or s (at + j) 0) (get_or key j 0) (below_all (λ i. eqb (get_or s (at + i) 0) (get_or key i 0)) (length key) p
+    j l)
 
 -- a text of one byte
 pub stands_one : (s : List ℕ) (at b : ℕ) → get_or s at 0 ≡ b → StandsAt (b ∷ []) s at

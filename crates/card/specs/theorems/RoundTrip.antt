@@ -35,7 +35,8 @@ pub record PrintedIsRead : Type 1 where
       → (selected : Cell → Bool) → ((x : Cell) → selected x ≡ true → S x)
       → answer (field_card h (damaged_field (shape_of h) F selected))
       ≡ header_text h
-      ++ (number_line mended_key (differences (field_of F) (field_of (damaged_field (shape_of h) F selected)) (cells_of (shape_of h)))
+      ++ (number_line mended_key
+      (differences (field_of F) (field_of (damaged_field (shape_of h) F selected)) (cells_of (shape_of h)))
       ++ payload_text p)
 
 -- Theorem. With any cells of any two clusters of at most t cells each printed as 2, and all others as they were written, now or
@@ -58,7 +59,8 @@ pub record WindowIsRead : Type 0 where
       → (r c : ℤ) (selected : Cell → Bool) → ((x : Cell) → selected x ≡ true → InWindow (window_of h.window) r c x)
       → answer (field_card h (damaged_field (shape_of h) F selected))
       ≡ header_text h
-      ++ (number_line mended_key (differences (field_of F) (field_of (damaged_field (shape_of h) F selected)) (cells_of (shape_of h)))
+      ++ (number_line mended_key
+      (differences (field_of F) (field_of (damaged_field (shape_of h) F selected)) (cells_of (shape_of h)))
       ++ payload_text p)
   pub erased : (h : Header) → CardHeader h → h.strength ≡ 0
       → (p F : List ℕ) → length p ≡ plan_bytes (shape_of h) → Bytes p → WrittenFrom (shape_of h) p F

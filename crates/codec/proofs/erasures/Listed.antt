@@ -122,13 +122,15 @@ module _ (s : Shape) (accepted : Accepted s) (f : Field) where
   few_true : ((a : ℕ) → a < classes_of s → erasures (layout_of s) f a ≤ 2) → field_few_erasures s f ≡ true
   unfolding few_erasures
   few_true p =
-      all_below_lem (λ a. leb (erasures (layout_of s) f a) 2) (classes_of s) (λ a l. le-leb (erasures (layout_of s) f a) 2 (p a l))
+      all_below_lem (λ a. leb (erasures (layout_of s) f a) 2) (classes_of s) (λ a l. le-leb (erasures (layout_of s) f a) 2
+      (p a l))
 
   -- as where no cell is erased, and where all erasures are listed
   pub plain_few : Cells f (cells_of s) → field_few_erasures s f ≡ true
   plain_few p = few_true (λ a l. cells_few (layout_of s) f p a)
 
-  pub listed_few : (first second : List ℕ) → ListsErasures (layout_of s) f (cells_of s) first second → field_few_erasures s f ≡ true
+  pub listed_few : (first second : List ℕ) → ListsErasures (layout_of s) f (cells_of s) first second → field_few_erasures s f ≡
+      true
   listed_few first second p =
       few_true (λ a l.
       few_listed (layout_of s) f a (cells_of s) _ _ (p.at a (lt_of_lt_of_le l (classes_limit s accepted))))

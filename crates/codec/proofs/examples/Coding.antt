@@ -50,7 +50,8 @@ payload = 165 ∷ []
 pub payload_long : length payload ≡ plan_bytes field
 unfolding
     plan_bytes plan_capacity shape_number size_ok strength_ok window_ok is_none max_strength in_range
-    capacity holds_data size_to position is_power is_check cell_at class_of class_with minus_mod settings_for flat_settings odd_settings
+    capacity holds_data size_to position is_power is_check cell_at class_of class_with minus_mod settings_for flat_settings
+    odd_settings
 payload_long = refl
 
 pub payload_bytes_lem : Bytes payload
@@ -168,13 +169,15 @@ plan_refused_lem e = omega (arith, e)
 pub encode_refused_lem : encode_number field [] [] ≢ 0
 unfolding
     encode_number plan_bytes plan_capacity plan_cells shape_number size_ok strength_ok window_ok is_none max_strength in_range
-    capacity holds_data size_to position is_power is_check cell_at class_of class_with minus_mod settings_for flat_settings odd_settings
+    capacity holds_data size_to position is_power is_check cell_at class_of class_with minus_mod settings_for flat_settings
+    odd_settings
 encode_refused_lem e = omega (arith, e)
 
 pub decode_refused_lem : decode_number field [] [] ≢ 0
 unfolding
     decode_number plan_bytes plan_capacity plan_cells shape_number size_ok strength_ok window_ok is_none max_strength in_range
-    capacity holds_data size_to position is_power is_check cell_at class_of class_with minus_mod settings_for flat_settings odd_settings
+    capacity holds_data size_to position is_power is_check cell_at class_of class_with minus_mod settings_for flat_settings
+    odd_settings
 decode_refused_lem e = omega (arith, e)
 
 pub correct_refused_lem : correct_number field [] ≢ 0
@@ -188,10 +191,12 @@ corners =
 
 pub corners_beyond : ¬ WithinPromise field corners (correct_leaves field corners)
 unfolding
-    correct_leaves correct_number field_number cells_ok is_cell is_received few_erasures all_in_reach in_reach tags_of corrected flipped
+    correct_leaves correct_number field_number cells_ok is_cell is_received few_erasures all_in_reach in_reach tags_of corrected
+    flipped
     filled erasures_to padded_with padding_ok padding earlier_padding payload_bytes rank plan_cells shape_number size_ok
     strength_ok window_ok is_none max_strength in_range capacity
-    holds_data size_to position is_power is_check cell_at classes_of class_of class_with minus_mod settings_for flat_settings odd_settings
+    holds_data size_to position is_power is_check cell_at classes_of class_of class_with minus_mod settings_for flat_settings
+    odd_settings
     distance apart
 corners_beyond told =
     let far : ◌<◌ 8 3 = told.near 0 24 (lit< tt) (lit< tt) (λ e. omega (arith, e)) (λ e. omega (arith, e)) in omega (arith, far)

@@ -71,7 +71,8 @@ window_damaged = damaged_field window_field window_written is_edge
 
 pub window_recovered : Recovered window_field window_payload window_written window_damaged window_payload
 window_recovered =
-    window_recovery window_field window_accepted window_rules window_payload window_written window_payload_long window_payload_bytes
+    window_recovery window_field window_accepted window_rules window_payload window_written window_payload_long
+    window_payload_bytes
     window_from_lem (negsuc 0) (negsuc 0) is_edge window_selected window_payload window_payload_long
 
 -- a cell of the class of the first, in the window at row 4 and column 5, which hangs over the other two edges
@@ -102,7 +103,8 @@ abbrev pub windows_erased : List ℕ
 windows_erased = erased_field window_field window_written is_either
 
 pub windows_refilled : Recovered window_field window_payload window_written windows_erased window_payload
-    × (differences (field_of window_written) (field_of windows_erased) (cells_of window_field) ≡ selected_cells window_field is_either)
+    × (differences (field_of window_written) (field_of windows_erased) (cells_of window_field) ≡ selected_cells window_field
+    is_either)
 windows_refilled =
     window_refill window_field window_accepted window_rules window_payload window_written window_payload_long window_payload_bytes
     window_from_lem (negsuc 0) (negsuc 0) (pos 4) (pos 5) is_either windows_selected window_payload window_payload_long
@@ -124,5 +126,6 @@ patch_from = inr refl
 pub diagonal_recovered :
     Recovered patch_field payload patch_written (damaged_field patch_field patch_written is_diagonal) payload
 diagonal_recovered =
-    patch_recovery patch_field patch_accepted patch_rules 3 patch_square payload patch_written patch_payload_long payload_bytes_lem
+    patch_recovery patch_field patch_accepted patch_rules 3 patch_square payload patch_written patch_payload_long
+    payload_bytes_lem
     patch_from OfDiagonal diagonal_patch diagonal_few is_diagonal diagonal_selected payload patch_payload_long

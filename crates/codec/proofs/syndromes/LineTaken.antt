@@ -44,7 +44,8 @@ xor_from g j zero = ap (xor_below g) (add-zero j) ∙ sym (xor_zero_r (xor_below
 xor_from g j (suc w) =
     simp
     unary_clauses
-    (ap (λ (x : ℕ). bit_xor x (g (j + w))) (xor_from g j w) ∙ xor_assoc (xor_below g j) (xor_below (λ x. g (j + x)) w) (g (j + w)))
+    (ap (λ (x : ℕ). bit_xor x (g (j + w))) (xor_from g j w) ∙ xor_assoc (xor_below g j) (xor_below (λ x. g (j + x)) w)
+    (g (j + w)))
 
 syndrome_from : (L : Layout) (tag : Tags) (f : Field) (a n w : ℕ)
     → syndrome_to L tag f a (n + w) ≡ bit_xor (syndrome_to L tag f a n) (xor_below (λ x. term L tag f a (n + x)) w)
@@ -232,7 +233,8 @@ fold_more m first y t s k v own h q p a l = go (ℕ_discrete a k)
         ∙ q
         ∙ ap (λ (z : ℕ). bit_xor (get_or s (first + z) 0) (get_or t y 0)) (sym d)
         ∙ ap (λ (z : ℕ). bit_xor z (get_or t y 0)) (p a l)
-        ∙ ap (λ (b : Bool). bit_xor (xor_below (entry m a t) y) (cond b (get_or t y 0) 0)) (sym (eq-eqb (y % m) a (sym own ∙ sym d)))
+        ∙ ap (λ (b : Bool). bit_xor (xor_below (entry m a t) y) (cond b (get_or t y 0) 0))
+        (sym (eq-eqb (y % m) a (sym own ∙ sym d)))
         ∙ sym next
     go (no d) =
         get_or-set_other s (first + k) (first + a) v 0 (λ (z : first + a ≡ first + k). d (omega arith))

@@ -97,7 +97,8 @@ module _ (s : Shape) (ok : Accepted s) (pass : Pass) (same : pass ≡ pass_of s)
       m : j * pass.period ≡ pass.classes
       m = ap (λ (n : ℕ). n * pass.period) all ∙ sym (all_slices s ok pass same)
 
-      go : (a : ℕ) → a < max_classes → Dec (a < j * pass.period) → get_or l a 0 ≡ syndrome (layout_of s) (tags_of (layout_of s)) f a
+      go : (a : ℕ) → a < max_classes → Dec (a < j * pass.period) → get_or l a 0 ≡ syndrome (layout_of s) (tags_of (layout_of s))
+          f a
       go a high (yes p) = held.own a p
       go a high (no p) =
           held.none a (omega arith) high

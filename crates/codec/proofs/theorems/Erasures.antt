@@ -44,7 +44,8 @@ refill_by_class s accepted p F long bytes from selected two buffer fits = (
             few_same (layout_of s) (erased_at (field_of F) chosen) (field_of G) same
             (erased_few (layout_of s) (field_of F) chosen cells two);
       }
-      (nearest_same (layout_of s) (tags_at s) (erased_at (field_of F) chosen) (field_of G) (field_of F) (field_of F) same (λ i h. refl)
+      (nearest_same (layout_of s) (tags_at s) (erased_at (field_of F) chosen) (field_of G) (field_of F) (field_of F) same
+      (λ i h. refl)
       (erased_nearest (layout_of s) (field_of F) chosen cells (tags_at s) own.lawful))
       buffer fits,
   differences_same (field_of F) (field_of F) (field_of G) (erased_at (field_of F) chosen) (cells_of s) (λ i h. refl)

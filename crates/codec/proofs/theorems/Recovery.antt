@@ -28,7 +28,8 @@ recovery_by_class s accepted p F long bytes from selected one buffer fits =
     (cells_readable s G accepted (length_list_of (damaged (field_of F) chosen) (cells_of s))
     (cells_same (damaged (field_of F) chosen) (field_of G) (cells_of s) same
     (damaged_cells (field_of F) chosen (cells_of s) own.lawful.cells)))
-    (nearest_same (layout_of s) (tags_at s) (damaged (field_of F) chosen) (field_of G) (field_of F) (field_of F) same (λ i h. refl)
+    (nearest_same (layout_of s) (tags_at s) (damaged (field_of F) chosen) (field_of G) (field_of F) (field_of F) same
+    (λ i h. refl)
     (damaged_nearest (layout_of s) (tags_at s) (field_of F) chosen one own.lawful))
     buffer fits
   where

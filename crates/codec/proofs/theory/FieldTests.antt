@@ -73,7 +73,8 @@ module _ (s : Shape) (accepted : Accepted s) (f : Field) where
         record {
           fails = λ e. (
             corrected_field s f,
-            reach_nearest (layout_of s) (tags_at s) (classes_of s) (class_at_below s accepted) f (tags_tell (layout_of s)) received
+            reach_nearest (layout_of s) (tags_at s) (classes_of s) (class_at_below s accepted) f (tags_tell (layout_of s))
+                received
                 reach,
             not_padding (layout_of s) (corrected_field s f) e,
           );

@@ -23,7 +23,8 @@ pub record FieldsMean (pad : ℕ → ℕ) (field : Shape → List ℕ → List �
   pub only : (s : Shape) → Accepted s → (p : List ℕ) → length p ≡ plan_bytes s → Bytes p
       → (f : Field) → LawfulField s f → Carries (layout_of s) f p → PaddedWith (layout_of s) pad f
       → Same f (field_of (field s p)) (cells_of s)
-  pub different : (s : Shape) → Accepted s → (p q : List ℕ) → length p ≡ plan_bytes s → length q ≡ plan_bytes s → Bytes p → Bytes q
+  pub different : (s : Shape) → Accepted s → (p q : List ℕ) → length p ≡ plan_bytes s → length q ≡ plan_bytes s
+      → Bytes p → Bytes q
       → field s p ≡ field s q → p ≡ q
 
 -- Theorem (demand 2). For every shape that the plan accepts and every payload of the plan's length the field written is the one

@@ -38,7 +38,8 @@ flat_distance t some x y r px py hx hy other = go (dec_le t (point_distance x y)
 -- table.
 pub stack_distance : StackDistance
 stack_distance t some most =
-    (test_meaning (stack_settings t).m (stack_settings t).b (stack_settings t).c t (row_accepted t (stack_settings t) holds)).0 holds
+    (test_meaning (stack_settings t).m (stack_settings t).b (stack_settings t).c t (row_accepted t (stack_settings t) holds)).0
+    holds
   where
     holds : holds_for t (stack_settings t) ≡ true
     holds = row_holds t some most

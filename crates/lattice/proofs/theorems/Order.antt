@@ -25,7 +25,8 @@ order_lists =
     rising : (t j k : ℕ) → j < k → k < length (order t) → Before (get_or (order t) j origin) (get_or (order t) k origin)
     rising t j k h g = sorted_at Before origin (order t) (sorted_order t) j k h g
 
-    once : (t j k : ℕ) → j < length (order t) → k < length (order t) → get_or (order t) j origin ≡ get_or (order t) k origin → j ≡ k
+    once : (t j k : ℕ) → j < length (order t) → k < length (order t) → get_or (order t) j origin ≡ get_or (order t) k origin → j
+        ≡ k
     once t j k hj hk e = go (dec_lt j k) (dec_lt k j)
       where
         go : Dec (j < k) → Dec (k < j) → j ≡ k

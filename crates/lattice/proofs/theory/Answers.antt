@@ -49,7 +49,8 @@ pub told_none : {t : Tested} {n : ℕ} → tested_number t ≡ n → t ≡ test.
 told_none e p = sym e ∙ ap tested_number p
 
 -- tests whose number is not a reason's do not give that reason
-pub other_reason : {t : Tested} {n : ℕ} → tested_number t ≡ n → (q : Refusal) → (n ≡ refusal_number q → ⊥) → t ≡ test.Refused q → ⊥
+pub other_reason : {t : Tested} {n : ℕ} → tested_number t ≡ n → (q : Refusal) → (n ≡ refusal_number q → ⊥) → t ≡ test.Refused q
+    → ⊥
 other_reason e q other p = other (sym e ∙ ap tested_number p)
 
 pub passed_reason : (q : Refusal) → test.Passed ≡ test.Refused q → ⊥

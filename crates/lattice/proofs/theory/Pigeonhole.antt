@@ -166,7 +166,13 @@ different_values_many f n xs d h =
 -- A function whose values at the numbers below n are below m has at most m different values there.
 pub different_values_few : (f : ℕ → ℕ) (m n : ℕ) → ((i : ℕ) → i < n → f i < m) → different_values f n ≤ m
 different_values_few f m n h =
-    omega (arith, values_length f n, tabulate_length (λ i. i) m, pigeonhole (values f n) (up_to m) (values_distinct f n) in_range_lem)
+    omega (
+      arith,
+      values_length f n,
+      tabulate_length (λ i. i) m,
+      pigeonhole (values f n) (up_to m) (values_distinct f n)
+          in_range_lem,
+    )
   where
     in_range_lem : (x : ℕ) → Memᴰ x (values f n) → Memᴰ x (up_to m)
     in_range_lem x k = let r = values_sound f n x k in tabulate_has (λ i. i) m x (rw r.2 (h r.0 r.1))

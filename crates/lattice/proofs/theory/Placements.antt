@@ -12,7 +12,8 @@ use Rattle.lattice.specs.Refusal.{beside, figure}
 use Rattle.lattice.specs.Shape.{max_classes, shape_number, Accepted}
 use Rattle.lattice.specs.Settings.{settings, flat_settings, stack_settings, settings_of}
 use Rattle.lattice.specs.Cell.{Cell}
-use Rattle.lattice.specs.Class.{minus_mod, class_with, window_class, classes_of, class_of, placement_of, placement_given, class_by}
+use Rattle.lattice.specs.Class.{minus_mod, class_with, window_class, classes_of, class_of, placement_of, placement_given}
+use Rattle.lattice.specs.Class.{class_by}
 use Rattle.lattice.proofs.theory.Answers.{beside_zero}
 use Rattle.lattice.proofs.theory.Limits.{window_legal}
 use Rattle.lattice.proofs.theory.Remainder.{remainder_one}
@@ -135,7 +136,8 @@ module _ (s : Shape) (a : Accepted s) where
   placement_accepted = beside_zero (shape_number s) (placement_of s) _ a
 
 -- the number of classes that any shape gives
-pub classes_given : (s : Shape) → (placement_given s).slices * (placement_given s).settings.m ≡ figure (shape_number s) (classes_of s)
+pub classes_given : (s : Shape) → (placement_given s).slices * (placement_given s).settings.m ≡ figure (shape_number s)
+    (classes_of s)
 unfolding placement_given
 classes_given s = go (shape_number s)
   where

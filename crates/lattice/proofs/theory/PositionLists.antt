@@ -63,7 +63,8 @@ module _ (m : ℕ) (some : 0 < m) where
         ones z r = omega (arith, low z r, among_before m z z (omega arith) r (omega arith))
 
   -- what a stretch of n = k × m + g places gives to each remainder: k + 1 to those below g, and k to the others
-  pub gains : (n k g wide : ℕ) (p : List ℕ) → n ≡ k * m + g → g ≤ m → Repeats m 0 wide p → ((z : ℕ) → z < g → get_or p z 0 ≡ k + 1)
+  pub gains : (n k g wide : ℕ) (p : List ℕ) → n ≡ k * m + g → g ≤ m → Repeats m 0 wide p → ((z : ℕ) → z < g → get_or p z 0 ≡ k +
+      1)
       → ((z : ℕ) → g ≤ z → z < m → get_or p z 0 ≡ k) → Gains m n wide p
   unfolding Gains
   gains n k g wide p e l again high low =
@@ -155,7 +156,8 @@ module _ (L : Layout) (m : ℕ) (table : ℕ → ℕ) (period : HasPeriod m tabl
       at : Dec (start < step) → get_or p (y + (m - minus_mod start step m)) 0 + among m y (minus_mod start step m) ≡ among m y
           (start + w) + round start step
       at (yes r) =
-          let far-end : minus_mod start step m + (w + step) ≡ start + w + m = omega (arith, back_below m some start step r back) in
+          let far-end : minus_mod start step m + (w + step) ≡ start + w + m = omega (arith, back_below m some start step r back)
+          in
           rw (lt-ltb start step r) (omega (arith, sum, ap (λ (k : ℕ). among m y k) far-end, among_more m some y (start + w)))
       at (no r) =
           let above : step ≤ start = omega arith in

@@ -115,7 +115,8 @@ module _ (s : Shape) (a : Accepted s) where
         omega (arith, cell_slice i y j p e)
 
     -- so a slice with no line has no cell
-    pub skipped_all : (i : ℕ) → s.rows * s.planes ≤ j → i < cells_of s → class_at s i ≡ y % (table_of s).m + j * (table_of s).m → ⊥
+    pub skipped_all : (i : ℕ) → s.rows * s.planes ≤ j → i < cells_of s → class_at s i ≡ y % (table_of s).m + j * (table_of s).m
+        → ⊥
     skipped_all i none p =
         skipped_first i
         (omega (
@@ -135,7 +136,8 @@ module _ (s : Shape) (a : Accepted s) where
 
     pub size_all : s.rows * s.planes ≤ j → size (layout_of s) (y % (table_of s).m + j * (table_of s).m) ≡ 0
     size_all none =
-        size_still (layout_of s) (y % (table_of s).m + j * (table_of s).m) 0 (cells_of s) zero-le (λ i low p. skipped_all i none p)
+        size_still (layout_of s) (y % (table_of s).m + j * (table_of s).m) 0 (cells_of s) zero-le (λ i low p. skipped_all i none
+        p)
         ∙ size_none (layout_of s) _
 
   -- a line of another slice adds nothing

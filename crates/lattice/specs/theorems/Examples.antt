@@ -126,7 +126,8 @@ pub record PlacingExamples : Type 0 where
       × (class_given (windowed 5 5 7 9) (cell 4 0 3) ≡ 39)
   -- on 5 by 5 it has 6 classes, and 9 cells that hold no check
   pub window_numbers :
-      (classes_of (windowed 5 5 2 3) ≡ 6) × (capacity (layout_of (windowed 5 5 2 3)) ≡ 9) × (classes_of (windowed 9 9 512 1) ≡ 512)
+      (classes_of (windowed 5 5 2 3) ≡ 6) × (capacity (layout_of (windowed 5 5 2 3)) ≡ 9)
+      × (classes_of (windowed 9 9 512 1) ≡ 512)
   -- the limits of a window: 512 cells, one plane, and no strength beside it; 2 for none at all, in stacks too
   pub window_limits :
       (shape_number (windowed 9 9 512 1) ≡ 0)
@@ -144,7 +145,8 @@ pub record PlacingExamples : Type 0 where
       × (shape_number (record { columns = 9; rows = 9; planes = 1; strength = 33; window = window 1 1 }) ≡ 2)
       × (shape_number (windowed 257 9 0 1) ≡ 1)
   -- the limits of the distance test: t to 18, m to 4,096, b and c below m
-  pub test_strengths : (test_number 7 2 3 0 ≡ 2) × (test_number 7 2 3 1 ≡ 0) × (test_number 7 2 3 18 ≡ 0) × (test_number 7 2 3 19 ≡ 2)
+  pub test_strengths :
+      (test_number 7 2 3 0 ≡ 2) × (test_number 7 2 3 1 ≡ 0) × (test_number 7 2 3 18 ≡ 0) × (test_number 7 2 3 19 ≡ 2)
   pub test_classes : (test_number 0 0 0 1 ≡ 9)
       × (test_number 1 0 0 1 ≡ 0)
       × (test_number 4096 0 0 1 ≡ 0)

@@ -7,7 +7,8 @@ use Rattle.lattice.specs.Order.{origin, order, magnitude, Leading, Before}
 -- positive, each exactly once, and rising.
 pub record OrderLists : Type 0 where
   pub listed : (t k : ℕ) → k < length (order t)
-      → Leading (get_or (order t) k origin) × (1 ≤ magnitude (get_or (order t) k origin)) × (magnitude (get_or (order t) k origin) < t)
+      → Leading (get_or (order t) k origin)
+      × (1 ≤ magnitude (get_or (order t) k origin)) × (magnitude (get_or (order t) k origin) < t)
   pub complete : (t : ℕ) (x : Triple) → Leading x → magnitude x < t
       → (k : ℕ) × (k < length (order t)) × (get_or (order t) k origin ≡ x)
   pub once : (t j k : ℕ) → j < length (order t) → k < length (order t)

@@ -70,7 +70,8 @@ levels_of bytes e = ok_levels (field_of bytes) (length bytes) e
 
 pub writable : Writable field digits
 unfolding
-    shape_number size_ok strength_ok window_ok is_none max_strength in_range plan_digits digits_below words_below words_in size_to cell_at
+    shape_number size_ok strength_ok window_ok is_none max_strength in_range plan_digits digits_below words_below words_in
+    size_to cell_at
     class_of classes_of class_with minus_mod settings_for flat_settings odd_settings levels_ok is_level
 writable = record { accepted = refl; long = refl; digits = levels_of digits refl }
 
@@ -102,13 +103,15 @@ five_words = refl
 pub encode_refused_lem : encode_levels_number seven [] [] ≢ 0
 unfolding
     encode_levels_number plan_digits plan_cells shape_number size_ok strength_ok window_ok is_none max_strength in_range
-    digits_below words_below words_in size_to cell_at class_of classes_of class_with minus_mod settings_for flat_settings odd_settings
+    digits_below words_below words_in size_to cell_at class_of classes_of class_with minus_mod settings_for flat_settings
+    odd_settings
 encode_refused_lem e = omega (arith, e)
 
 pub decode_refused_lem : decode_levels_number seven [] [] ≢ 0
 unfolding
     decode_levels_number plan_digits plan_cells shape_number size_ok strength_ok window_ok is_none max_strength in_range
-    digits_below words_below words_in size_to cell_at class_of classes_of class_with minus_mod settings_for flat_settings odd_settings
+    digits_below words_below words_in size_to cell_at class_of classes_of class_with minus_mod settings_for flat_settings
+    odd_settings
 decode_refused_lem e = omega (arith, e)
 
 pub correct_refused_lem : correct_levels_number seven [] ≢ 0
@@ -161,7 +164,8 @@ module _ (s : Shape) (S : Cell → Type 0) (F G : List ℕ) (a b c : ℕ) (in-a 
       rest i l = and_right (leb (field_of G i) 24) _ (at i l)
 
       more : (i : ℕ) → i < cells_of s
-          → (leb (field_of G i) (field_of F i + 3) && (eqb (field_of G i) (field_of F i) || (eqb i a || (eqb i b || eqb i c)))) ≡ true
+          → (leb (field_of G i) (field_of F i + 3) && (eqb (field_of G i) (field_of F i) || (eqb i a || (eqb i b || eqb i c))))
+          ≡ true
       more i l = and_right (leb (field_of F i) (field_of G i + 1)) _ (rest i l)
 
       last : (i : ℕ) → i < cells_of s → (eqb (field_of G i) (field_of F i) || (eqb i a || (eqb i b || eqb i c))) ≡ true
@@ -218,7 +222,8 @@ high = 24 ∷ 0 ∷ 0 ∷ 0 ∷ 0 ∷ 0 ∷ 0 ∷ []
 
 pub seven_digits : length five_zeros ≡ plan_digits seven
 unfolding
-    plan_digits shape_number size_ok strength_ok window_ok is_none max_strength in_range digits_below words_below words_in size_to cell_at
+    plan_digits shape_number size_ok strength_ok window_ok is_none max_strength in_range digits_below words_below words_in
+    size_to cell_at
     class_of classes_of class_with minus_mod settings_for flat_settings odd_settings
 seven_digits = refl
 
@@ -231,7 +236,8 @@ unfolding
     decode_levels_number plan_cells plan_digits shape_number size_ok strength_ok window_ok is_none max_strength in_range
     digits_below words_below words_in size_to position cell_at class_of classes_of class_with minus_mod
     settings_for flat_settings odd_settings levels_number levels_ok is_level
-    levels_in_reach fits restores change_at change fault_of faults effect multiplier remainder weighted share is_of in_word word slot
+    levels_in_reach fits restores change_at change fault_of faults effect multiplier remainder weighted share is_of in_word word
+    slot
 none_in_reach = (decode_levels_meaning seven five_zeros high none_readable seven_digits).none.0 refl
 
 -- 7 by 5 with a window of 2 rows and 3 columns: the window that hangs over two edges has the first two cells
@@ -292,5 +298,6 @@ patch_changed =
 pub patch_recovered :
     LevelsRecovered patch_field patch_digits (encoded_levels_field patch_field patch_digits) patch_damaged patch_digits
 patch_recovered =
-    levels_patch_recovery patch_field patch_digits patch_writable patch_rules 3 patch_square OfDiagonal diagonal_patch diagonal_few
+    levels_patch_recovery patch_field patch_digits patch_writable patch_rules 3 patch_square OfDiagonal diagonal_patch
+    diagonal_few
     patch_damaged patch_changed patch_digits patch_writable.long

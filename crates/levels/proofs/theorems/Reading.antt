@@ -22,7 +22,8 @@ use Rattle.levels.specs.theorems.Reading.{OneLawful, DecodeLevelsMeaning, Correc
 use Rattle.levels.proofs.theory.HeldDigits.{held_length, held_level, held_carries, words_same}
 use Rattle.levels.proofs.theory.LevelNumbers.{decode_number_lem, correct_number_lem, number_success, number_none}
 use Rattle.levels.proofs.theory.WordReach.{from_corrected}
-use Rattle.levels.proofs.theory.WrittenLevels.{digits_all, decode_leaves_lem, decode_count_lem, correct_leaves_lem, correct_count_lem}
+use Rattle.levels.proofs.theory.WrittenLevels.{digits_all, decode_leaves_lem, decode_count_lem, correct_leaves_lem}
+use Rattle.levels.proofs.theory.WrittenLevels.{correct_count_lem}
 
 -- Theorem. A field comes from at most one lawful field.
 pub one_lawful : OneLawful
@@ -38,8 +39,10 @@ pub decode_levels_meaning : DecodeLevelsMeaning
 decode_levels_meaning s payload field readable fits =
     record {
       success =
-          carry (decode_levels_number s payload field) (levels_number s (field_of field)) 0 same (number_success s field readable);
-      none = carry (decode_levels_number s payload field) (levels_number s (field_of field)) 6 same (number_none s field readable);
+          carry (decode_levels_number s payload field) (levels_number s (field_of field)) 0 same (number_success s field
+          readable);
+      none = carry (decode_levels_number s payload field) (levels_number s (field_of field)) 6 same (number_none s field
+          readable);
       long = λ e.
           ap length (decode_leaves_lem s field payload e)
           ∙ held_length (layout_of s) (digits_of s) all (restored_field s (field_of field))

@@ -17,7 +17,8 @@ pub record EncodeLevelsMeaning : Type 0 where
   pub long : (s : Shape) (p : List ℕ) → length (encoded_levels_field s p) ≡ cells_of s
   pub lawful : (s : Shape) (p : List ℕ) → Writable s p → LawfulLevels (layout_of s) (field_of (encoded_levels_field s p))
   pub carries : (s : Shape) (p : List ℕ) → Writable s p → CarriesDigits (layout_of s) (field_of (encoded_levels_field s p)) p
-  pub only : (s : Shape) (p : List ℕ) → Writable s p → (f : Field) → LawfulLevels (layout_of s) f → CarriesDigits (layout_of s) f p
+  pub only : (s : Shape) (p : List ℕ) → Writable s p
+      → (f : Field) → LawfulLevels (layout_of s) f → CarriesDigits (layout_of s) f p
       → Same f (field_of (encoded_levels_field s p)) (cells_of s)
   pub digits : (s : Shape) → Accepted s → count (holds_digit (layout_of s)) (cells_of s) ≡ plan_digits s
   pub different : (s : Shape) (p q : List ℕ) → Writable s p → Writable s q

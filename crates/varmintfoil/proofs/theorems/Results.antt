@@ -23,7 +23,8 @@ use Rattle.levels.specs.Level.{is_level, levels_ok}
 use Rattle.levels.specs.Faults.{multiplier, effect, faults, fault_of, change}
 use Rattle.levels.specs.Words.{slot, in_word, word, is_of, share, weighted, remainder}
 use Rattle.levels.specs.Restored.{change_at, corrected_levels, restores, fits, levels_in_reach}
-use Rattle.levels.specs.Payload.{holds_digit, digit_rank, digit_field, check_for, encoded_levels, held_digits, word_differences_to}
+use Rattle.levels.specs.Payload.{holds_digit, digit_rank, digit_field, check_for, encoded_levels, held_digits}
+use Rattle.levels.specs.Payload.{word_differences_to}
 use Rattle.levels.specs.Encode.{encode_levels_number, encoded_levels_field, encode_levels_leaves}
 use Rattle.levels.specs.Decode.{levels_number, decode_levels_number, decode_levels_count, decode_levels_leaves}
 use Rattle.levels.specs.Correct.{correct_levels_number, correct_levels_count, correct_levels_leaves}
@@ -42,7 +43,8 @@ unfolding
     payload_bytes rank padding earlier_padding padded_with padding_ok held_payload
     plan_classes plan_capacity plan_bytes plan_cells is_used used_classes plan_used
     words_in words_below digits_below plan_digits
-    encode_number encode_leaves field_number corrected_count decode_number decode_count correct_number correct_count correct_leaves
+    encode_number encode_leaves field_number corrected_count decode_number decode_count correct_number correct_count
+    correct_leaves
     is_level levels_ok multiplier effect faults fault_of change slot in_word word is_of share weighted remainder
     change_at corrected_levels restores fits levels_in_reach
     holds_digit digit_rank digit_field check_for encoded_levels held_digits word_differences_to

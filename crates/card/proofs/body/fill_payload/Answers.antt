@@ -47,7 +47,11 @@ pub hex_value-low-requires : goal.hex_value-low-requires
 hex_value-low-requires c = low c
 
 pub overflow_mul-payload : goal.overflow_mul-payload
-overflow_mul-payload c = omega (arith, value_below _ (high (goal.at.overflow_mul-payload c).After-byte_at) _ c.hex_value-high.ensures)
+overflow_mul-payload c = omega (
+  arith,
+  value_below _ (high (goal.at.overflow_mul-payload c).After-byte_at) _
+      c.hex_value-high.ensures,
+)
 
 pub overflow_add-payload : goal.overflow_add-payload
 overflow_add-payload c =

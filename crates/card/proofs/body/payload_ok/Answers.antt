@@ -38,14 +38,16 @@ pub bounds-text-last : goal.bounds-text-last
 bounds-text-last c = omega arith
 
 pub returns-then-text-last-ne10 : goal.returns-then-text-last-ne10
-returns-then-text-last-ne10 c = payload_unended _ _ (key (goal.at.returns-then-text-last-ne10 c).Else-not-is_payload) c.if-start-text.false c.if-text-last-ne10.true
+returns-then-text-last-ne10 c = payload_unended _ _ (key (goal.at.returns-then-text-last-ne10 c).Else-not-is_payload)
+    c.if-start-text.false c.if-text-last-ne10.true
 
 pub overflow_sub-digits : goal.overflow_sub-digits
 overflow_sub-digits c = omega arith
 
 pub returns-then-digits-ne0 : goal.returns-then-digits-ne0
 returns-then-digits-ne0 c =
-    payload_odd _ _ (key (goal.at.returns-then-digits-ne0 c).Else-not-is_payload) c.if-start-text.false c.if-text-last-ne10.false c.if-digits-ne0.true
+    payload_odd _ _ (key (goal.at.returns-then-digits-ne0 c).Else-not-is_payload) c.if-start-text.false
+    c.if-text-last-ne10.false c.if-digits-ne0.true
 
 pub returns : goal.returns
 returns c =

@@ -20,7 +20,8 @@ returns-then-not-any_key_at c = window_left _ _ (failed _ _ c.if-not-any_key_at.
 
 pub returns-then-not-lines : goal.returns-then-not-lines
 returns-then-not-lines c =
-    window_fault _ _ (some (goal.at.returns-then-not-lines c).Else-not-any_key_at) _ c.lines_at-lines.ensures (not-true _ c.if-not-lines.true)
+    window_fault _ _ (some (goal.at.returns-then-not-lines c).Else-not-any_key_at) _ c.lines_at-lines.ensures
+    (not-true _ c.if-not-lines.true)
 
 pub returns : goal.returns
 returns c =

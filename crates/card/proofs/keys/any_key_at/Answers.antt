@@ -33,7 +33,8 @@ key_of-requires c = (omega arith, refl)
 
 pub returns-then-key_at : goal.returns-then-key_at
 returns-then-key_at c =
-    looking_found _ _ _ _ c.loop-k.invariant _ (key (goal.at.returns-then-key_at c).After-key_of) (below (goal.at.returns-then-key_at c).In-loop-k) _ c.key_at.ensures c.if-key_at.true
+    looking_found _ _ _ _ c.loop-k.invariant _ (key (goal.at.returns-then-key_at c).After-key_of)
+    (below (goal.at.returns-then-key_at c).In-loop-k) _ c.key_at.ensures c.if-key_at.true
 
 pub overflow_add-k : goal.overflow_add-k
 overflow_add-k c = omega arith
@@ -43,7 +44,8 @@ loop-k-smaller c = omega arith
 
 pub loop-k-preserved : goal.loop-k-preserved
 loop-k-preserved c =
-    looking_more _ _ _ _ c.loop-k.invariant _ (key (goal.at.loop-k-preserved c).After-key_of) (below (goal.at.loop-k-preserved c).In-loop-k) _ c.key_at.ensures c.if-key_at.false
+    looking_more _ _ _ _ c.loop-k.invariant _ (key (goal.at.loop-k-preserved c).After-key_of)
+    (below (goal.at.loop-k-preserved c).In-loop-k) _ c.key_at.ensures c.if-key_at.false
 
 pub returns : goal.returns
 returns c =

@@ -38,7 +38,8 @@ line_at-requires c = c.loop-k.invariant.inside
 pub returns-in_default : goal.returns-in_default
 unfolding read_lines
 returns-in_default c =
-    reading_fault _ _ _ _ _ _ c.loop-k.invariant _ (key (goal.at.returns-in_default c).After-key_of) (below (goal.at.returns-in_default c).In-loop-k)
+    reading_fault _ _ _ _ _ _ c.loop-k.invariant _ (key (goal.at.returns-in_default c).After-key_of)
+    (below (goal.at.returns-in_default c).In-loop-k)
     (sym c.line_at.ensures ∙ c.in_default.is)
 
 pub offset_bounds-numbers-k : goal.offset_bounds-numbers-k
@@ -55,7 +56,8 @@ loop-k-smaller c = omega arith
 
 pub loop-k-preserved : goal.loop-k-preserved
 loop-k-preserved c =
-    reading_more _ _ _ _ _ _ c.loop-k.invariant _ (key (goal.at.loop-k-preserved c).After-key_of) (below (goal.at.loop-k-preserved c).In-loop-k) _ _
+    reading_more _ _ _ _ _ _ c.loop-k.invariant _ (key (goal.at.loop-k-preserved c).After-key_of)
+    (below (goal.at.loop-k-preserved c).In-loop-k) _ _
     (sym c.line_at.ensures ∙ c.in-Number.is)
 
 pub returns : goal.returns

@@ -42,7 +42,8 @@ bounds-numbers-k c = omega arith
 
 pub put_number_line-next-requires : goal.put_number_line-next-requires
 put_number_line-next-requires c =
-    line_room (keys (goal.at.put_number_line-next-requires c).Start) c.args.numbers.now (count (goal.at.put_number_line-next-requires c).Start) c.requires.has_room
+    line_room (keys (goal.at.put_number_line-next-requires c).Start) c.args.numbers.now
+    (count (goal.at.put_number_line-next-requires c).Start) c.requires.has_room
     c.loop-k.invariant _ (key (goal.at.put_number_line-next-requires c).After-key_of) c.loop-k-test.true
 
 pub overflow_add-k : goal.overflow_add-k
@@ -53,13 +54,16 @@ loop-k-smaller c = omega arith
 
 pub loop-k-preserved : goal.loop-k-preserved
 loop-k-preserved c =
-    writing_more (keys (goal.at.loop-k-preserved c).Start) c.args.numbers.now (count (goal.at.loop-k-preserved c).Start) c.requires.has_room
+    writing_more (keys (goal.at.loop-k-preserved c).Start) c.args.numbers.now (count (goal.at.loop-k-preserved c).Start)
+    c.requires.has_room
     c.loop-k.invariant _ (key (goal.at.loop-k-preserved c).After-key_of) c.loop-k-test.true c.put_number_line-next.ensures
 
 pub shape_of-out : goal.shape_of-out
 shape_of-out c =
-    writing_long (keys (goal.at.shape_of-out c).Start) c.args.numbers.now (count (goal.at.shape_of-out c).Start) c.requires.has_room c.loop-k.invariant
+    writing_long (keys (goal.at.shape_of-out c).Start) c.args.numbers.now (count (goal.at.shape_of-out c).Start)
+    c.requires.has_room c.loop-k.invariant
 
 pub returns : goal.returns
 returns c =
-    writing_all (keys (goal.at.returns c).Start) c.args.numbers.now (count (goal.at.returns c).Start) c.requires.has_room c.loop-k.invariant c.loop-k-test.false
+    writing_all (keys (goal.at.returns c).Start) c.args.numbers.now (count (goal.at.returns c).Start) c.requires.has_room
+    c.loop-k.invariant c.loop-k-test.false

@@ -24,7 +24,8 @@ put_digits-end-requires c =
 
 pub put_byte-requires : goal.put_byte-requires
 put_byte-requires c =
-    feed_room _ _ (line (goal.at.put_byte-requires c).After-digit_count) c.requires c.put_bytes-number.ensures c.put_digits-end.ensures
+    feed_room _ _ (line (goal.at.put_byte-requires c).After-digit_count) c.requires c.put_bytes-number.ensures
+    c.put_digits-end.ensures
 
 pub returns : goal.returns
 returns c =

@@ -65,4 +65,5 @@ pub returns : goal.returns
 returns c =
     let turn = c.loop-r in
     let a = c.args in
-    rows_all a.width a.lines a.cells.now c.requires.cells_len c.requires.has_room _ turn.invariant.0 c.loop-r-test.false turn.invariant.1
+    rows_all a.width a.lines a.cells.now c.requires.cells_len c.requires.has_room _ turn.invariant.0 c.loop-r-test.false
+    turn.invariant.1

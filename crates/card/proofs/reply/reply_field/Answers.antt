@@ -26,7 +26,8 @@ total c =
 room : (c : Else-output-length)
     → let a = c.args in
     HasRoom a.output.now 0 (head_text a.header classes_key a.classes ++ field_text a.header a.cells.now)
-room c = room_front _ _ _ (length_success _ _ _ _ _ _ c.head_length.ensures (sym (length_field c.args.header c.args.cells.now c.requires.field_cells.long))) c.if-output-length.false
+room c = room_front _ _ _ (length_success _ _ _ _ _ _ c.head_length.ensures (sym (length_field c.args.header c.args.cells.now
+    c.requires.field_cells.long))) c.if-output-length.false
 
 pub overflow_mul-lines : goal.overflow_mul-lines
 overflow_mul-lines c = omega (arith, rows_most _ c.requires.card_header)
@@ -42,14 +43,16 @@ overflow_add-length-2 c =
     omega (arith, rows_far _ c.requires.card_header, c.head_length.ensures, head_most c.args.header classes_key c.args.classes)
 
 pub returns-then-output-length : goal.returns-then-output-length
-returns-then-output-length c = answered_short _ _ _ (total (goal.at.returns-then-output-length c).After-head_length) c.if-output-length.true
+returns-then-output-length c = answered_short _ _ _ (total (goal.at.returns-then-output-length c).After-head_length)
+    c.if-output-length.true
 
 pub put_rows-requires : goal.put_rows-requires
 unfolding field_text
 put_rows-requires c =
     let cells = c.args.cells.now in
     record {
-      has_room = rest_room _ _ _ (field_text c.args.header cells) (room (goal.at.put_rows-requires c).Else-output-length) c.put_head-next.ensures;
+      has_room = rest_room _ _ _ (field_text c.args.header cells) (room (goal.at.put_rows-requires c).Else-output-length)
+          c.put_head-next.ensures;
       received = field_each _ _ c.requires.field_cells;
       cells_len = field_long _ _ c.requires.field_cells;
     }

@@ -25,7 +25,8 @@ total c =
 room : (c : Else-output-length)
     → let a = c.args in
     HasRoom a.output.now 0 (head_text a.header mended_key a.mended ++ payload_text a.payload.now)
-room c = room_front _ _ _ (add_assoc _ 9 _ ∙ length_success _ _ _ _ _ _ c.head_length.ensures (sym (length_payload c.args.payload.now))) c.if-output-length.false
+room c = room_front _ _ _ (add_assoc _ 9 _ ∙ length_success _ _ _ _ _ _ c.head_length.ensures
+    (sym (length_payload c.args.payload.now))) c.if-output-length.false
 
 pub overflow_add-length : goal.overflow_add-length
 overflow_add-length c =
@@ -41,7 +42,8 @@ overflow_add-length-2 c =
     omega (arith, c.head_length.ensures, head_most a.header mended_key a.mended)
 
 pub returns-then-output-length : goal.returns-then-output-length
-returns-then-output-length c = answered_short _ _ _ (total (goal.at.returns-then-output-length c).After-head_length) c.if-output-length.true
+returns-then-output-length c = answered_short _ _ _ (total (goal.at.returns-then-output-length c).After-head_length)
+    c.if-output-length.true
 
 pub put_payload-requires : goal.put_payload-requires
 put_payload-requires c =

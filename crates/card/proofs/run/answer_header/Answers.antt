@@ -22,7 +22,8 @@ read c =
     let given = c.in-Accepted.is in
     record {
       header = c.requires;
-      shaped = new_card c.args.header _ (rw c.shape_numbers.ensures at c.new.ensures.new_shape) _ given _ c.cells.ensures c.if-cells-gt-MAX_CELLS.false;
+      shaped = new_card c.args.header _ (rw c.shape_numbers.ensures at c.new.ensures.new_shape) _ given _ c.cells.ensures
+          c.if-cells-gt-MAX_CELLS.false;
     }
 
 pub returns-then-cells-gt-MAX_CELLS : goal.returns-then-cells-gt-MAX_CELLS
@@ -30,7 +31,8 @@ returns-then-cells-gt-MAX_CELLS c =
     let given = c.in-Accepted.is in
     answered_same
     (too_many _ _ _ c.requires (new_accepted _ _ (new (goal.at.returns-then-cells-gt-MAX_CELLS c).After-new) _ given)
-    (new_many c.args.header _ (new (goal.at.returns-then-cells-gt-MAX_CELLS c).After-new) _ given _ c.cells.ensures c.if-cells-gt-MAX_CELLS.true))
+    (new_many c.args.header _ (new (goal.at.returns-then-cells-gt-MAX_CELLS c).After-new) _ given _ c.cells.ensures
+    c.if-cells-gt-MAX_CELLS.true))
     c.refuse-then-cells-gt-MAX_CELLS.ensures
 
 pub answer_payload-requires : goal.answer_payload-requires

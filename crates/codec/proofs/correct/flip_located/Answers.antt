@@ -30,8 +30,11 @@ returns c =
     let long-1 = c.flip_cells.auto.field ∙ long in
     let long-2 = c.flip_cells-2.auto.field ∙ long-1 in
     flipped_next _ ok _ (own (goal.at.returns c).After-classes-m) _ _ _ _
-    (λ i l. c.flip_cells-3.ensures _ (sym long-2) (names_given _ _ _ _ (own (goal.at.returns c).After-classes-m) named.2) i (rw long-2 l))
+    (λ i l. c.flip_cells-3.ensures _ (sym long-2) (names_given _ _ _ _ (own (goal.at.returns c).After-classes-m) named.2) i
+    (rw long-2 l))
     (flipped_next _ ok _ (own (goal.at.returns c).After-classes-m) _ _ _ _
-    (λ i l. c.flip_cells-2.ensures _ (sym long-1) (names_given _ _ _ _ (own (goal.at.returns c).After-classes-m) named.1) i (rw long-1 l))
+    (λ i l. c.flip_cells-2.ensures _ (sym long-1) (names_given _ _ _ _ (own (goal.at.returns c).After-classes-m) named.1) i
+    (rw long-1 l))
     (flipped_next _ ok _ (own (goal.at.returns c).After-classes-m) _ _ _ _
-    (λ i l. c.flip_cells.ensures _ (sym long) (names_given _ _ _ _ (own (goal.at.returns c).After-classes-m) named.0) i (rw long l)) (λ i l. refl)))
+    (λ i l. c.flip_cells.ensures _ (sym long) (names_given _ _ _ _ (own (goal.at.returns c).After-classes-m) named.0) i
+    (rw long l)) (λ i l. refl)))

@@ -26,7 +26,10 @@ pub flip_located-requires : goal.flip_located-requires
 flip_located-requires c =
     let located = c.requires.located in
     record {
-      field_fits = record { accepted = c.requires.readable.accepted; long = c.clear_erased.auto.field ∙ c.requires.readable.long };
+      field_fits = record {
+        accepted = c.requires.readable.accepted;
+        long = c.clear_erased.auto.field ∙ c.requires.readable.long;
+      };
       names = (located.damaged_named, located.first_named, located.second_named);
     }
 

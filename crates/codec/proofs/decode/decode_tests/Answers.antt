@@ -21,7 +21,8 @@ returns-in-Refused c =
     let t = c.length_tests-tested.ensures in
     record {
       result_value = earlier_told c.in-Refused.why _ _ (told t.result_value c.in-Refused.is) ∙ decode_tests _ _ _;
-      examined_field = (λ e. let same : c.in-Refused.why ≡ why.OutsideShape = cc in kept_reason why.OutsideShape c.in-Refused.is t.no_outside same);
+      examined_field = (λ e. let same : c.in-Refused.why ≡ why.OutsideShape = cc in kept_reason why.OutsideShape c.in-Refused.is
+          t.no_outside same);
       holds_sizes = λ z. absurd (some_number c.in-Refused.why z);
     }
 
@@ -38,7 +39,8 @@ pub returns : goal.returns
 returns c =
     let fits = c.length_tests-tested.ensures.fits (ap tested_number c.in_default.is) in
     record {
-      result_value = c.examine.ensures.result_value ∙ sym (none_earlier _ _ (none (goal.at.returns c).In_default)) ∙ decode_tests _ _ _;
+      result_value = c.examine.ensures.result_value ∙ sym (none_earlier _ _ (none (goal.at.returns c).In_default)) ∙
+          decode_tests _ _ _;
       examined_field = exam_field _ _ c.examine.ensures.result_value;
       holds_sizes = λ z. (fits.of_payload.sized, c.examine.ensures.sound z);
     }

@@ -7,7 +7,10 @@ use Rattle.codec.proofs.encode.write_field.Goals as goal
 pub fill_planes-requires : goal.fill_planes-requires
 fill_planes-requires c =
     record {
-      checks_listed = checks_listed _ _ _ _ _ _ c.requires.payload_fits (c.check_cells-amount.ensures.lists_checks, c.check_cells-amount.ensures.upper_bound);
+      checks_listed = checks_listed _ _ _ _ _ _ c.requires.payload_fits (
+        c.check_cells-amount.ensures.lists_checks,
+        c.check_cells-amount.ensures.upper_bound,
+      );
       field_len = c.requires.field_len;
     }
 
@@ -15,7 +18,8 @@ pub data_syndromes-requires : goal.data_syndromes-requires
 data_syndromes-requires c =
     let given = c.check_cells-amount.ensures in
     record {
-      field_fits = filled_fits _ _ _ _ _ _ c.requires.payload_fits (given.lists_checks, given.upper_bound) _ c.fill_planes.ensures;
+      field_fits = filled_fits _ _ _ _ _ _ c.requires.payload_fits (given.lists_checks, given.upper_bound) _
+          c.fill_planes.ensures;
       holds_zeros = zeros;
     }
 

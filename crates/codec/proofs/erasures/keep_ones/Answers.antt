@@ -24,7 +24,8 @@ loop-a-preserved c =
     let old = c.args.erasures.now in (
       omega arith,
       simp length-set turn.invariant.1,
-      store_more (λ k n. n ≡ kept_cell (get_or syndromes k 0) (get_or sums k 0) (get_or cells k 0) (get_or old k 0)) turn.erasures _ _
+      store_more (λ k n. n ≡ kept_cell (get_or syndromes k 0) (get_or sums k 0) (get_or cells k 0) (get_or old k 0))
+          turn.erasures _ _
           (omega arith) turn.invariant.2
           (c.kept_cell.ensures
           ∙ ap (kept_cell (get_or syndromes turn.a 0) (get_or sums turn.a 0) (get_or cells turn.a 0))

@@ -27,5 +27,6 @@ pub returns : goal.returns
 returns c =
     λ L f own lost listed. (
       (λ ok. absurd (true≢false (sym ok))),
-      λ no. lists_full L f _ _ c.requires.class_lt_max_classes.1 own lost _ _ listed c.requires.class_lt_max_classes.0 c.if-first-class-eq-NO_CELL.false c.if-second-class-eq-NO_CELL.false,
+      λ no. lists_full L f _ _ c.requires.class_lt_max_classes.1 own lost _ _ listed c.requires.class_lt_max_classes.0
+          c.if-first-class-eq-NO_CELL.false c.if-second-class-eq-NO_CELL.false,
     )

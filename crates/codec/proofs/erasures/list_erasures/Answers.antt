@@ -56,7 +56,8 @@ pub returns-then-not-list_cell : goal.returns-then-not-list_cell
 returns-then-not-list_cell c =
     let e = c in
     record {
-      value = sym (three_many e.args.shape e.requires.field_fits.accepted (field_of e.args.field.now) _ _ (omega (arith, inside (goal.at.returns-then-not-list_cell c).In-loop-i))
+      value = sym (three_many e.args.shape e.requires.field_fits.accepted (field_of e.args.field.now) _ _
+          (omega (arith, inside (goal.at.returns-then-not-list_cell c).In-loop-i))
           ((turn (goal.at.returns-then-not-list_cell c).After-list_cell).1 c.if-not-list_cell.true));
       lists_erasures = λ no. absurd (true≢false (sym no));
     }

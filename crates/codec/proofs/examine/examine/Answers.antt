@@ -28,14 +28,19 @@ greatest-most-requires c = le_refl _
 pub returns-then-not-is_received : goal.returns-then-not-is_received
 returns-then-not-is_received c =
     record {
-      result_value = number_cell _ _ (failed _ _ c.if-not-is_received.true (cells (goal.at.returns-then-not-is_received c).After-is_received));
+      result_value = number_cell _ _ (failed _ _ c.if-not-is_received.true (cells (goal.at.returns-then-not-is_received
+          c).After-is_received));
       sound = λ z. absurd (omega arith);
     }
 
 pub examine_received-tested-requires : goal.examine_received-tested-requires
 examine_received-tested-requires c =
     record {
-      field_fits = (c.requires.field_fits, passed _ _ c.if-not-is_received.false (cells (goal.at.examine_received-tested-requires c).After-is_received));
+      field_fits = (
+        c.requires.field_fits,
+        passed _ _ c.if-not-is_received.false
+            (cells (goal.at.examine_received-tested-requires c).After-is_received),
+      );
       by_index = (λ i l. c.greatest-most.ensures.by_index i (rw c.requires.field_fits.long l));
       holds_sizes = c.requires.holds_sizes;
       holds_none = c.requires.holds_none;

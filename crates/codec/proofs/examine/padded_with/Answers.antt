@@ -16,7 +16,8 @@ use Rattle.codec.proofs.examine.Data.{data_at}
 use Rattle.codec.proofs.examine.Padding.{padding_start, padding_passes, left_some, padding_fails, padding_more}
 use Rattle.codec.proofs.theory.WorkArrays.{cell_limit, zeros}
 use Rattle.lattice.proofs.theory.PlaceBack.{rest_none, back_cell}
-use Rattle.codec.proofs.examine.padded_with.Goals.{After-corrected_value-value, After-holds_data-is_data, After-place_back-place, In-loop-unseen}
+use Rattle.codec.proofs.examine.padded_with.Goals.{After-corrected_value-value, After-holds_data-is_data, After-place_back-place}
+use Rattle.codec.proofs.examine.padded_with.Goals.{In-loop-unseen}
 use Rattle.codec.proofs.examine.padded_with.Goals as goal
 
 -- a cell is left in each turn

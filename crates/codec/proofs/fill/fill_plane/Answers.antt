@@ -26,7 +26,8 @@ next : (c : At-loop-to)
     → let e = c.args in
     AtRun (layout_of e.shape) e.payload.now e.part.now c.loop-to.part e.at c.loop-to.k c.loop-to.from
     (e.at + c.plane_cells.result) c.loop-to.to
-next c = c.loop-to.invariant.2 _ (plane_fill _ _ _ _ _ _ _ _ c.requires.checks_listed c.requires.at_plane c.plane_cells.ensures) c.requires.at_plane.counted
+next c = c.loop-to.invariant.2 _ (plane_fill _ _ _ _ _ _ _ _ c.requires.checks_listed c.requires.at_plane c.plane_cells.ensures)
+    c.requires.at_plane.counted
 
 run : (c : At-loop-to)
     → Run (layout_of c.args.shape) c.loop-to.k c.loop-to.from c.loop-to.to
@@ -69,16 +70,28 @@ loop-to-init c = (
 )
 
 pub scatter_run-requires : goal.scatter_run-requires
-scatter_run-requires c =
-    (few (goal.at.scatter_run-requires c).At-loop-to, (next (goal.at.scatter_run-requires c).At-loop-to).behind, (run (goal.at.scatter_run-requires c).At-loop-to).ordered, le_trans c.loop-to.invariant.0 (room (goal.at.scatter_run-requires c).At-loop-to))
+scatter_run-requires c = (
+  few (goal.at.scatter_run-requires c).At-loop-to,
+  (next (goal.at.scatter_run-requires c).At-loop-to).behind,
+  (run (goal.at.scatter_run-requires c).At-loop-to).ordered,
+  le_trans c.loop-to.invariant.0
+      (room (goal.at.scatter_run-requires c).At-loop-to),
+)
 
 pub overflow_sub-part : goal.overflow_sub-part
-overflow_sub-part c = le_trans (next (goal.at.overflow_sub-part c).At-loop-to).behind (run (goal.at.overflow_sub-part c).At-loop-to).ordered
+overflow_sub-part c = le_trans (next (goal.at.overflow_sub-part c).At-loop-to).behind
+    (run (goal.at.overflow_sub-part c).At-loop-to).ordered
 
 pub bounds-part-to : goal.bounds-part-to
 bounds-part-to c =
     let inside = c.loop-to-test.true in
-    omega (arith, c.scatter_run.auto.part, room (goal.at.bounds-part-to c).At-loop-to, (next (goal.at.bounds-part-to c).At-loop-to).behind, (run (goal.at.bounds-part-to c).At-loop-to).ordered)
+    omega (
+      arith,
+      c.scatter_run.auto.part,
+      room (goal.at.bounds-part-to c).At-loop-to,
+      (next (goal.at.bounds-part-to c).At-loop-to).behind,
+      (run (goal.at.bounds-part-to c).At-loop-to).ordered,
+    )
 
 pub overflow_add-from : goal.overflow_add-from
 overflow_add-from c =
@@ -86,7 +99,12 @@ overflow_add-from c =
 
 pub overflow_add-k : goal.overflow_add-k
 overflow_add-k c =
-    omega (arith, limit (goal.at.overflow_add-k c).At-loop-to, few (goal.at.overflow_add-k c).At-loop-to, (next (goal.at.overflow_add-k c).At-loop-to).inside)
+    omega (
+      arith,
+      limit (goal.at.overflow_add-k c).At-loop-to,
+      few (goal.at.overflow_add-k c).At-loop-to,
+      (next (goal.at.overflow_add-k c).At-loop-to).inside,
+    )
 
 pub run_end-to-requires-in-loop-to : goal.run_end-to-requires-in-loop-to
 run_end-to-requires-in-loop-to c = c.requires.checks_listed.few
@@ -103,12 +121,23 @@ loop-to-preserved c =
       simp length-set (scattered.auto.part ∙ c.loop-to.invariant.1),
       λ L f counted.
           run_check L _ _ _ _ _ _ _ _ (c.loop-to.invariant.2 L f counted) f.long _ _ inside
-          scattered.ensures (omega (arith, c.scatter_run.auto.part, room (goal.at.loop-to-preserved c).At-loop-to, (next (goal.at.loop-to-preserved c).At-loop-to).behind, (run (goal.at.loop-to-preserved c).At-loop-to).ordered)) (c.run_end-to-in-loop-to.ensures.1 L f.lists f.inside),
+          scattered.ensures (omega (
+            arith,
+            c.scatter_run.auto.part,
+            room (goal.at.loop-to-preserved c).At-loop-to,
+            (next (goal.at.loop-to-preserved c).At-loop-to).behind,
+            (run (goal.at.loop-to-preserved c).At-loop-to).ordered,
+          ))
+          (c.run_end-to-in-loop-to.ensures.1 L f.lists f.inside),
     )
 
 pub scatter_run-requires-2 : goal.scatter_run-requires-2
-scatter_run-requires-2 c =
-    (few (goal.at.scatter_run-requires-2 c).At-loop-to, (next (goal.at.scatter_run-requires-2 c).At-loop-to).behind, (next (goal.at.scatter_run-requires-2 c).At-loop-to).inside, room (goal.at.scatter_run-requires-2 c).At-loop-to)
+scatter_run-requires-2 c = (
+  few (goal.at.scatter_run-requires-2 c).At-loop-to,
+  (next (goal.at.scatter_run-requires-2 c).At-loop-to).behind,
+  (next (goal.at.scatter_run-requires-2 c).At-loop-to).inside,
+  room (goal.at.scatter_run-requires-2 c).At-loop-to,
+)
 
 pub shape_of-part : goal.shape_of-part
 shape_of-part c = c.scatter_run-2.auto.part ∙ c.loop-to.invariant.1

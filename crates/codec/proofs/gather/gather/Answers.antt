@@ -29,7 +29,8 @@ module _ (c : At-loop-k) where
 
 pub overflow_cast-end : goal.overflow_cast-end
 overflow_cast-end c =
-    Fits-lt (listed_limit _ _ _ _ c.requires.cells_value c.requires.amount_le_max_checks.1 c.requires.field_fits.0.accepted _ c.loop-k-test.true)
+    Fits-lt (listed_limit _ _ _ _ c.requires.cells_value c.requires.amount_le_max_checks.1 c.requires.field_fits.0.accepted _
+    c.loop-k-test.true)
     (Fits-lit tt)
 
 pub gather_run-requires : goal.gather_run-requires
@@ -37,11 +38,21 @@ gather_run-requires c =
     let turn = c.loop-k in
     let inside = c.loop-k-test.true in
     let here = before (goal.at.gather_run-requires c).At-loop-k in
-    let run = next_run _ _ _ _ (own (goal.at.gather_run-requires c).At-loop-k) (le_of_eq c.requires.cells_value) turn.k turn.begin turn.invariant.1 here
+    let run = next_run _ _ _ _ (own (goal.at.gather_run-requires c).At-loop-k) (le_of_eq c.requires.cells_value) turn.k
+    turn.begin turn.invariant.1 here
     inside in
     let stops = listed_inside _ _ _ _ c.requires.cells_value c.requires.amount_le_max_checks.1 _ inside in
     record {
-      k_le_begin = (checks_before _ _ _ here, run.ordered, omega (arith, c.requires.cells_value, c.requires.field_fits.0.long, stops));
+      k_le_begin = (
+        checks_before _ _ _ here,
+        run.ordered,
+        omega (
+          arith,
+          c.requires.cells_value,
+          c.requires.field_fits.0.long,
+          stops,
+        ),
+      );
       received = c.requires.field_fits.1;
     }
 
@@ -78,7 +89,11 @@ gather_run-requires-2 c =
     let turn = c.loop-k in
     let all : turn.k ≡ c.args.amount = le_antisymm turn.invariant.0 c.loop-k-test.false in
     record {
-      k_le_begin = (omega (arith, checks_before _ _ _ (before (goal.at.gather_run-requires-2 c).At-loop-k)), turn.invariant.1, le_of_eq (c.requires.cells_value ∙ sym c.requires.field_fits.0.long));
+      k_le_begin = (
+        omega (arith, checks_before _ _ _ (before (goal.at.gather_run-requires-2 c).At-loop-k)),
+        turn.invariant.1,
+        le_of_eq (c.requires.cells_value ∙ sym c.requires.field_fits.0.long),
+      );
       received = c.requires.field_fits.1;
     }
 

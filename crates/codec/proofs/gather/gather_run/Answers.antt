@@ -28,7 +28,8 @@ loop-i-preserved c =
       omega arith,
       some.auto.payload ∙ turn.invariant.2,
       λ L run holds.
-          some.ensures.holds_bytes L (run_part L _ _ _ _ _ run turn.invariant.0 turn.invariant.1 (le_refl _)) (turn.invariant.3 L run holds),
+          some.ensures.holds_bytes L (run_part L _ _ _ _ _ run turn.invariant.0 turn.invariant.1 (le_refl _))
+          (turn.invariant.3 L run holds),
     )
 
 pub shape_of-payload : goal.shape_of-payload

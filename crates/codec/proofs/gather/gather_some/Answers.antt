@@ -19,7 +19,8 @@ returns-then-begins_byte c =
     let begins = c.begins_byte.ensures c.if-begins_byte.true in
     record {
       lower_bound = (omega arith, omega (arith, begins.enough));
-      holds_bytes = λ L run holds. rw c.eight.ensures (gathered_byte L _ _ _ holds _ _ run _ (having_cells 1 _ _) c.requires.k_le_i.2 begins);
+      holds_bytes = λ L run holds. rw c.eight.ensures (gathered_byte L _ _ _ holds _ _ run _ (having_cells 1 _ _)
+          c.requires.k_le_i.2 begins);
     }
 
 pub returns : goal.returns

@@ -33,12 +33,15 @@ planned : (c : After-data_in)
     c.args.shape
 planned c =
     let own = c.classes.ensures in
-    bytes_given _ _ _ _ (told_none c.tests-tested.ensures c.in_default.is) (c.class_sizes.ensures.holds_sizes (told_none c.tests-tested.ensures c.in_default.is)) own (c.data_in.ensures (rw own (classes_given _)))
+    bytes_given _ _ _ _ (told_none c.tests-tested.ensures c.in_default.is) (c.class_sizes.ensures.holds_sizes
+    (told_none c.tests-tested.ensures c.in_default.is)) own (c.data_in.ensures (rw own (classes_given _)))
 
 bytes : (c : Else-payload-data_in)
     → let a = c.args in
     length a.payload.now ≡ plan_bytes a.shape
-bytes c = c.if-payload-data_in.false ∙ (let own = c.classes.ensures in bytes_given _ _ _ _ (told_none c.tests-tested.ensures c.in_default.is) (c.class_sizes.ensures.holds_sizes (told_none c.tests-tested.ensures c.in_default.is)) own (c.data_in.ensures (rw own (classes_given _))))
+bytes c = c.if-payload-data_in.false ∙ (let own = c.classes.ensures in bytes_given _ _ _ _ (told_none c.tests-tested.ensures
+    c.in_default.is) (c.class_sizes.ensures.holds_sizes (told_none c.tests-tested.ensures c.in_default.is)) own
+    (c.data_in.ensures (rw own (classes_given _))))
 
 pub returns-in-Refused : goal.returns-in-Refused
 returns-in-Refused c =
@@ -52,7 +55,8 @@ returns-in-Refused c =
 pub returns-then-payload-data_in : goal.returns-then-payload-data_in
 returns-then-payload-data_in c =
     record {
-      result_value = sym (payload_number _ _ _ (accepted (goal.at.returns-then-payload-data_in c).After-class_sizes) (λ e. c.if-payload-data_in.true (e ∙ sym (planned (goal.at.returns-then-payload-data_in c).After-data_in))));
+      result_value = sym (payload_number _ _ _ (accepted (goal.at.returns-then-payload-data_in c).After-class_sizes)
+          (λ e. c.if-payload-data_in.true (e ∙ sym (planned (goal.at.returns-then-payload-data_in c).After-data_in))));
       no_outside = other_reason refl why.OutsideShape (λ e. omega arith);
       fits = λ z. absurd (omega arith);
     }
@@ -61,7 +65,8 @@ pub returns-then-field-cells : goal.returns-then-field-cells
 returns-then-field-cells c =
     record {
       result_value = sym
-          (field_number_lem _ _ _ (accepted (goal.at.returns-then-field-cells c).After-class_sizes) (bytes (goal.at.returns-then-field-cells c).Else-payload-data_in)
+          (field_number_lem _ _ _ (accepted (goal.at.returns-then-field-cells c).After-class_sizes)
+          (bytes (goal.at.returns-then-field-cells c).Else-payload-data_in)
           (λ z. c.if-field-cells.true (z ∙ sym (cells_given _ _ c.cells.ensures))));
       no_outside = length_outside;
       fits = λ z. absurd (omega arith);
@@ -71,10 +76,20 @@ pub returns : goal.returns
 returns c =
     let cells = c.if-field-cells.false ∙ cells_given _ _ c.cells.ensures in
     record {
-      result_value = sym (fit_number _ _ _ (accepted (goal.at.returns c).After-class_sizes) (bytes (goal.at.returns c).Else-payload-data_in) cells);
+      result_value = sym (fit_number _ _ _ (accepted (goal.at.returns c).After-class_sizes)
+          (bytes (goal.at.returns c).Else-payload-data_in) cells);
       no_outside = passed_reason why.OutsideShape;
       fits = λ z. record {
-        of_payload = record { accepted = accepted (goal.at.returns c).After-class_sizes; long = bytes (goal.at.returns c).Else-payload-data_in ∙ plan_bytes_lem _ (accepted (goal.at.returns c).After-class_sizes); sized = sized (goal.at.returns c).After-class_sizes };
-        of_field = record { accepted = accepted (goal.at.returns c).After-class_sizes; long = cells ∙ plan_cells_lem _ (accepted (goal.at.returns c).After-class_sizes) };
+        of_payload = record {
+          accepted = accepted (goal.at.returns c).After-class_sizes;
+          long = bytes
+              (goal.at.returns c).Else-payload-data_in ∙ plan_bytes_lem _ (accepted (goal.at.returns c).After-class_sizes);
+          sized = sized (goal.at.returns c).After-class_sizes;
+        };
+        of_field = record {
+          accepted = accepted (goal.at.returns c).After-class_sizes;
+          long = cells ∙ plan_cells_lem _
+              (accepted (goal.at.returns c).After-class_sizes);
+        };
       };
     }

@@ -8,7 +8,8 @@ use Rattle.codec.proofs.syndromes.take_line.Given as goal
 
 abbrev pub invariant-loop-x : goal.invariant-loop-x
 invariant-loop-x l =
-    (l.x ≤ l.w) × (length l.t ≡ length l.initial.t) × LineTaken (having l.value (field_of l.field)) l.start l.n l.x l.e l.initial.t l.t
+    (l.x ≤ l.w) × (length l.t ≡ length l.initial.t) × LineTaken (having l.value (field_of l.field)) l.start l.n l.x l.e
+    l.initial.t l.t
 
 abbrev pub decreases-loop-x : goal.decreases-loop-x
 decreases-loop-x l = l.w - l.x

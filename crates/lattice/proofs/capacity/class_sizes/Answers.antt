@@ -27,7 +27,12 @@ pub sizes_by-requires : goal.sizes_by-requires
 sizes_by-requires c =
     record {
       of_shape = (
-        record { shape = _; accepted = accepted (goal.at.sizes_by-requires c).In_default; same = own (goal.at.sizes_by-requires c).After-pass },
+        record {
+          shape = _;
+          accepted = accepted (goal.at.sizes_by-requires c).In_default;
+          same = own (goal.at.sizes_by-requires
+              c).After-pass;
+        },
         rw c.sizes_by-arg-1.given.0.1 (le_refl _),
       );
       by_index = c.clear.ensures;

@@ -22,7 +22,8 @@ overflow_add-result c =
     let fits = c.ranges in
     Fits-below tt
     (add-le-add
-    (mul-le-mul (le_trans (slice_most (goal.at.overflow_add-result c).After-struct_known-1) (most_32 fits.row)) (most_16 c.struct_known-1.given.0))
+    (mul-le-mul (le_trans (slice_most (goal.at.overflow_add-result c).After-struct_known-1) (most_32 fits.row))
+    (most_16 c.struct_known-1.given.0))
     (le_trans (rw c.class_with.ensures (class_most _ _))
     (add-le-add (most_16 c.struct_known-1.given.0) (most_32 fits.column))))
 

@@ -42,12 +42,14 @@ scan_order-scan-requires c = omega (arith, accepted_bounds _ _ _ _ (accepted c))
 -- what the scan of the order gives
 scanned : (c : After-scan_order-scan)
     → let a = c.args in scan_of c.scan_order-scan.result ≡ outcome a.m a.b a.c a.t
-scanned c = outcome_is _ _ _ _ (accepted_bounds _ _ _ _ (told_none c.distance_tests-tested.ensures c.in_default.is)).0 _ c.scan_order-scan.ensures
+scanned c = outcome_is _ _ _ _ (accepted_bounds _ _ _ _ (told_none c.distance_tests-tested.ensures c.in_default.is)).0 _
+    c.scan_order-scan.ensures
 
 pub returns-then-scan : goal.returns-then-scan
 returns-then-scan c =
     record {
-      distance_test = one_fails _ _ _ _ (scan_of c.scan_order-scan.result) (accepted (goal.at.returns-then-scan c).In_default) (scanned (goal.at.returns-then-scan c).After-scan_order-scan) c.if-scan.true;
+      distance_test = one_fails _ _ _ _ (scan_of c.scan_order-scan.result) (accepted (goal.at.returns-then-scan c).In_default)
+          (scanned (goal.at.returns-then-scan c).After-scan_order-scan) c.if-scan.true;
       max_test_strength_value = refl;
       max_test_classes_value = refl;
     }
@@ -55,7 +57,8 @@ returns-then-scan c =
 pub returns : goal.returns
 returns c =
     record {
-      distance_test = none_fails _ _ _ _ (scan_of c.scan_order-scan.result) (accepted (goal.at.returns c).In_default) (scanned (goal.at.returns c).After-scan_order-scan) c.if-scan.false;
+      distance_test = none_fails _ _ _ _ (scan_of c.scan_order-scan.result) (accepted (goal.at.returns c).In_default)
+          (scanned (goal.at.returns c).After-scan_order-scan) c.if-scan.false;
       max_test_strength_value = refl;
       max_test_classes_value = refl;
     }

@@ -15,8 +15,10 @@ returns-then-not-within c = sym (number_two _ _ _ _ (strength_refused _ _ c.with
 
 pub returns-then-not-settings_ok : goal.returns-then-not-settings_ok
 returns-then-not-settings_ok c =
-    sym (number_nine _ _ _ _ (strong (goal.at.returns-then-not-settings_ok c).Else-not-within) (failed _ _ c.if-not-settings_ok.true c.settings_ok.ensures))
+    sym (number_nine _ _ _ _ (strong (goal.at.returns-then-not-settings_ok c).Else-not-within)
+    (failed _ _ c.if-not-settings_ok.true c.settings_ok.ensures))
 
 pub returns : goal.returns
 returns c =
-    sym (number_zero _ _ _ _ (strong (goal.at.returns c).Else-not-within) (passed _ _ c.if-not-settings_ok.false c.settings_ok.ensures))
+    sym (number_zero _ _ _ _ (strong (goal.at.returns c).Else-not-within) (passed _ _ c.if-not-settings_ok.false
+    c.settings_ok.ensures))

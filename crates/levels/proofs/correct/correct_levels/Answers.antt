@@ -21,7 +21,8 @@ returns-in-Refused c =
       number = e;
       count = refused c.in-Refused.why _ _ _ e;
       leaves = refused c.in-Refused.why _ _ _ e;
-      reason = λ z. let same : c.in-Refused.why ≡ why.OutsideShape = cc in kept_reason why.OutsideShape c.in-Refused.is t.no_outside same;
+      reason = λ z. let same : c.in-Refused.why ≡ why.OutsideShape = cc in kept_reason why.OutsideShape c.in-Refused.is
+          t.no_outside same;
     }
 
 pub store_corrected-requires : goal.store_corrected-requires

@@ -19,7 +19,8 @@ accepted c = told_none c.tests-tested.ensures c.in_default.is
 -- a field of an accepted shape's length
 long : (c : Else-field-cells)
     → let a = c.args in length a.field.now ≡ cells_of a.shape
-long c = c.if-field-cells.false ∙ cells_given _ _ c.cells.ensures ∙ plan_cells_lem _ (told_none c.tests-tested.ensures c.in_default.is)
+long c = c.if-field-cells.false ∙ cells_given _ _ c.cells.ensures ∙ plan_cells_lem _ (told_none c.tests-tested.ensures
+    c.in_default.is)
 
 pub returns-in-Refused : goal.returns-in-Refused
 returns-in-Refused c =
@@ -54,7 +55,8 @@ pub returns : goal.returns
 returns c =
     let made = c.examine_levels.ensures in
     record {
-      result_value = made.result_value ∙ sym (correct_number_lem _ (accepted (goal.at.returns c).In_default) _ (long (goal.at.returns c).Else-field-cells));
+      result_value = made.result_value ∙ sym (correct_number_lem _ (accepted (goal.at.returns c).In_default) _
+          (long (goal.at.returns c).Else-field-cells));
       no_outside = other_reason made.result_value why.OutsideShape (number_other _ _);
       levels_examined = made.levels_examined;
     }

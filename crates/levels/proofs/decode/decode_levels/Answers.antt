@@ -21,12 +21,16 @@ returns-in-Refused c =
       number = e;
       count = refused c.in-Refused.why _ _ _ e;
       leaves = refused c.in-Refused.why _ _ _ e;
-      reason = λ z. let same : c.in-Refused.why ≡ why.OutsideShape = cc in kept_reason why.OutsideShape c.in-Refused.is t.no_outside same;
+      reason = λ z. let same : c.in-Refused.why ≡ why.OutsideShape = cc in kept_reason why.OutsideShape c.in-Refused.is
+          t.no_outside same;
     }
 
 pub store_digits-requires : goal.store_digits-requires
 store_digits-requires c =
-    let e = c.decode_tests-tested.ensures.levels_examined (ap tested_number c.in_default.is) in record { levels_examined = e.0; payload_len = e.1 }
+    let e = c.decode_tests-tested.ensures.levels_examined (ap tested_number c.in_default.is) in record {
+      levels_examined = e.0;
+      payload_len = e.1;
+    }
 
 pub returns : goal.returns
 unfolding decode_levels_count decode_levels_leaves

@@ -20,7 +20,8 @@ returns-in-Refused c =
     let t = c.length_tests-tested.ensures in
     record {
       result_value = earlier_told c.in-Refused.why _ _ (told t.result_value c.in-Refused.is) ∙ decode_tests _ _ _;
-      no_outside = (λ e. let same : c.in-Refused.why ≡ why.OutsideShape = cc in kept_reason why.OutsideShape c.in-Refused.is t.no_outside same);
+      no_outside = (λ e. let same : c.in-Refused.why ≡ why.OutsideShape = cc in kept_reason why.OutsideShape c.in-Refused.is
+          t.no_outside same);
       levels_examined = λ z. absurd (some_number c.in-Refused.why z);
     }
 

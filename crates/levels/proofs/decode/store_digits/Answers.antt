@@ -76,7 +76,8 @@ count_if-rank-requires c =
 pub count_if-changed-requires : goal.count_if-changed-requires
 count_if-changed-requires c =
     let a = c.args in
-    changed_limit a.shape (field_of a.field.now) _ _ _ (limit (goal.at.count_if-changed-requires c).In-loop-i) c.loop-i.invariant.5
+    changed_limit a.shape (field_of a.field.now) _ _ _ (limit (goal.at.count_if-changed-requires c).In-loop-i)
+    c.loop-i.invariant.5
 
 pub overflow_add-i : goal.overflow_add-i
 overflow_add-i c = omega (arith, limit (goal.at.overflow_add-i c).In-loop-i)
@@ -93,11 +94,17 @@ loop-i-preserved c =
     let a = c.args in
     let stored = c.store_digit in (
       omega arith,
-      record { walk = c.next_cell-walk.ensures _ c.requires.levels_examined.laid.accepted given _ inv.1.walk; counted = spot.holds_sizes },
+      record {
+        walk = c.next_cell-walk.ensures _ c.requires.levels_examined.laid.accepted given _ inv.1.walk;
+        counted =
+            spot.holds_sizes;
+      },
       rank_more _ _ _ _ _ inv.2 held c.count_if-rank.ensures,
       stored.auto.payload ∙ inv.3,
-      held_more _ _ _ _ _ _ _ _ inv.4 stored.auto.payload held inv.2 (value (goal.at.loop-i-preserved c).After-restored_level-value) stored.ensures,
-      changed_more a.shape (field_of a.field.now) _ _ _ _ _ _ _ spot.spot_of _ inv.5 refl (value (goal.at.loop-i-preserved c).After-restored_level-value)
+      held_more _ _ _ _ _ _ _ _ inv.4 stored.auto.payload held inv.2
+          (value (goal.at.loop-i-preserved c).After-restored_level-value) stored.ensures,
+      changed_more a.shape (field_of a.field.now) _ _ _ _ _ _ _ spot.spot_of _ inv.5 refl
+          (value (goal.at.loop-i-preserved c).After-restored_level-value)
           c.differs.ensures c.count_if-changed.ensures,
     )
 
@@ -110,6 +117,7 @@ returns c =
     let pre = c.requires in
     let a = c.args in
     record {
-      payload_after = held_all _ pre.levels_examined.laid.accepted _ _ _ _ (inv.3 ∙ pre.payload_len) pre.levels_examined.long inv.0 c.loop-i-test.false inv.4;
+      payload_after = held_all _ pre.levels_examined.laid.accepted _ _ _ _ (inv.3 ∙ pre.payload_len) pre.levels_examined.long
+          inv.0 c.loop-i-test.false inv.4;
       value = changed_all a.shape (field_of a.field.now) _ _ _ _ pre.levels_examined.long inv.0 c.loop-i-test.false inv.5;
     }

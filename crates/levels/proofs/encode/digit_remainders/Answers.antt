@@ -19,7 +19,8 @@ all c = at_cells _ c.requires.laid.accepted _ c.cells-cells.ensures
 
 limit : (c : In-loop-i) → c.loop-i.i < max_cells
 limit c =
-    cell_limit c.args.shape _ (at_cells _ c.requires.laid.accepted _ c.cells-cells.ensures) _ c.loop-i-test.true c.requires.laid.accepted
+    cell_limit c.args.shape _ (at_cells _ c.requires.laid.accepted _ c.cells-cells.ensures) _ c.loop-i-test.true
+    c.requires.laid.accepted
 
 pub loop-i-init : goal.loop-i-init
 loop-i-init c =
@@ -33,7 +34,8 @@ loop-i-init c =
 pub spot_of-spot-requires : goal.spot_of-spot-requires
 spot_of-spot-requires c =
     let given = c.pass-pass.ensures in
-    let cell = at_cell _ _ _ _ _ _ given (all (goal.at.spot_of-spot-requires c).At-loop-i) c.loop-i-test.true c.loop-i.invariant.1 in
+    let cell = at_cell _ _ _ _ _ _ given (all (goal.at.spot_of-spot-requires c).At-loop-i) c.loop-i-test.true
+    c.loop-i.invariant.1 in
     record {
       laid = c.requires.laid;
       at_cell = cell;

@@ -26,7 +26,8 @@ returns-in-Refused c =
     record {
       number = e;
       leaves = refused c.in-Refused.why _ _ _ e;
-      reason = λ z. let same : c.in-Refused.why ≡ why.OutsideShape = cc in kept_reason why.OutsideShape c.in-Refused.is t.no_outside same;
+      reason = λ z. let same : c.in-Refused.why ≡ why.OutsideShape = cc in kept_reason why.OutsideShape c.in-Refused.is
+          t.no_outside same;
     }
 
 pub digit_remainders-requires : goal.digit_remainders-requires

@@ -34,14 +34,16 @@ returns-in-Refused c =
     let t = c.length_tests-tested.ensures in
     record {
       result_value = earlier_told c.in-Refused.why _ _ (told t.result_value c.in-Refused.is) ∙ encode_tests _ _ _;
-      no_outside = (λ e. let same : c.in-Refused.why ≡ why.OutsideShape = cc in kept_reason why.OutsideShape c.in-Refused.is t.no_outside same);
+      no_outside = (λ e. let same : c.in-Refused.why ≡ why.OutsideShape = cc in kept_reason why.OutsideShape c.in-Refused.is
+          t.no_outside same);
       lengths_fit = λ z. absurd (some_number c.in-Refused.why z);
     }
 
 pub returns-then-not-levels_ok : goal.returns-then-not-levels_ok
 returns-then-not-levels_ok c =
     record {
-      result_value = left (goal.at.returns-then-not-levels_ok c).In_default _ (failed _ _ c.if-not-levels_ok.true c.levels_ok.ensures);
+      result_value = left (goal.at.returns-then-not-levels_ok c).In_default _ (failed _ _ c.if-not-levels_ok.true
+          c.levels_ok.ensures);
       no_outside = other_reason refl why.OutsideShape (λ e. omega arith);
       lengths_fit = λ z. absurd (omega arith);
     }

@@ -26,7 +26,8 @@ module _ (c : After-field_remainders) where
       record {
         laid = pre.laid;
         long = pre.field_len;
-        levels = examined_levels c.args.shape c.args.field.now pre.field_len (passed _ _ c.if-not-levels_ok.false c.levels_ok.ensures);
+        levels = examined_levels c.args.shape c.args.field.now pre.field_len (passed _ _ c.if-not-levels_ok.false
+            c.levels_ok.ensures);
         held = c.field_remainders.ensures;
       }
 
@@ -34,7 +35,8 @@ pub returns-then-not-levels_ok : goal.returns-then-not-levels_ok
 returns-then-not-levels_ok c =
     let a = c.args in
     record {
-      result_value = number_above a.shape a.field.now c.requires.field_len (failed _ _ c.if-not-levels_ok.true c.levels_ok.ensures);
+      result_value = number_above a.shape a.field.now c.requires.field_len (failed _ _ c.if-not-levels_ok.true
+          c.levels_ok.ensures);
       levels_examined = λ z. absurd (omega arith);
     }
 
@@ -53,7 +55,8 @@ pub returns-then-not-levels_in_reach : goal.returns-then-not-levels_in_reach
 returns-then-not-levels_in_reach c =
     let a = c.args in
     record {
-      result_value = number_reach a.shape a.field.now c.requires.field_len (ok (goal.at.returns-then-not-levels_in_reach c).Else-not-levels_ok)
+      result_value = number_reach a.shape a.field.now c.requires.field_len (ok (goal.at.returns-then-not-levels_in_reach
+          c).Else-not-levels_ok)
           (failed _ _ c.if-not-levels_in_reach.true c.levels_in_reach.ensures);
       levels_examined = λ z. absurd (omega arith);
     }

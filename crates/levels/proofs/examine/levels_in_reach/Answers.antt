@@ -69,7 +69,8 @@ loop-i-preserved c =
     let walk = c.next_cell-walk.ensures _ c.requires.laid.accepted given _ c.loop-i.invariant.1.walk in (
       omega arith,
       record { walk = walk; counted = c.spot_of-spot.ensures.holds_sizes },
-      passed_more _ _ c.loop-i.invariant.2 (passed _ _ c.if-not-can_restore.false (tested (goal.at.loop-i-preserved c).After-can_restore)),
+      passed_more _ _ c.loop-i.invariant.2 (passed _ _ c.if-not-can_restore.false
+          (tested (goal.at.loop-i-preserved c).After-can_restore)),
     )
 
 pub returns : goal.returns

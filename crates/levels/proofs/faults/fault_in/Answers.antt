@@ -19,7 +19,8 @@ pub returns-then-leaves : goal.returns-then-leaves
 returns-then-leaves c =
     let pre = c.requires in
     let found =
-    trial_found _ _ pre.remainder_nonzero.0 pre.remainder_nonzero.1 pre.cell_bound _ _ c.multiplier-factor.ensures.value c.only_change-up.ensures _
+    trial_found _ _ pre.remainder_nonzero.0 pre.remainder_nonzero.1 pre.cell_bound _ _ c.multiplier-factor.ensures.value
+    c.only_change-up.ensures _
     c.leaves.ensures c.if-leaves.true in
     record {
       value = λ e. sym found;
@@ -30,7 +31,8 @@ pub returns-else-leaves : goal.returns-else-leaves
 returns-else-leaves c =
     let pre = c.requires in
     let other =
-    found_elsewhere _ _ pre.remainder_nonzero.0 pre.remainder_nonzero.1 pre.cell_bound _ _ c.multiplier-factor.ensures.value c.only_change-up.ensures _
+    found_elsewhere _ _ pre.remainder_nonzero.0 pre.remainder_nonzero.1 pre.cell_bound _ _ c.multiplier-factor.ensures.value
+    c.only_change-up.ensures _
     c.leaves.ensures c.if-leaves.false in
     record {
       value = λ e. absurd (other e);

@@ -24,7 +24,8 @@ planned c = c.lay_words.ensures.value ∙ sym (plan_digits_lem _ (told_none c.te
 digits : (c : Else-payload-lay_words)
     → let a = c.args in
     length a.payload.now ≡ plan_digits a.shape
-digits c = c.if-payload-lay_words.false ∙ (c.lay_words.ensures.value ∙ sym (plan_digits_lem _ (told_none c.tests-tested.ensures c.in_default.is)))
+digits c = c.if-payload-lay_words.false ∙ (c.lay_words.ensures.value ∙ sym (plan_digits_lem _ (told_none c.tests-tested.ensures
+    c.in_default.is)))
 
 pub returns-in-Refused : goal.returns-in-Refused
 returns-in-Refused c =
@@ -41,7 +42,8 @@ lay_words-requires c = accepted (goal.at.lay_words-requires c).In_default
 pub returns-then-payload-lay_words : goal.returns-then-payload-lay_words
 returns-then-payload-lay_words c =
     record {
-      result_value = sym (digits_number _ _ _ (accepted (goal.at.returns-then-payload-lay_words c).In_default) (λ e. c.if-payload-lay_words.true (e ∙ sym (planned (goal.at.returns-then-payload-lay_words c).After-lay_words))));
+      result_value = sym (digits_number _ _ _ (accepted (goal.at.returns-then-payload-lay_words c).In_default)
+          (λ e. c.if-payload-lay_words.true (e ∙ sym (planned (goal.at.returns-then-payload-lay_words c).After-lay_words))));
       no_outside = other_reason refl why.OutsideShape (λ e. omega arith);
       lengths_fit = λ z. absurd (omega arith);
     }
@@ -50,7 +52,8 @@ pub returns-then-field-cells : goal.returns-then-field-cells
 returns-then-field-cells c =
     record {
       result_value = sym
-          (field_number_lem _ _ _ (accepted (goal.at.returns-then-field-cells c).In_default) (digits (goal.at.returns-then-field-cells c).Else-payload-lay_words)
+          (field_number_lem _ _ _ (accepted (goal.at.returns-then-field-cells c).In_default)
+          (digits (goal.at.returns-then-field-cells c).Else-payload-lay_words)
           (λ z. c.if-field-cells.true (z ∙ sym (cells_given _ _ c.cells.ensures))));
       no_outside = length_outside;
       lengths_fit = λ z. absurd (omega arith);

@@ -25,7 +25,12 @@ returns-in-Refused c =
 
 pub place_all-requires : goal.place_all-requires
 place_all-requires c = (
-  record { shape = _; accepted = accepted (goal.at.place_all-requires c).In_default; same = own (goal.at.place_all-requires c).After-pass },
+  record {
+    shape = _;
+    accepted = accepted (goal.at.place_all-requires c).In_default;
+    same = own (goal.at.place_all-requires
+        c).After-pass;
+  },
   omega arith,
   omega arith,
 )

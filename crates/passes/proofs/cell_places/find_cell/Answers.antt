@@ -98,10 +98,18 @@ pub overflow_sub-result-then-position-before : goal.overflow_sub-result-then-pos
 overflow_sub-result-then-position-before c = omega arith
 
 pub overflow_mul-result-then-position-before : goal.overflow_mul-result-then-position-before
-overflow_mul-result-then-position-before c = omega (arith, cell (goal.at.overflow_mul-result-then-position-before c).Then-position-before)
+overflow_mul-result-then-position-before c = omega (
+  arith,
+  cell (goal.at.overflow_mul-result-then-position-before
+      c).Then-position-before,
+)
 
 pub overflow_add-result-then-position-before : goal.overflow_add-result-then-position-before
-overflow_add-result-then-position-before c = omega (arith, cell (goal.at.overflow_add-result-then-position-before c).Then-position-before)
+overflow_add-result-then-position-before c = omega (
+  arith,
+  cell (goal.at.overflow_add-result-then-position-before
+      c).Then-position-before,
+)
 
 pub overflow_cast-result : goal.overflow_cast-result
 overflow_cast-result c = omega (arith, cell (goal.at.overflow_cast-result c).Then-position-before)
@@ -110,10 +118,15 @@ pub returns-then-position-before : goal.returns-then-position-before
 returns-then-position-before c =
     λ s accepted same.
     given_cell (layout_of s) _ _ _ c.requires.2
-    ((turn (goal.at.returns-then-position-before c).After-raised-here s accepted same).found _ c.loop-l.invariant.0 c.if-position-before.true)
+    ((turn (goal.at.returns-then-position-before c).After-raised-here s accepted same).found _ c.loop-l.invariant.0
+    c.if-position-before.true)
 
 pub overflow_add-before-in-loop-l : goal.overflow_add-before-in-loop-l
-overflow_add-before-in-loop-l c = omega (arith, (own (goal.at.overflow_add-before-in-loop-l c).After-raised-here).least, (own (goal.at.overflow_add-before-in-loop-l c).After-raised-here).inside)
+overflow_add-before-in-loop-l c = omega (
+  arith,
+  (own (goal.at.overflow_add-before-in-loop-l c).After-raised-here).least,
+  (own (goal.at.overflow_add-before-in-loop-l c).After-raised-here).inside,
+)
 
 -- the step from line to line
 stride : (e : Start)
@@ -136,7 +149,8 @@ loop-l-preserved c = (
   omega arith,
   λ s accepted same.
       let is = (c.loop-l.invariant.1 s accepted same).line in
-      (turn (goal.at.loop-l-preserved c).After-raised-here s accepted same).next _ (c.next_line-line.ensures s accepted same _ is),
+      (turn (goal.at.loop-l-preserved c).After-raised-here s accepted same).next _ (c.next_line-line.ensures s accepted same _
+      is),
 )
 
 pub returns : goal.returns

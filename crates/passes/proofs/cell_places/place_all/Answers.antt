@@ -46,7 +46,8 @@ loop-a-preserved c =
       omega arith,
       simp length-set turn.invariant.1,
       λ s accepted same.
-          cells_more (layout_of s) turn.a c.cell_at.result c.args.positions.now turn.cells (omega (arith, few (goal.at.loop-a-preserved c).Start))
+          cells_more (layout_of s) turn.a c.cell_at.result c.args.positions.now turn.cells
+          (omega (arith, few (goal.at.loop-a-preserved c).Start))
           (turn.invariant.2 s accepted same) (c.cell_at.ensures s accepted same),
     )
 

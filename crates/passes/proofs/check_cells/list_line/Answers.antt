@@ -85,11 +85,23 @@ overflow_add-cell c = omega (arith, inside (goal.at.overflow_add-cell c).In-loop
 
 pub overflow_add-first : goal.overflow_add-first
 overflow_add-first c =
-    omega (arith, below (goal.at.overflow_add-first c).In-loop-x, first_is (goal.at.overflow_add-first c).In-loop-x, slice (goal.at.overflow_add-first c).Start)
+    omega (
+      arith,
+      below (goal.at.overflow_add-first c).In-loop-x,
+      first_is (goal.at.overflow_add-first c).In-loop-x,
+      slice
+          (goal.at.overflow_add-first c).Start,
+    )
 
 pub list_cell-n-requires : goal.list_cell-n-requires
 list_cell-n-requires c = (
-  omega (arith, below (goal.at.list_cell-n-requires c).In-loop-x, first_is (goal.at.list_cell-n-requires c).In-loop-x, slice (goal.at.list_cell-n-requires c).Start),
+  omega (
+    arith,
+    below (goal.at.list_cell-n-requires c).In-loop-x,
+    first_is (goal.at.list_cell-n-requires c).In-loop-x,
+    slice
+        (goal.at.list_cell-n-requires c).Start,
+  ),
   omega (arith, inside (goal.at.list_cell-n-requires c).In-loop-x),
   omega (arith, count (goal.at.list_cell-n-requires c).In-loop-x),
 )
@@ -107,14 +119,16 @@ loop-x-preserved c =
     let low = c.loop-x-test.true in
     let more : c.args.line.start + turn.x + 1 ≡ c.args.line.start + (turn.x + 1) = omega arith in (
       omega arith,
-      place_next _ (c.args.line.start + turn.x) _ _ turn.invariant.1 (c.next_place-a.ensures (below (goal.at.loop-x-preserved c).In-loop-x))
+      place_next _ (c.args.line.start + turn.x) _ _ turn.invariant.1 (c.next_place-a.ensures
+          (below (goal.at.loop-x-preserved c).In-loop-x))
           ∙ ap (λ (n : ℕ). n % c.args.pass.period) more,
       λ s ok same.
           let within = c.requires.of_shape.1 in
           let own = cell_class_lem s ok _ same _ within _ (c.requires.of_shape.2 s ok same) turn.x low in
           let room = line_checks s ok _ same _ within turn.x low in
           line_goes s ok _ same _ within _ _ _ _ _ turn.x
-          (cell.ensures (layout_of s) (omega (arith, own, first_is (goal.at.loop-x-preserved c).In-loop-x, turn.invariant.1)) room (turn.invariant.2 s ok same)),
+          (cell.ensures (layout_of s) (omega (arith, own, first_is (goal.at.loop-x-preserved c).In-loop-x, turn.invariant.1))
+          room (turn.invariant.2 s ok same)),
     )
 
 pub returns : goal.returns

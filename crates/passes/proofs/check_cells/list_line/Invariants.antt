@@ -11,7 +11,8 @@ use Rattle.passes.proofs.check_cells.list_line.Given as goal
 abbrev pub invariant-loop-x : goal.invariant-loop-x
 invariant-loop-x l =
     (l.x ≤ l.pass.columns) × (l.a ≡ (l.initial.a + l.x) % l.pass.period)
-    × ((s : Shape) → Accepted s → l.pass ≡ pass_of s → ListedTo (layout_of s) (l.cell + l.x) l.n l.sizes l.counts l.cells l.places)
+    × ((s : Shape) → Accepted s → l.pass ≡ pass_of s → ListedTo (layout_of s) (l.cell + l.x) l.n l.sizes l.counts l.cells
+    l.places)
 
 abbrev pub decreases-loop-x : goal.decreases-loop-x
 decreases-loop-x l = l.pass.columns - l.x

@@ -54,7 +54,12 @@ pub look_ahead-free-requires : goal.look_ahead-free-requires
 look_ahead-free-requires c =
     let p = c.requires.of_shape.0 in
     record {
-      m_nonzero = (some p.shape p.accepted _ p.same, omega (arith, (few (goal.at.look_ahead-free-requires c).Start).1), omega arith);
+      m_nonzero = (
+        some p.shape p.accepted _ p.same,
+        omega (arith, (few (goal.at.look_ahead-free-requires c).Start).1),
+        omega
+            arith,
+      );
       no_power_near = c.requires.free_ahead;
     }
 
@@ -71,8 +76,12 @@ overflow_sub-m c =
 pub count_line-requires : goal.count_line-requires
 count_line-requires c =
     record {
-      m_in_bounds = (omega (arith, (few (goal.at.count_line-requires c).Start).1, slice (goal.at.count_line-requires c).Start), omega arith);
-      by_index = λ a l. counts (goal.at.count_line-requires c).Start _ (omega (arith, slice (goal.at.count_line-requires c).Start));
+      m_in_bounds = (
+        omega (arith, (few (goal.at.count_line-requires c).Start).1, slice (goal.at.count_line-requires c).Start),
+        omega arith,
+      );
+      by_index = λ a l. counts (goal.at.count_line-requires c).Start _
+          (omega (arith, slice (goal.at.count_line-requires c).Start));
     }
 
 pub returns-then-free-gt0 : goal.returns-then-free-gt0
@@ -87,7 +96,8 @@ returns-then-free-gt0 c =
       lines_listed_2 = (λ s ok same.
           line_passed s ok _ same _ c.requires.of_shape.1 _ (c.requires.of_shape.2 s ok same) _ _ gains old _ _ _
           c.requires.period_in_bounds.1 (ahead_first old _ _ _ some ahead) gained kept (c.requires.lines_listed s ok same));
-      free_ahead_2 = ahead_after _ _ _ _ gains old c.count_line.new.counts (few (goal.at.returns-then-free-gt0 c).Start).0 c.requires.period_in_bounds.1 gained kept _ _ some ahead;
+      free_ahead_2 = ahead_after _ _ _ _ gains old c.count_line.new.counts (few (goal.at.returns-then-free-gt0 c).Start).0
+          c.requires.period_in_bounds.1 gained kept _ _ some ahead;
     }
 
 pub list_line-amount-requires : goal.list_line-amount-requires

@@ -15,7 +15,18 @@ before : (c : In-loop-z)
 before c = c.loop-z.invariant.5 (c.loop-z.z - c.args.m) (omega arith)
 
 pub loop-z-init : goal.loop-z-init
-loop-z-init c = (omega arith, omega arith, refl, (λ k l. refl), (λ y l. omega arith), (λ k l. omega (arith, c.requires.by_index k l)))
+loop-z-init c = (
+  omega arith,
+  omega arith,
+  refl,
+  (λ k l. refl),
+  (λ y l. omega arith),
+  (λ k l. omega (
+    arith,
+    c.requires.by_index
+        k l,
+  )),
+)
 
 pub overflow_sub-p : goal.overflow_sub-p
 overflow_sub-p c = omega arith

@@ -25,20 +25,24 @@ returns-in-Refused c =
     record {
       number = e;
       class = refused c.in-Refused.why _ _ _ e;
-      reason = λ z. let same : c.in-Refused.why ≡ why.FieldLength = cc in kept_reason why.FieldLength c.in-Refused.is t.no_length same;
+      reason = λ z. let same : c.in-Refused.why ≡ why.FieldLength = cc in kept_reason why.FieldLength c.in-Refused.is
+          t.no_length same;
     }
 
 pub overflow_cast-row : goal.overflow_cast-row
 overflow_cast-row c =
-    let k = known (goal.at.overflow_cast-row c).In_default in Fits-below tt (le_trans (le_of_lt k.field.row) (legal _ k.accepted).height_high)
+    let k = known (goal.at.overflow_cast-row c).In_default in Fits-below tt (le_trans (le_of_lt k.field.row)
+    (legal _ k.accepted).height_high)
 
 pub overflow_cast-plane : goal.overflow_cast-plane
 overflow_cast-plane c =
-    let k = known (goal.at.overflow_cast-plane c).In_default in Fits-below tt (le_trans (le_of_lt k.field.plane) (legal _ k.accepted).planes_high)
+    let k = known (goal.at.overflow_cast-plane c).In_default in Fits-below tt (le_trans (le_of_lt k.field.plane)
+    (legal _ k.accepted).planes_high)
 
 pub overflow_cast-column : goal.overflow_cast-column
 overflow_cast-column c =
-    let k = known (goal.at.overflow_cast-column c).In_default in Fits-below tt (le_trans (le_of_lt k.field.column) (legal _ k.accepted).width_high)
+    let k = known (goal.at.overflow_cast-column c).In_default in Fits-below tt (le_trans (le_of_lt k.field.column)
+    (legal _ k.accepted).width_high)
 
 pub returns : goal.returns
 returns c = class_given_lem _ _ _ _ (known (goal.at.returns c).In_default) c.placement.ensures c.class_by.ensures

@@ -23,13 +23,15 @@ returns-in-Refused c =
 pub returns-then-not-contains : goal.returns-then-not-contains
 returns-then-not-contains c =
     record {
-      result_value = sym (outside_number _ _ (accepted (goal.at.returns-then-not-contains c).In_default) (failed _ _ c.if-not-contains.true c.contains.ensures));
+      result_value = sym (outside_number _ _ (accepted (goal.at.returns-then-not-contains c).In_default)
+          (failed _ _ c.if-not-contains.true c.contains.ensures));
       no_length = outside_length;
     }
 
 pub returns : goal.returns
 returns c =
     record {
-      result_value = sym (inside_number _ _ (accepted (goal.at.returns c).In_default) (passed _ _ c.if-not-contains.false c.contains.ensures));
+      result_value = sym (inside_number _ _ (accepted (goal.at.returns c).In_default) (passed _ _ c.if-not-contains.false
+          c.contains.ensures));
       no_length = passed_reason why.FieldLength;
     }

@@ -25,7 +25,8 @@ returns-then-not-within c = sym (size_width _ _ _ (failed _ _ c.if-not-within.tr
 
 pub returns-then-not-within-2 : goal.returns-then-not-within-2
 returns-then-not-within-2 c =
-    sym (size_height _ _ _ (columns (goal.at.returns-then-not-within-2 c).Else-not-within) (failed _ _ c.if-not-within-2.true c.within-2.ensures))
+    sym (size_height _ _ _ (columns (goal.at.returns-then-not-within-2 c).Else-not-within) (failed _ _ c.if-not-within-2.true
+    c.within-2.ensures))
 
 pub returns-then-not-within-3 : goal.returns-then-not-within-3
 returns-then-not-within-3 c =

@@ -22,14 +22,17 @@ returns-then-not-size_ok c = sym (number_size _ (failed _ _ c.if-not-size_ok.tru
 
 pub returns-then-not-strength_ok : goal.returns-then-not-strength_ok
 returns-then-not-strength_ok c =
-    sym (number_strength _ (size_passed (goal.at.returns-then-not-strength_ok c).Else-not-size_ok) (failed _ _ c.if-not-strength_ok.true c.strength_ok.ensures))
+    sym (number_strength _ (size_passed (goal.at.returns-then-not-strength_ok c).Else-not-size_ok)
+    (failed _ _ c.if-not-strength_ok.true c.strength_ok.ensures))
 
 pub returns-then-not-window_ok : goal.returns-then-not-window_ok
 returns-then-not-window_ok c =
-    sym (number_window _ (size_passed (goal.at.returns-then-not-window_ok c).Else-not-size_ok) (strength_passed (goal.at.returns-then-not-window_ok c).Else-not-strength_ok)
+    sym (number_window _ (size_passed (goal.at.returns-then-not-window_ok c).Else-not-size_ok)
+    (strength_passed (goal.at.returns-then-not-window_ok c).Else-not-strength_ok)
     (failed _ _ c.if-not-window_ok.true c.window_ok.ensures))
 
 pub returns : goal.returns
 returns c =
-    sym (number_accepted _ (size_passed (goal.at.returns c).Else-not-size_ok) (strength_passed (goal.at.returns c).Else-not-strength_ok)
+    sym (number_accepted _ (size_passed (goal.at.returns c).Else-not-size_ok)
+    (strength_passed (goal.at.returns c).Else-not-strength_ok)
     (passed _ _ c.if-not-window_ok.false c.window_ok.ensures))

@@ -26,22 +26,27 @@ returns-then-strength-ne0 c = c.is_none.ensures ∙ sym (window_beside _ _ _ c.i
 
 pub returns-then-not-within : goal.returns-then-not-within
 returns-then-not-within c =
-    sym (window_rows _ _ _ (alone (goal.at.returns-then-not-within c).Else-strength-ne0) (failed _ _ c.if-not-within.true c.within.ensures))
+    sym (window_rows _ _ _ (alone (goal.at.returns-then-not-within c).Else-strength-ne0) (failed _ _ c.if-not-within.true
+    c.within.ensures))
 
 pub returns-then-not-within-2 : goal.returns-then-not-within-2
 returns-then-not-within-2 c =
-    sym (window_columns _ _ _ (alone (goal.at.returns-then-not-within-2 c).Else-strength-ne0) (rows (goal.at.returns-then-not-within-2 c).Else-not-within)
+    sym (window_columns _ _ _ (alone (goal.at.returns-then-not-within-2 c).Else-strength-ne0)
+    (rows (goal.at.returns-then-not-within-2 c).Else-not-within)
     (failed _ _ c.if-not-within-2.true c.within-2.ensures))
 
 pub overflow_mul-window : goal.overflow_mul-window
 overflow_mul-window c =
     Fits-below {n = max_window * max_window} tt
-    (mul-le-mul (range_high 1 max_window _ (rows (goal.at.overflow_mul-window c).Else-not-within)) (range_high 1 max_window _ (columns (goal.at.overflow_mul-window c).Else-not-within-2)))
+    (mul-le-mul (range_high 1 max_window _ (rows (goal.at.overflow_mul-window c).Else-not-within)) (range_high 1 max_window _
+    (columns (goal.at.overflow_mul-window c).Else-not-within-2)))
 
 pub returns-then-window-gt-MAX_WINDOW : goal.returns-then-window-gt-MAX_WINDOW
 returns-then-window-gt-MAX_WINDOW c =
-    sym (window_product _ _ _ (alone (goal.at.returns-then-window-gt-MAX_WINDOW c).Else-strength-ne0) (rows (goal.at.returns-then-window-gt-MAX_WINDOW c).Else-not-within) c.if-window-gt-MAX_WINDOW.true)
+    sym (window_product _ _ _ (alone (goal.at.returns-then-window-gt-MAX_WINDOW c).Else-strength-ne0)
+    (rows (goal.at.returns-then-window-gt-MAX_WINDOW c).Else-not-within) c.if-window-gt-MAX_WINDOW.true)
 
 pub returns : goal.returns
 returns c =
-    sym (window_planes _ _ _ (alone (goal.at.returns c).Else-strength-ne0) (rows (goal.at.returns c).Else-not-within) (columns (goal.at.returns c).Else-not-within-2) c.if-window-gt-MAX_WINDOW.false)
+    sym (window_planes _ _ _ (alone (goal.at.returns c).Else-strength-ne0) (rows (goal.at.returns c).Else-not-within)
+    (columns (goal.at.returns c).Else-not-within-2) c.if-window-gt-MAX_WINDOW.false)
