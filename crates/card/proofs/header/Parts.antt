@@ -40,8 +40,8 @@ module _ (count : ℕ) (r : Lines) (x : LinesRead) (says : read_lines count r �
 
 -- the lines of the window are read
 module _ (s : List ℕ) (at : ℕ) where
-  pub window_left : any_key_at (keys_from 4 2) s at ≡ false → answer.Found sides.Absent at ≡ window_read
-      (optional_at window_keys s at)
+  pub window_left : any_key_at (keys_from 4 2) s at ≡ false → answer.Found sides.Absent at
+      ≡ window_read (optional_at window_keys s at)
   unfolding keys_from optional_at
   window_left e = rw e
 

@@ -41,8 +41,8 @@ module _ (h : Header) (r : NewShape) (x : IsNewShape (shape_numbers h) r) where
         at_cells (shape_of h) (new_accepted _ _ x s e) n
         (p ∙ ap (λ (t : Shape). figure (shape_number t) (cells_of t)) (new_shape_lem _ _ x s e))
 
-    pub new_many : (n : ℕ) → n ≡ figure (shape_number s) (cells_of s) → max_card_cells < n → max_card_cells < cells_of
-        (shape_of h)
+    pub new_many : (n : ℕ) → n ≡ figure (shape_number s) (cells_of s) → max_card_cells < n → max_card_cells
+        < cells_of (shape_of h)
     new_many n p l = rw (cells_given n p) at l
 
     pub new_card : (n : ℕ) → n ≡ figure (shape_number s) (cells_of s) → n ≤ max_card_cells → CardShape h s

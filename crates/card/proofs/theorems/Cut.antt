@@ -146,15 +146,15 @@ cut_answer s t cut (OneOfThree.written h p ch _ _ _ _ b) (OneOfThree.read k d ck
 cut_answer s t cut (OneOfThree.read h c ch _ _ _ b) (OneOfThree.written k q ck _ _ _ _ a) e =
     absurd (written_read h k ch ck cut q c (sym a ∙ e ∙ ap (λ (l : List ℕ). l ++ cut) b))
 cut_answer s t cut (OneOfThree.written h p ch _ _ _ _ b) (OneOfThree.refused _ a) e =
-    let alike = begin_alike (refusal_text (program_number t)) (written_text h p) cut (sym a ∙ e ∙ ap (λ (l : List ℕ). l ++ cut)
-    b) in
+    let alike = begin_alike (refusal_text (program_number t)) (written_text h p) cut (sym a ∙ e
+    ∙ ap (λ (l : List ℕ). l ++ cut) b) in
     absurd (omega (arith, alike, first_refusal (program_number t) [], first_written h p cut))
 cut_answer s t cut (OneOfThree.read h c ch _ _ _ b) (OneOfThree.refused _ a) e =
     let alike = begin_alike (refusal_text (program_number t)) (read_text h c) cut (sym a ∙ e ∙ ap (λ (l : List ℕ). l ++ cut) b) in
     absurd (omega (arith, alike, first_refusal (program_number t) [], first_read h c cut))
 cut_answer s t cut (OneOfThree.refused _ b) (OneOfThree.written k q ck _ _ _ _ a) e =
-    let alike = begin_alike (written_text k q) (refusal_text (program_number s)) cut (sym a ∙ e ∙ ap (λ (l : List ℕ). l ++ cut)
-    b) in
+    let alike = begin_alike (written_text k q) (refusal_text (program_number s)) cut (sym a ∙ e
+    ∙ ap (λ (l : List ℕ). l ++ cut) b) in
     absurd (omega (arith, alike, first_written k q [], first_refusal (program_number s) cut))
 cut_answer s t cut (OneOfThree.refused _ b) (OneOfThree.read k d ck _ _ _ a) e =
     let alike = begin_alike (read_text k d) (refusal_text (program_number s)) cut (sym a ∙ e ∙ ap (λ (l : List ℕ). l ++ cut) b) in

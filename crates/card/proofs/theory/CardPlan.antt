@@ -39,8 +39,8 @@ module _ (s : Shape) (accepted : Accepted s) where
       rw (plan_classes_lem s accepted) (classes_stack_most s accepted stack)
 
   -- decoding leaves as many bytes as the plan gives
-  pub leaves_long : (payload field : List ℕ) → length payload ≡ plan_bytes s → length (decode_leaves s payload field) ≡
-      plan_bytes s
+  pub leaves_long : (payload field : List ℕ) → length payload ≡ plan_bytes s → length (decode_leaves s payload field)
+      ≡ plan_bytes s
   unfolding decode_leaves held_payload
   leaves_long payload field long = go (decode_number s payload field)
     where

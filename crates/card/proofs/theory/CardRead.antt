@@ -15,11 +15,11 @@ use Rattle.card.proofs.theory.ProgramParts.{body_payload, body_rows}
 -- the input is the card of the payload or of the field that is read from it
 pub data CardRead (s : List ℕ) (h : Header) (next : ℕ) : Type 0 where
   of_payload : is_payload s next ≡ true → Bytes (payload_of s next) → s ≡ payload_card h (payload_of s next) → CardRead s h next
-  of_field : is_payload s next ≡ false → FieldCells h (cells_in s h next) → s ≡ field_card h (cells_in s h next) → CardRead s h
-      next
+  of_field : is_payload s next ≡ false → FieldCells h (cells_in s h next) → s ≡ field_card h (cells_in s h next)
+      → CardRead s h next
 
-pub card_read : (s : List ℕ) (h : Header) (next : ℕ) → header_of s ≡ head.Found h next → body_ok s h next ≡ true → CardRead s h
-    next
+pub card_read : (s : List ℕ) (h : Header) (next : ℕ) → header_of s ≡ head.Found h next → body_ok s h next ≡ true
+    → CardRead s h next
 card_read s h next found right = go (is_payload s next) refl
   where
     go : (b : Bool) → is_payload s next ≡ b → CardRead s h next

@@ -99,8 +99,8 @@ pub record Pair (s : List ℕ) (at b : ℕ) : Type 0 where
   pub high : get_or s at 0 ≡ hex_digit (b / 16)
   pub low : get_or s (at + 1) 0 ≡ hex_digit (b % 16)
 
-pub hex_stands : (p s : List ℕ) (at : ℕ) → ((j : ℕ) → j < length p → Pair s (at + 2 * j) (get_or p j 0)) → StandsAt (hex_text p)
-    s at
+pub hex_stands : (p s : List ℕ) (at : ℕ) → ((j : ℕ) → j < length p → Pair s (at + 2 * j) (get_or p j 0))
+    → StandsAt (hex_text p) s at
 hex_stands p s at pairs i l = go (ℕ_discrete (i % 2) 0)
   where
     inside : i / 2 < length p
@@ -121,8 +121,8 @@ hex_stands p s at pairs i l = go (ℕ_discrete (i % 2) 0)
         ∙ sym (hex_low p (i / 2) inside)
         ∙ ap (λ (k : ℕ). get_or (hex_text p) k 0) (sym same)
 
-pub stands_hex : (p s : List ℕ) (at : ℕ) → StandsAt (hex_text p) s at → (j : ℕ) → j < length p → Pair s (at + 2 * j)
-    (get_or p j 0)
+pub stands_hex : (p s : List ℕ) (at : ℕ) → StandsAt (hex_text p) s at → (j : ℕ) → j < length p
+    → Pair s (at + 2 * j) (get_or p j 0)
 stands_hex p s at text j l =
     let place : at + 2 * j + 1 ≡ at + (2 * j + 1) = omega arith in
     record {
@@ -131,8 +131,8 @@ stands_hex p s at text j l =
     }
 
 -- the byte of two digits: from the byte, and back
-pub pair_read : (s : List ℕ) (at b : ℕ) → b < 256 → Pair s at b → hex_value (get_or s at 0) * 16 + hex_value
-    (get_or s (at + 1) 0) ≡ b
+pub pair_read : (s : List ℕ) (at b : ℕ) → b < 256 → Pair s at b → hex_value (get_or s at 0) * 16
+    + hex_value (get_or s (at + 1) 0) ≡ b
 pair_read s at b l x =
     let high : hex_value (get_or s at 0) ≡ b / 16 = ap hex_value x.high ∙ value_of_digit (b / 16) (omega arith) in
     let low : hex_value (get_or s (at + 1) 0) ≡ b % 16 = ap hex_value x.low ∙ value_of_digit (b % 16) (omega arith) in

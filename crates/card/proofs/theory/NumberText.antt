@@ -63,8 +63,8 @@ number_run : (s : List ℕ) (at : ℕ) → number_at s at ≡ run_read s at (dig
 unfolding number_at
 number_run s at = refl
 
-read_run : (s : List ℕ) (at k : ℕ) → DigitsAt s at k → Ends s at k → number_at s at ≡ line.Number (digits_value s at k)
-    (at + k + 1)
+read_run : (s : List ℕ) (at k : ℕ) → DigitsAt s at k → Ends s at k → number_at s at ≡ line.Number (digits_value s at k) (at + k
+    + 1)
 read_run s at k p x =
     let feed-no : is_digit (get_or s (at + k) 0) ≡ false = range_below 48 57 (get_or s (at + k) 0) (omega arith) in
     number_run s at

@@ -61,8 +61,8 @@ module _ (h : Header) (card : CardHeader h) where
       ∙ ap (written_text h) back.1
 
   -- a field's card that decoding accepts is answered with what it gives
-  read : (cells : List ℕ) → decode_number (shape_of h) (blank_payload h) cells ≡ 0 → answer (field_card h cells) ≡ read_text h
-      cells
+  read : (cells : List ℕ) → decode_number (shape_of h) (blank_payload h) cells ≡ 0 → answer (field_card h cells)
+      ≡ read_text h cells
   read cells success =
       let taken = (decode_taken (shape_of h) (blank_payload h) cells success).0 in
       let each : FieldCells h cells = record { long = taken.long; each = taken.cells } in

@@ -66,8 +66,8 @@ unfolding answer
 answer_refused s other = beside_other (program_number s) _ _ other
 
 -- an input that passes every test but the operation's own has the operation's number
-pub number_operation : (s : List ℕ) (h : Header) (next : ℕ) → length s ≤ max_input → header_of s ≡ head.Found h next →
-    CardHeader h
+pub number_operation : (s : List ℕ) (h : Header) (next : ℕ) → length s ≤ max_input → header_of s ≡ head.Found h next
+    → CardHeader h
     → body_ok s h next ≡ true → program_number s ≡ operation_number s h next
 unfolding program_number number_after
 number_operation s h next short found card right =

@@ -44,8 +44,8 @@ unfolding encode_number
 encode_length h card p =
     rw (
       card.accepted,
-      eq-eqb (length (blank_field h)) (plan_cells (shape_of h)) (blank_field_lem h ∙ sym (plan_cells_lem (shape_of h)
-          card.accepted)),
+      eq-eqb (length (blank_field h)) (plan_cells (shape_of h)) (blank_field_lem h
+          ∙ sym (plan_cells_lem (shape_of h) card.accepted)),
     )
 
 -- and what it does not refuse has the plan's length
@@ -101,8 +101,8 @@ module _ (s : List ℕ) (h : Header) (next : ℕ) (found : header_of s ≡ head.
       (λ right. operation_due card (card_read s h next found right))))
 
 -- the number after the input's length
-pub after_due : (s : List ℕ) (a : HeaderAnswer) → header_of s ≡ a → Due (listed 8 (NoHeader s) ∷ later_refusals s)
-    (number_after s a)
+pub after_due : (s : List ℕ) (a : HeaderAnswer) → header_of s ≡ a → Due (listed 8 (NoHeader s)
+    ∷ later_refusals s) (number_after s a)
 unfolding number_after
 after_due s (head.Found h next) found =
     due_skip (λ none. none (first s h next found)) (later_due s h next found)

@@ -18,11 +18,11 @@ cell_digits w cells = cells_text (take w cells)
 row_long : (w : ℕ) (cells : List ℕ) → w ≤ length cells → length (cell_digits w cells) ≡ w
 row_long w cells l = sym (length_cells (take w cells)) ∙ length-take-le w cells l
 
-row_digit : (w : ℕ) (cells : List ℕ) → w ≤ length cells → (c : ℕ) → c < w → get_or (cell_digits w cells) c 0 ≡ 48 + get_or cells
-    c 0
+row_digit : (w : ℕ) (cells : List ℕ) → w ≤ length cells → (c : ℕ) → c < w → get_or (cell_digits w cells) c 0 ≡ 48
+    + get_or cells c 0
 row_digit w cells l c m =
-    sym (cell_text (take w cells) c (omega (arith, length-take-le w cells l))) ∙ ap (λ (v : ℕ). 48 + v) (get_or-take w cells c 0
-    m)
+    sym (cell_text (take w cells) c (omega (arith, length-take-le w cells l)))
+    ∙ ap (λ (v : ℕ). 48 + v) (get_or-take w cells c 0 m)
 
 -- the first row and the others behind it
 rows_first : (w k : ℕ) (cells : List ℕ)

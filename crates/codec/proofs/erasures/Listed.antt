@@ -129,8 +129,8 @@ module _ (s : Shape) (accepted : Accepted s) (f : Field) where
   pub plain_few : Cells f (cells_of s) → field_few_erasures s f ≡ true
   plain_few p = few_true (λ a l. cells_few (layout_of s) f p a)
 
-  pub listed_few : (first second : List ℕ) → ListsErasures (layout_of s) f (cells_of s) first second → field_few_erasures s f ≡
-      true
+  pub listed_few : (first second : List ℕ) → ListsErasures (layout_of s) f (cells_of s) first second → field_few_erasures s f
+      ≡ true
   listed_few first second p =
       few_true (λ a l.
       few_listed (layout_of s) f a (cells_of s) _ _ (p.at a (lt_of_lt_of_le l (classes_limit s accepted))))

@@ -103,8 +103,8 @@ abbrev pub windows_erased : List ℕ
 windows_erased = erased_field window_field window_written is_either
 
 pub windows_refilled : Recovered window_field window_payload window_written windows_erased window_payload
-    × (differences (field_of window_written) (field_of windows_erased) (cells_of window_field) ≡ selected_cells window_field
-    is_either)
+    × (differences (field_of window_written) (field_of windows_erased) (cells_of window_field)
+    ≡ selected_cells window_field is_either)
 windows_refilled =
     window_refill window_field window_accepted window_rules window_payload window_written window_payload_long window_payload_bytes
     window_from_lem (negsuc 0) (negsuc 0) (pos 4) (pos 5) is_either windows_selected window_payload window_payload_long

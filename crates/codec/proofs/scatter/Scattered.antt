@@ -103,8 +103,8 @@ module _ (payload : List ℕ) (at k i : ℕ) where
       → ValuesPut payload l (set l (i - at) v) at k i (i + 1)
   value_put l v p room e = record { own = own; others = others }
     where
-      own : (x : ℕ) → i ≤ x → x < i + 1 → get_or (set l (i - at) v) (x - at) 0 ≡ data_value padding (length payload) payload
-          (x - k)
+      own : (x : ℕ) → i ≤ x → x < i + 1 → get_or (set l (i - at) v) (x - at) 0
+          ≡ data_value padding (length payload) payload (x - k)
       own x a b =
           let q : x ≡ i = omega arith in
           stored l (i - at) v (x - at) room (ap (λ (y : ℕ). y - at) q)

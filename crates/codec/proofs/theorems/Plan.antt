@@ -27,8 +27,8 @@ plan_meaning =
       digits = plan_digits_lem;
       attained = λ s a flat some wide high. bound_attained s a flat some wide high ∙ sym (plan_classes_lem s a);
       window_attained = λ s a z high wide. window_bound_attained s a z high wide ∙ sym (plan_classes_lem s a);
-      all_used = λ s a flat some wide high. plan_used_lem s a ∙ used_in_field.all s a flat some wide high ∙ sym
-          (plan_classes_lem s a);
-      window_all_used = λ s a z high wide. plan_used_lem s a ∙ used_in_field.window_all s a z high wide ∙ sym
-          (plan_classes_lem s a);
+      all_used = λ s a flat some wide high. plan_used_lem s a ∙ used_in_field.all s a flat some wide high
+          ∙ sym (plan_classes_lem s a);
+      window_all_used = λ s a z high wide. plan_used_lem s a ∙ used_in_field.window_all s a z high wide
+          ∙ sym (plan_classes_lem s a);
     }

@@ -68,7 +68,7 @@ correct_meaning s field readable =
       wrong = carry _ _ 7 same m.wrong;
       long = λ e. ap length (leaves e) ∙ length_list_of f (cells_of s);
       leaves = λ g near padding i h.
-          ap (λ (l : List ℕ). field_of l i) (leaves (ok g near padding)) ∙ get_d_list_of f (cells_of s) i h ∙ m.corrected g near
-          i h;
+          ap (λ (l : List ℕ). field_of l i) (leaves (ok g near padding)) ∙ get_d_list_of f (cells_of s) i h
+          ∙ m.corrected g near i h;
       count = λ g near padding. correct_count_lem s field readable (ok g near padding) ∙ m.count g near;
     }

@@ -37,8 +37,8 @@ list_of_same f g (suc n) p =
 -- a buffer of n cells is the field's when its cells are
 pub list_field : (l : List ℕ) (f : Field) (n : ℕ) → length l ≡ n → Same (field_of l) f n → l ≡ list_of f n
 list_field l f n e p =
-    ext_get_or 0 l (list_of f n) (e ∙ sym (length_list_of f n)) (λ i k. p i (omega arith) ∙ sym (get_d_list_of f n i
-    (omega arith)))
+    ext_get_or 0 l (list_of f n) (e ∙ sym (length_list_of f n)) (λ i k. p i (omega arith)
+    ∙ sym (get_d_list_of f n i (omega arith)))
 
 pub list_of_field_of : (l : List ℕ) → list_of (field_of l) (length l) ≡ l
 list_of_field_of l = sym (list_field l (field_of l) (length l) refl (λ i k. refl))

@@ -59,8 +59,8 @@ module _ (s : Shape) (field : List ℕ) (readable : Readable s field) where
   pub correct_same : correct_number s field ≡ field_number s (field_of field)
   correct_same = correct_number_lem s readable.accepted field readable.long
 
-  pub correct_leaves_lem : correct_number s field ≡ 0 → correct_leaves s field ≡ list_of (corrected_field s (field_of field))
-      (cells_of s)
+  pub correct_leaves_lem : correct_number s field ≡ 0 → correct_leaves s field
+      ≡ list_of (corrected_field s (field_of field)) (cells_of s)
   unfolding correct_leaves
   correct_leaves_lem = beside_zero (correct_number s field) _ field
 

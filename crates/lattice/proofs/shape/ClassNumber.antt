@@ -43,8 +43,8 @@ module _ (s : Shape) (x : Cell) where
       record { none = e; accepted = both.0; field = inside_field s x (unless_zero (inside s x) 3 0 both.1).0 }
 
   -- the class by the shape's placement is the cell's
-  pub class_given_lem : (k : Placement) (a : ℕ) → Classed → k ≡ placement_given s → a ≡ class_by k x → IsCellClass s x
-      (cls.Class a)
+  pub class_given_lem : (k : Placement) (a : ℕ) → Classed → k ≡ placement_given s → a ≡ class_by k x
+      → IsCellClass s x (cls.Class a)
   unfolding class_given
   class_given_lem k a c g e =
       record {

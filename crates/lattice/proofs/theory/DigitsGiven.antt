@@ -15,8 +15,8 @@ use Rattle.lattice.proofs.theory.CapacityGiven.{over_given, sizes_own}
 use Rattle.lattice.proofs.theory.Answers.{beside_zero}
 
 -- where the table has the sizes of m classes, they are the digits that these hold
-digits_held : (L : Layout) (m : ℕ) (xs : List ℕ) → ((a : ℕ) → a < m → get_or xs a 0 ≡ size L a) → digits_in xs m ≡ digits_below
-    L m
+digits_held : (L : Layout) (m : ℕ) (xs : List ℕ) → ((a : ℕ) → a < m → get_or xs a 0 ≡ size L a) → digits_in xs m
+    ≡ digits_below L m
 unfolding digits_in digits_below words_below
 digits_held L m xs p = ap (λ (k : ℕ). 5 * k) (sum_same _ _ m (λ a l. ap words_in (p a l)))
 

@@ -136,8 +136,8 @@ module _ (s : Shape) (a : Accepted s) where
   placement_accepted = beside_zero (shape_number s) (placement_of s) _ a
 
 -- the number of classes that any shape gives
-pub classes_given : (s : Shape) → (placement_given s).slices * (placement_given s).settings.m ≡ figure (shape_number s)
-    (classes_of s)
+pub classes_given : (s : Shape) → (placement_given s).slices * (placement_given s).settings.m
+    ≡ figure (shape_number s) (classes_of s)
 unfolding placement_given
 classes_given s = go (shape_number s)
   where

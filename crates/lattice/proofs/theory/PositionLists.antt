@@ -63,8 +63,8 @@ module _ (m : ℕ) (some : 0 < m) where
         ones z r = omega (arith, low z r, among_before m z z (omega arith) r (omega arith))
 
   -- what a stretch of n = k × m + g places gives to each remainder: k + 1 to those below g, and k to the others
-  pub gains : (n k g wide : ℕ) (p : List ℕ) → n ≡ k * m + g → g ≤ m → Repeats m 0 wide p → ((z : ℕ) → z < g → get_or p z 0 ≡ k +
-      1)
+  pub gains : (n k g wide : ℕ) (p : List ℕ) → n ≡ k * m + g → g ≤ m → Repeats m 0 wide p → ((z : ℕ) → z < g → get_or p z 0 ≡ k
+      + 1)
       → ((z : ℕ) → g ≤ z → z < m → get_or p z 0 ≡ k) → Gains m n wide p
   unfolding Gains
   gains n k g wide p e l again high low =

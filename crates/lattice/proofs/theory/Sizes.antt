@@ -11,8 +11,8 @@ use Rattle.lattice.proofs.theory.Positions.{size_own, size_other, size_most}
 
 -- one cell more adds 1 to the entry of its class
 module _ (L : Layout) (xs ys : List ℕ) (n k : ℕ) (before : HoldsSizes L xs n) (own : k ≡ L.class n) where
-  pub sizes_more : get_or ys k 0 ≡ get_or xs k 0 + 1 → ((a : ℕ) → (a ≡ k → ⊥) → get_or ys a 0 ≡ get_or xs a 0) → HoldsSizes L ys
-      (n + 1)
+  pub sizes_more : get_or ys k 0 ≡ get_or xs k 0 + 1 → ((a : ℕ) → (a ≡ k → ⊥) → get_or ys a 0 ≡ get_or xs a 0)
+      → HoldsSizes L ys (n + 1)
   sizes_more one others = record { at = λ a l. go a l (ℕ_discrete a k) }
     where
       go : (a : ℕ) → a < max_classes → Dec (a ≡ k) → get_or ys a 0 ≡ size_to L a (n + 1)

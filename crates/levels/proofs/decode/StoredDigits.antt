@@ -99,8 +99,8 @@ module _ (s : Shape) (f g : Field) where
   unfolding word_differences_to
   changed_none = refl
 
-  pub changed_more : (i k y v w : ℕ) (x : Spot) → SpotOf s i x → (b : Bool) → k ≡ word_differences_to (layout_of s) f g i → v ≡
-      f i
+  pub changed_more : (i k y v w : ℕ) (x : Spot) → SpotOf s i x → (b : Bool) → k ≡ word_differences_to (layout_of s) f g i → v
+      ≡ f i
       → w ≡ g i → b ≡ (x.inside && not (eqb v w)) → y ≡ cond b 1 0 + k → y ≡ word_differences_to (layout_of s) f g (i + 1)
   unfolding word_differences_to
   changed_more i k y v w x spot b p q r t e =

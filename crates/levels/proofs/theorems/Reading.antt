@@ -39,10 +39,10 @@ pub decode_levels_meaning : DecodeLevelsMeaning
 decode_levels_meaning s payload field readable fits =
     record {
       success =
-          carry (decode_levels_number s payload field) (levels_number s (field_of field)) 0 same (number_success s field
-          readable);
-      none = carry (decode_levels_number s payload field) (levels_number s (field_of field)) 6 same (number_none s field
-          readable);
+          carry (decode_levels_number s payload field) (levels_number s (field_of field)) 0 same
+          (number_success s field readable);
+      none = carry (decode_levels_number s payload field) (levels_number s (field_of field)) 6 same
+          (number_none s field readable);
       long = λ e.
           ap length (decode_leaves_lem s field payload e)
           ∙ held_length (layout_of s) (digits_of s) all (restored_field s (field_of field))

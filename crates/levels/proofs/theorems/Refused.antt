@@ -53,8 +53,8 @@ field_due : (s : Shape) (field : List ℕ) → Accepted s
 unfolding levels_number
 field_due s field a =
     due_test 3 (eqb (length field) (plan_cells s)) (equal_decides (length field) (plan_cells s))
-    (λ e. due_test 11 (levels_ok (field_of field) (cells_of s)) (levels_decide field (cells_of s)
-    (eqb-true _ _ e ∙ plan_cells_lem s a))
+    (λ e. due_test 11 (levels_ok (field_of field) (cells_of s)) (levels_decide field (cells_of s) (eqb-true _ _ e
+    ∙ plan_cells_lem s a))
     (λ _. due_test 5 (levels_in_reach (layout_of s) (field_of field)) (reach_decides s (field_of field)) (λ _. due_none)))
 
 -- Theorem. Encoding's number is settled by its conditions in the listed order: 1, 2, 11, 3, 4, 12.

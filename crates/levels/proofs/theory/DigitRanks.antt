@@ -18,8 +18,8 @@ module _ (L : Layout) where
   unfolding digit_rank
   rank_none = refl
 
-  pub rank_more : (i r y : ℕ) (b : Bool) → r ≡ digit_rank L i → b ≡ holds_digit L i → y ≡ cond b 1 0 + r → y ≡ digit_rank L
-      (i + 1)
+  pub rank_more : (i r y : ℕ) (b : Bool) → r ≡ digit_rank L i → b ≡ holds_digit L i → y ≡ cond b 1 0 + r → y
+      ≡ digit_rank L (i + 1)
   unfolding digit_rank
   rank_more i r y b p q e = e ∙ ap₂ (λ (a : Bool) (m : ℕ). bit a + m) q p ∙ sym (count_step (holds_digit L) i)
 

@@ -58,8 +58,8 @@ module _ (L : Layout) (p : List ℕ) where
   encoded_other i d = rw (ne_eqb (slot L i) 0 d) (cut (in_word L i))
     where
       cut : (b : Bool)
-          → cond (b && false) (check_for (weighted L (digit_field L p) (word L i) L.cells)) (digit_field L p i) ≡ digit_field L
-          p i
+          → cond (b && false) (check_for (weighted L (digit_field L p) (word L i) L.cells)) (digit_field L p i)
+          ≡ digit_field L p i
       cut true = refl
       cut false = refl
 

@@ -55,8 +55,8 @@ module _ (s : Shape) (payload field : List ℕ) where
   unfolding lengths_number
   behind_lengths later = go (shape_number s) (eqb (length payload) (plan_digits s)) (eqb (length field) (plan_cells s))
     where
-      go : (n : ℕ) (p f : Bool) → or_else (or_else n (unless p 3 (unless f 4 0))) later ≡ or_else n
-          (unless p 3 (unless f 4 later))
+      go : (n : ℕ) (p f : Bool) → or_else (or_else n (unless p 3 (unless f 4 0))) later
+          ≡ or_else n (unless p 3 (unless f 4 later))
       go zero true true = refl
       go zero true false = refl
       go zero false f = refl
@@ -67,8 +67,8 @@ module _ (s : Shape) (payload field : List ℕ) where
   unfolding encode_levels_number
   encode_tests = behind_lengths (unless (levels_ok (field_of payload) (length payload)) 12 0)
 
-  pub decode_tests : or_else (lengths_number s payload field) (levels_number s (field_of field)) ≡ decode_levels_number s
-      payload field
+  pub decode_tests : or_else (lengths_number s payload field) (levels_number s (field_of field))
+      ≡ decode_levels_number s payload field
   unfolding decode_levels_number
   decode_tests = behind_lengths (levels_number s (field_of field))
 
@@ -105,8 +105,8 @@ module _ (s : Shape) (accepted : Accepted s) where
         eq-eqb (length field) (plan_cells s) (hf ∙ sym (plan_cells_lem s accepted)),
       )
 
-  pub correct_number_lem : (field : List ℕ) → length field ≡ cells_of s → correct_levels_number s field ≡ levels_number s
-      (field_of field)
+  pub correct_number_lem : (field : List ℕ) → length field ≡ cells_of s → correct_levels_number s field
+      ≡ levels_number s (field_of field)
   unfolding correct_levels_number
   correct_number_lem field hf = rw (accepted, eq-eqb (length field) (plan_cells s) (hf ∙ sym (plan_cells_lem s accepted)))
 

@@ -26,8 +26,8 @@ total c =
 room : (c : Else-output-length)
     → let a = c.args in
     HasRoom a.output.now 0 (head_text a.header classes_key a.classes ++ field_text a.header a.cells.now)
-room c = room_front _ _ _ (length_success _ _ _ _ _ _ c.head_length.ensures (sym (length_field c.args.header c.args.cells.now
-    c.requires.field_cells.long))) c.if-output-length.false
+room c = room_front _ _ _ (length_success _ _ _ _ _ _ c.head_length.ensures
+    (sym (length_field c.args.header c.args.cells.now c.requires.field_cells.long))) c.if-output-length.false
 
 pub overflow_mul-lines : goal.overflow_mul-lines
 overflow_mul-lines c = omega (arith, rows_most _ c.requires.card_header)

@@ -62,8 +62,8 @@ pub returns-then-bytes-gt-MAX_BYTES : goal.returns-then-bytes-gt-MAX_BYTES
 returns-then-bytes-gt-MAX_BYTES c =
     let p = c.requires in
     answered_same
-    (wrong_length _ _ _ p.body_read.header p.body_read.shaped.card p.next_value (ok (goal.at.returns-then-bytes-gt-MAX_BYTES
-    c).Else-not-payload_ok)
+    (wrong_length _ _ _ p.body_read.header p.body_read.shaped.card p.next_value
+    (ok (goal.at.returns-then-bytes-gt-MAX_BYTES c).Else-not-payload_ok)
     (λ e. omega (
       arith,
       c.if-bytes-gt-MAX_BYTES.true,
@@ -85,20 +85,22 @@ fill_payload-requires c =
 
 pub slice_bounds-payload-end-2 : goal.slice_bounds-payload-end-2
 slice_bounds-payload-end-2 c =
-    part_within _ (part (goal.at.slice_bounds-payload-end-2 c).After-fill_payload) (behind (goal.at.slice_bounds-payload-end-2
-    c).After-fill_payload) (long (goal.at.slice_bounds-payload-end-2 c).After-fill_payload)
+    part_within _ (part (goal.at.slice_bounds-payload-end-2 c).After-fill_payload)
+    (behind (goal.at.slice_bounds-payload-end-2 c).After-fill_payload)
+    (long (goal.at.slice_bounds-payload-end-2 c).After-fill_payload)
 
 pub slice_bounds-write_card-end : goal.slice_bounds-write_card-end
 slice_bounds-write_card-end c =
-    part_count _ (part (goal.at.slice_bounds-write_card-end c).After-fill_payload) (behind (goal.at.slice_bounds-write_card-end
-    c).After-fill_payload) (long (goal.at.slice_bounds-write_card-end c).After-fill_payload)
+    part_count _ (part (goal.at.slice_bounds-write_card-end c).After-fill_payload)
+    (behind (goal.at.slice_bounds-write_card-end c).After-fill_payload)
+    (long (goal.at.slice_bounds-write_card-end c).After-fill_payload)
 
 pub slice_bounds-field-end : goal.slice_bounds-field-end
 slice_bounds-field-end c = cells_room (goal.at.slice_bounds-field-end c).After-cells-cells
 
 pub slice_bounds-write_card-end-2 : goal.slice_bounds-write_card-end-2
-slice_bounds-write_card-end-2 c = zeros_count _ max_card_cells (cells_room (goal.at.slice_bounds-write_card-end-2
-    c).After-cells-cells)
+slice_bounds-write_card-end-2 c = zeros_count _ max_card_cells
+    (cells_room (goal.at.slice_bounds-write_card-end-2 c).After-cells-cells)
 
 pub write_card-requires : goal.write_card-requires
 write_card-requires c =
@@ -107,8 +109,8 @@ write_card-requires c =
       card_shape = p.body_read.shaped;
       bytes = subst Bytes (sym (again (goal.at.write_card-requires c).After-fill_payload))
           (bytes_read _ _ (ok (goal.at.write_card-requires c).Else-not-payload_ok));
-      field_len = sym (zeros_count _ max_card_cells (cells_room (goal.at.write_card-requires c).After-cells-cells)) ∙ cells_are
-          _ _ p.body_read.shaped _ c.cells-cells.ensures;
+      field_len = sym (zeros_count _ max_card_cells (cells_room (goal.at.write_card-requires c).After-cells-cells))
+          ∙ cells_are _ _ p.body_read.shaped _ c.cells-cells.ensures;
     }
 
 pub returns : goal.returns

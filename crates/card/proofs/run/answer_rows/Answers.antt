@@ -49,8 +49,8 @@ again : (c : After-fill_cells)
     take c.cells-cells.result (part c ++ behind c) ≡ cells_in a.input.now a.header a.next
 again c =
     let shaped = c.requires.body_read.shaped in
-    let count = sym (zeros_count _ max_card_cells (cells_fit _ _ c.requires.body_read.shaped _ c.cells-cells.ensures)) ∙
-    cells_are _ _ shaped _ c.cells-cells.ensures in
+    let count = sym (zeros_count _ max_card_cells (cells_fit _ _ c.requires.body_read.shaped _ c.cells-cells.ensures))
+    ∙ cells_are _ _ shaped _ c.cells-cells.ensures in
     part_again _ _ _ (long c) ∙ cells_read _ _ shaped _ _ _ _ count c.fill_cells.ensures
 
 pub overflow_mul-shape : goal.overflow_mul-shape
@@ -88,20 +88,22 @@ fill_cells-requires c =
 
 pub slice_bounds-field-end-2 : goal.slice_bounds-field-end-2
 slice_bounds-field-end-2 c =
-    part_within _ (part (goal.at.slice_bounds-field-end-2 c).After-fill_cells) (behind (goal.at.slice_bounds-field-end-2
-    c).After-fill_cells) (long (goal.at.slice_bounds-field-end-2 c).After-fill_cells)
+    part_within _ (part (goal.at.slice_bounds-field-end-2 c).After-fill_cells)
+    (behind (goal.at.slice_bounds-field-end-2 c).After-fill_cells)
+    (long (goal.at.slice_bounds-field-end-2 c).After-fill_cells)
 
 pub slice_bounds-read_card-end : goal.slice_bounds-read_card-end
 slice_bounds-read_card-end c =
-    part_count _ (part (goal.at.slice_bounds-read_card-end c).After-fill_cells) (behind (goal.at.slice_bounds-read_card-end
-    c).After-fill_cells) (long (goal.at.slice_bounds-read_card-end c).After-fill_cells)
+    part_count _ (part (goal.at.slice_bounds-read_card-end c).After-fill_cells)
+    (behind (goal.at.slice_bounds-read_card-end c).After-fill_cells)
+    (long (goal.at.slice_bounds-read_card-end c).After-fill_cells)
 
 pub slice_bounds-payload-end : goal.slice_bounds-payload-end
 slice_bounds-payload-end c = bytes_room (goal.at.slice_bounds-payload-end c).After-capacity-bytes
 
 pub slice_bounds-read_card-end-2 : goal.slice_bounds-read_card-end-2
-slice_bounds-read_card-end-2 c = zeros_count _ max_card_bytes (bytes_room (goal.at.slice_bounds-read_card-end-2
-    c).After-capacity-bytes)
+slice_bounds-read_card-end-2 c = zeros_count _ max_card_bytes
+    (bytes_room (goal.at.slice_bounds-read_card-end-2 c).After-capacity-bytes)
 
 pub read_card-requires : goal.read_card-requires
 read_card-requires c =
@@ -109,8 +111,8 @@ read_card-requires c =
     record {
       card_shape = shaped;
       payload_value = zeros_take _ max_card_bytes (bytes_room (goal.at.read_card-requires c).After-capacity-bytes)
-          ∙ ap (λ (n : ℕ). replicate n 0) (bytes_planned (goal.at.read_card-requires c).After-capacity-bytes ∙ ap plan_bytes
-          shaped.shape);
+          ∙ ap (λ (n : ℕ). replicate n 0) (bytes_planned (goal.at.read_card-requires c).After-capacity-bytes
+          ∙ ap plan_bytes shaped.shape);
     }
 
 pub returns : goal.returns

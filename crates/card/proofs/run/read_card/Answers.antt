@@ -14,8 +14,8 @@ pub returns-in-Refused : goal.returns-in-Refused
 returns-in-Refused c =
     let p = c.requires in
     answered_same
-    (decoded_refused _ _ p.card_shape _ _ p.payload_value c.in-Refused.why (sym (ap decode_answer_number c.in-Refused.is) ∙
-    c.decode.ensures.number))
+    (decoded_refused _ _ p.card_shape _ _ p.payload_value c.in-Refused.why (sym (ap decode_answer_number c.in-Refused.is)
+    ∙ c.decode.ensures.number))
     c.refuse.ensures
 
 pub returns-in-Decoded : goal.returns-in-Decoded

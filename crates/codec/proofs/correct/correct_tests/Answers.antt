@@ -30,8 +30,8 @@ returns-in-Refused c =
     let e = told c.tests-tested.ensures c.in-Refused.is in
     record {
       result_value = correct_refused_lem _ _ c.in-Refused.why e;
-      examined_field = (λ z. let same : c.in-Refused.why ≡ why.OutsideShape = cc in number_other _ (sym e ∙ ap refusal_number
-          same));
+      examined_field = (λ z. let same : c.in-Refused.why ≡ why.OutsideShape = cc in number_other _ (sym e
+          ∙ ap refusal_number same));
       sound = λ z. absurd (some_number c.in-Refused.why z);
     }
 

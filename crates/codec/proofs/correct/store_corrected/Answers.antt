@@ -28,7 +28,8 @@ flip_located-requires c =
     record {
       field_fits = record {
         accepted = c.requires.readable.accepted;
-        long = c.clear_erased.auto.field ∙ c.requires.readable.long;
+        long = c.clear_erased.auto.field
+            ∙ c.requires.readable.long;
       };
       names = (located.damaged_named, located.first_named, located.second_named);
     }

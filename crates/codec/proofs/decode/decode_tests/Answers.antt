@@ -39,8 +39,8 @@ pub returns : goal.returns
 returns c =
     let fits = c.length_tests-tested.ensures.fits (ap tested_number c.in_default.is) in
     record {
-      result_value = c.examine.ensures.result_value ∙ sym (none_earlier _ _ (none (goal.at.returns c).In_default)) ∙
-          decode_tests _ _ _;
+      result_value = c.examine.ensures.result_value ∙ sym (none_earlier _ _ (none (goal.at.returns c).In_default))
+          ∙ decode_tests _ _ _;
       examined_field = exam_field _ _ c.examine.ensures.result_value;
       holds_sizes = λ z. (fits.of_payload.sized, c.examine.ensures.sound z);
     }

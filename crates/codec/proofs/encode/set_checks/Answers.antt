@@ -33,8 +33,8 @@ loop-k-preserved c =
       simp length-set turn.invariant.1,
       λ L p to same.
           checked_more L p _ _ _ _ to turn.field _ _ _ _ inside
-          c.wide_16-cell.ensures c.wide_16.ensures (let turn = c.loop-k in let inside = c.loop-k-test.true in rw
-          (c.wide_16-cell.ensures, turn.invariant.1) (c.requires.by_index _ inside))
+          c.wide_16-cell.ensures c.wide_16.ensures (let turn = c.loop-k in let inside = c.loop-k-test.true in
+          rw (c.wide_16-cell.ensures, turn.invariant.1) (c.requires.by_index _ inside))
           (rw c.wide_16.ensures (c.requires.by_index_2 _ c.loop-k-test.true)) c.check_bit.ensures (turn.invariant.2 L p to same),
     )
 

@@ -28,8 +28,8 @@ greatest-most-requires c = le_refl _
 pub returns-then-not-is_received : goal.returns-then-not-is_received
 returns-then-not-is_received c =
     record {
-      result_value = number_cell _ _ (failed _ _ c.if-not-is_received.true (cells (goal.at.returns-then-not-is_received
-          c).After-is_received));
+      result_value = number_cell _ _ (failed _ _ c.if-not-is_received.true
+          (cells (goal.at.returns-then-not-is_received c).After-is_received));
       sound = λ z. absurd (omega arith);
     }
 

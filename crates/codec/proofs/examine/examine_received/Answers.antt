@@ -25,8 +25,8 @@ reach : (c : After-all_in_reach)
     → c.all_in_reach.result ≡ field_in_reach c.args.shape (field_of c.args.field.now)
 reach c =
     let ok = c.requires.field_fits.0.accepted in
-    all_reach _ c.args.field.now _ _ _ _ _ _ ok (c.field_syndromes.ensures _ ok (c.pass.ensures ∙ pass_accepted _
-    c.requires.field_fits.0.accepted))
+    all_reach _ c.args.field.now _ _ _ _ _ _ ok (c.field_syndromes.ensures _ ok (c.pass.ensures
+    ∙ pass_accepted _ c.requires.field_fits.0.accepted))
     (c.locate.ensures.located c.if-not-locate.false)
     (classes_given _ ok _ c.classes.ensures) c.all_in_reach.ensures
 

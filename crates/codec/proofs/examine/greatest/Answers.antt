@@ -23,5 +23,5 @@ loop-i-preserved c =
 
 pub returns : goal.returns
 returns c =
-    let e = let end = c.loop-i in tells_all _ _ _ _ end.invariant.1 end.invariant.0 c.loop-i-test.false in record
-    { result_value = e.0; by_index = e.1 }
+    let e = let end = c.loop-i in tells_all _ _ _ _ end.invariant.1 end.invariant.0 c.loop-i-test.false in
+    record { result_value = e.0; by_index = e.1 }

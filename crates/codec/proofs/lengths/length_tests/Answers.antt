@@ -88,8 +88,8 @@ returns c =
         };
         of_field = record {
           accepted = accepted (goal.at.returns c).After-class_sizes;
-          long = cells ∙ plan_cells_lem _
-              (accepted (goal.at.returns c).After-class_sizes);
+          long = cells
+              ∙ plan_cells_lem _ (accepted (goal.at.returns c).After-class_sizes);
         };
       };
     }

@@ -7,8 +7,8 @@ use Rattle.lattice.proofs.by_lines.sum_starts.Given as goal
 
 abbrev pub invariant-loop-y : goal.invariant-loop-y
 invariant-loop-y l =
-    (l.y ≤ 2 * l.m) × (length l.heads ≡ length l.initial.heads) × (l.a ≡ l.y % l.m) × Sums (λ k. get_or l.starts (k % l.m) 0)
-    l.y l.heads
+    (l.y ≤ 2 * l.m) × (length l.heads ≡ length l.initial.heads) × (l.a ≡ l.y % l.m)
+    × Sums (λ k. get_or l.starts (k % l.m) 0) l.y l.heads
 
 abbrev pub decreases-loop-y : goal.decreases-loop-y
 decreases-loop-y l = 2 * l.m - l.y

@@ -30,8 +30,8 @@ sizes_by-requires c =
         record {
           shape = _;
           accepted = accepted (goal.at.sizes_by-requires c).In_default;
-          same = own (goal.at.sizes_by-requires
-              c).After-pass;
+          same = own
+              (goal.at.sizes_by-requires c).After-pass;
         },
         rw c.sizes_by-arg-1.given.0.1 (le_refl _),
       );

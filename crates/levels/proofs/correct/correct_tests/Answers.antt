@@ -19,8 +19,8 @@ accepted c = told_none c.tests-tested.ensures c.in_default.is
 -- a field of an accepted shape's length
 long : (c : Else-field-cells)
     → let a = c.args in length a.field.now ≡ cells_of a.shape
-long c = c.if-field-cells.false ∙ cells_given _ _ c.cells.ensures ∙ plan_cells_lem _ (told_none c.tests-tested.ensures
-    c.in_default.is)
+long c = c.if-field-cells.false ∙ cells_given _ _ c.cells.ensures
+    ∙ plan_cells_lem _ (told_none c.tests-tested.ensures c.in_default.is)
 
 pub returns-in-Refused : goal.returns-in-Refused
 returns-in-Refused c =

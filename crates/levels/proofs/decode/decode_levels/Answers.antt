@@ -27,10 +27,8 @@ returns-in-Refused c =
 
 pub store_digits-requires : goal.store_digits-requires
 store_digits-requires c =
-    let e = c.decode_tests-tested.ensures.levels_examined (ap tested_number c.in_default.is) in record {
-      levels_examined = e.0;
-      payload_len = e.1;
-    }
+    let e = c.decode_tests-tested.ensures.levels_examined (ap tested_number c.in_default.is) in
+    record { levels_examined = e.0; payload_len = e.1 }
 
 pub returns : goal.returns
 unfolding decode_levels_count decode_levels_leaves

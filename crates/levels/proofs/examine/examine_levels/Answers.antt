@@ -55,8 +55,8 @@ pub returns-then-not-levels_in_reach : goal.returns-then-not-levels_in_reach
 returns-then-not-levels_in_reach c =
     let a = c.args in
     record {
-      result_value = number_reach a.shape a.field.now c.requires.field_len (ok (goal.at.returns-then-not-levels_in_reach
-          c).Else-not-levels_ok)
+      result_value = number_reach a.shape a.field.now c.requires.field_len
+          (ok (goal.at.returns-then-not-levels_in_reach c).Else-not-levels_ok)
           (failed _ _ c.if-not-levels_in_reach.true c.levels_in_reach.ensures);
       levels_examined = λ z. absurd (omega arith);
     }

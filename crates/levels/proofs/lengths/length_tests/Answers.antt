@@ -24,8 +24,8 @@ planned c = c.lay_words.ensures.value ∙ sym (plan_digits_lem _ (told_none c.te
 digits : (c : Else-payload-lay_words)
     → let a = c.args in
     length a.payload.now ≡ plan_digits a.shape
-digits c = c.if-payload-lay_words.false ∙ (c.lay_words.ensures.value ∙ sym (plan_digits_lem _ (told_none c.tests-tested.ensures
-    c.in_default.is)))
+digits c = c.if-payload-lay_words.false ∙ (c.lay_words.ensures.value
+    ∙ sym (plan_digits_lem _ (told_none c.tests-tested.ensures c.in_default.is)))
 
 pub returns-in-Refused : goal.returns-in-Refused
 returns-in-Refused c =

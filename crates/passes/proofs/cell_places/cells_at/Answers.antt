@@ -28,8 +28,8 @@ place_all-requires c = (
   record {
     shape = _;
     accepted = accepted (goal.at.place_all-requires c).In_default;
-    same = own (goal.at.place_all-requires
-        c).After-pass;
+    same = own
+        (goal.at.place_all-requires c).After-pass;
   },
   omega arith,
   omega arith,

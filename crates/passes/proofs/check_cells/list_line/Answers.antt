@@ -119,8 +119,8 @@ loop-x-preserved c =
     let low = c.loop-x-test.true in
     let more : c.args.line.start + turn.x + 1 ≡ c.args.line.start + (turn.x + 1) = omega arith in (
       omega arith,
-      place_next _ (c.args.line.start + turn.x) _ _ turn.invariant.1 (c.next_place-a.ensures
-          (below (goal.at.loop-x-preserved c).In-loop-x))
+      place_next _ (c.args.line.start + turn.x) _ _ turn.invariant.1
+          (c.next_place-a.ensures (below (goal.at.loop-x-preserved c).In-loop-x))
           ∙ ap (λ (n : ℕ). n % c.args.pass.period) more,
       λ s ok same.
           let within = c.requires.of_shape.1 in

@@ -21,11 +21,7 @@ loop-z-init c = (
   refl,
   (λ k l. refl),
   (λ y l. omega arith),
-  (λ k l. omega (
-    arith,
-    c.requires.by_index
-        k l,
-  )),
+  (λ k l. omega (arith, c.requires.by_index k l)),
 )
 
 pub overflow_sub-p : goal.overflow_sub-p

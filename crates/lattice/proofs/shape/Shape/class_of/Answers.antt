@@ -31,8 +31,8 @@ returns-in-Refused c =
 
 pub overflow_cast-row : goal.overflow_cast-row
 overflow_cast-row c =
-    let k = known (goal.at.overflow_cast-row c).In_default in Fits-below tt (le_trans (le_of_lt k.field.row)
-    (legal _ k.accepted).height_high)
+    let k = known (goal.at.overflow_cast-row c).In_default in
+    Fits-below tt (le_trans (le_of_lt k.field.row) (legal _ k.accepted).height_high)
 
 pub overflow_cast-plane : goal.overflow_cast-plane
 overflow_cast-plane c =

@@ -38,8 +38,8 @@ returns-then-not-within-2 c =
 pub overflow_mul-window : goal.overflow_mul-window
 overflow_mul-window c =
     Fits-below {n = max_window * max_window} tt
-    (mul-le-mul (range_high 1 max_window _ (rows (goal.at.overflow_mul-window c).Else-not-within)) (range_high 1 max_window _
-    (columns (goal.at.overflow_mul-window c).Else-not-within-2)))
+    (mul-le-mul (range_high 1 max_window _ (rows (goal.at.overflow_mul-window c).Else-not-within))
+    (range_high 1 max_window _ (columns (goal.at.overflow_mul-window c).Else-not-within-2)))
 
 pub returns-then-window-gt-MAX_WINDOW : goal.returns-then-window-gt-MAX_WINDOW
 returns-then-window-gt-MAX_WINDOW c =
