@@ -2,7 +2,7 @@
  * setting, any damage inside one window of p rows by q columns; or in a field of cells of 25 levels, where each cell of the hole or the
  * window may be read as at most 3 higher or 1 lower than it was written.
  *
- * For x86-64 with the System V calling convention. Link crates/varmintfoil/out/libvarmintfoil.a, which `rt lib` writes in
+ * For x86-64 with the System V calling convention. Link crates/varmintfoil/out/libvarmintfoil.a, which `rt lib --cpu x86-64` writes in
  * crates/varmintfoil; it needs the C library's memset and nothing else. Header and archive must be of one version.
  *
  * A shape is six numbers: columns W and rows H from 1 to 256, planes D from 1 to 16, W * H * D at most 65,536, the strength t, 1 to 32

@@ -1,5 +1,5 @@
-//! Links the proved library, libvarmintfoil.a, from the folder that `VARMINTFOIL_LIB_DIR` names, or from crates/varmintfoil/out, where `rt lib` writes it. Writes the text of the proved crates as Rust, for
-//! `others/same.rs`. Sets the condition `liquid` where liquid-dsp can be linked, which the benchmark alone does.
+//! Links the proved library, libvarmintfoil.a, from the folder that `VARMINTFOIL_LIB_DIR` names, or from crates/varmintfoil/out, where
+//! `rt lib --cpu x86-64` writes it. Writes the text of the proved crates as Rust, for `others/same.rs`. Sets the condition `liquid` where liquid-dsp can be linked, which the benchmark alone does.
 
 #[path = "build/same.rs"]
 mod same;
@@ -26,7 +26,7 @@ fn main() {
     println!("cargo:rerun-if-changed={}", archive.display());
     if !archive.is_file() {
         eprintln!("\nThe proved library {} is not there.", archive.display());
-        eprintln!("Run `rt lib` in crates/varmintfoil, or name its folder in VARMINTFOIL_LIB_DIR.");
+        eprintln!("Run `rt lib --cpu x86-64` in crates/varmintfoil, or name its folder in VARMINTFOIL_LIB_DIR.");
         eprintln!("Without it, `cargo test --release --no-default-features` still checks the reference implementation.\n");
         std::process::exit(1);
     }

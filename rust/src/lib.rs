@@ -2,7 +2,7 @@
 //! setting, any damage inside one window of p by q cells; or in a field of cells of 25 levels, where each cell of the hole or the
 //! window may be read as at most 3 higher or 1 lower than it was written.
 //!
-//! The codec itself is proved and lies in the static library that `rt lib` writes in crates/varmintfoil;
+//! The codec itself is proved and lies in the static library that `rt lib --cpu x86-64` writes in crates/varmintfoil;
 //! this is a safe wrapper over it. Nothing handed to it can upset it: each operation succeeds or gives its first listed
 //! [`Refusal`].
 //!

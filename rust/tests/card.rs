@@ -14,7 +14,7 @@ fn program() -> PathBuf {
         Some(path) => PathBuf::from(path),
         None => PathBuf::from(env!("CARGO_MANIFEST_DIR")).parent().unwrap().join("crates/card/out/card"),
     };
-    assert!(path.is_file(), "the card program {} is not there: run `rt run` in crates/card", path.display());
+    assert!(path.is_file(), "the card program {} is not there: run `rt run --cpu x86-64` in crates/card", path.display());
     path
 }
 

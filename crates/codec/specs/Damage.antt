@@ -49,8 +49,8 @@ pub record Recovered (s : Shape) (p F G buffer : List ℕ) : Type 0 where
   pub decoded_payload : decode_leaves s buffer G ≡ p
   pub decoded_count : decode_count s buffer G ≡ differences (field_of F) (field_of G) (cells_of s)
   pub corrected_number : correct_number s G ≡ 0
-  pub corrected_field_lem : correct_leaves s G ≡ F
-  pub corrected_count_lem : correct_count s G ≡ differences (field_of F) (field_of G) (cells_of s)
+  pub field_corrected : correct_leaves s G ≡ F
+  pub count_corrected : correct_count s G ≡ differences (field_of F) (field_of G) (cells_of s)
 
 -- what correcting flips looks like one cluster of at most t cells: at most t cells differ from what it leaves, and any two of
 -- them are less than t apart

@@ -30,5 +30,5 @@ pub record LevelsRecovered (s : Shape) (p F G buffer : List ℕ) : Type 0 where
   pub decoded_payload : decode_levels_leaves s buffer G ≡ p
   pub decoded_count : decode_levels_count s buffer G ≡ word_differences (layout_of s) (field_of F) (field_of G)
   pub corrected_number : correct_levels_number s G ≡ 0
-  pub corrected_field_lem : correct_levels_leaves s G ≡ F
-  pub corrected_count_lem : correct_levels_count s G ≡ differences (field_of F) (field_of G) (cells_of s)
+  pub field_corrected : correct_levels_leaves s G ≡ F
+  pub count_corrected : correct_levels_count s G ≡ differences (field_of F) (field_of G) (cells_of s)

@@ -49,7 +49,7 @@ pub record ProgramExamples : Type 0 where
   pub window_written :
       Answers (windowed ++ "payload=0b3c\n")
       (windowed ++ "classes=6\nrow=0111100\nrow=0110110\nrow=0001010\nrow=0110000\nrow=1110100\n")
-  pub window_read_lem :
+  pub read_by_window :
       Answers (windowed ++ "row=0111100\nrow=0001110\nrow=0110010\nrow=0110000\nrow=1110100\n")
       (windowed ++ "mended=6\npayload=0b3c\n")
   -- the limits

@@ -93,7 +93,7 @@ damage_told =
         let buffer : List ℕ = replicate (plan_bytes s) 0 in
         let back =
         recovery s accepted p F long bytes from S cluster small selected inside buffer (length-replicate (plan_bytes s) 0) in
-        subst (λ (f : List ℕ). WithinPromise s (damaged_field s F selected) f) (sym back.corrected_field_lem)
+        subst (λ (f : List ℕ). WithinPromise s (damaged_field s F selected) f) (sym back.field_corrected)
         (told s F S cluster small selected inside)
 
 -- Theorem. The selected cells of a field that was written differ after the damage, and the others do not.

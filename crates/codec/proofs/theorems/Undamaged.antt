@@ -103,13 +103,13 @@ module _ (s : Shape) (field : List ℕ) (success : correct_number s field ≡ 0)
           decoded_payload = sym (payload_of_lem M M-readable M-nearest) ∙ payload_of_lem field readable found.1;
           decoded_count = m.count found.0 M-nearest found.2 ∙ count_none;
           corrected_number = M-success;
-          corrected_field_lem =
+          field_corrected =
               correct_leaves_lem s M M-readable M-success
               ∙ list_of_same (corrected_field s (field_of M)) (field_of M) (cells_of s)
               (λ i h. (means M-readable).corrected found.0 M-nearest i h ∙ sym (holds i h))
               ∙ ap (list_of (field_of M)) (sym M-long)
               ∙ list_of_field_of M;
-          corrected_count_lem = (correct_meaning s M M-readable).count found.0 M-nearest found.2 ∙ count_none;
+          count_corrected = (correct_meaning s M M-readable).count found.0 M-nearest found.2 ∙ count_none;
         }
 
 -- Theorem. A field that is not damaged comes back as it is, with the count 0.

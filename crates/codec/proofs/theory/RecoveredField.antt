@@ -53,6 +53,6 @@ module _ (s : Shape) (accepted : Accepted s) (p F : List ℕ) (p-long : length p
         decoded_payload = payload_back;
         decoded_count = (decode_meaning s buffer G readable fits).count (field_of F) near own.right ∙ counted;
         corrected_number = correct;
-        corrected_field_lem = field_back;
-        corrected_count_lem = (correct_meaning s G readable).count (field_of F) near own.right ∙ counted;
+        field_corrected = field_back;
+        count_corrected = (correct_meaning s G readable).count (field_of F) near own.right ∙ counted;
       }

@@ -45,5 +45,5 @@ class_is_given =
     record {
       field = λ s x e. (taken s x e).1;
       by_strength = λ s x e some. rw (given s x e) (class_point s (taken s x e).0 some x);
-      by_window_lem = λ s x e z. given s x e ∙ class_window s z x;
+      window_rule = λ s x e z. given s x e ∙ class_window s z x;
     }

@@ -28,4 +28,4 @@ pub record ClassIsGiven : Type 0 where
   pub field : (s : Shape) (x : Cell) → class_number s x ≡ 0 → InField s x
   pub by_strength : (s : Shape) (x : Cell) → class_number s x ≡ 0 → 1 ≤ s.strength
       → HasClass (settings_of s) (point_of x) (class_given s x)
-  pub by_window_lem : (s : Shape) (x : Cell) → class_number s x ≡ 0 → s.strength ≡ 0 → class_given s x ≡ window_class s.window x
+  pub window_rule : (s : Shape) (x : Cell) → class_number s x ≡ 0 → s.strength ≡ 0 → class_given s x ≡ window_class s.window x

@@ -60,7 +60,7 @@ pub record PlacingExamples : Type 0 where
   -- the classes that hold a cell: all 5 of 5 by 5 at t = 3, and 3 of 13 where 3 columns by 1 row have t = 5; by a window of 512
   -- rows and 1 column 9 of 512 on 9 by 9; by one of 2 rows and 3 columns 3 of 6 on one row of 5 cells and 2 on one column; and 6
   -- of 7 in a stack of 3 columns, 1 row and 2 planes at t = 3, where plane 0 has 0, 1, 2 and plane 1 has 4, 5, 6
-  pub used_classes_lem :
+  pub classes_used :
       (used_of (sized 5 5 1 3) ≡ 5)
       × (used_of (sized 3 1 1 5) ≡ 3)
       × (classes_of (sized 3 1 1 5) ≡ 13)
@@ -91,7 +91,7 @@ pub record PlacingExamples : Type 0 where
       × (is_check 7 6 ≡ false)
       × (is_check 7 7 ≡ false)
   -- of classes of 0, 1, 2, 3, 7 and 10 cells, 0, 0, 0, 1, 4 and 6 hold no check
-  pub data_cells_lem :
+  pub cells_of_data :
       (data_cells 0 ≡ 0)
       × (data_cells 1 ≡ 0)
       × (data_cells 2 ≡ 0)

@@ -82,8 +82,8 @@ module _ (s : Shape) (p : List ℕ) (h : Writable s p) (S : Cell → Type 0) (on
         decoded_count =
             (decode_levels_meaning s buffer G readable fits).count F from ∙ words_comm (layout_of s) (field_of G) F;
         corrected_number = mend;
-        corrected_field_lem = field_back;
-        corrected_count_lem = (correct_levels_meaning s G readable).count F from ∙ differences_comm (field_of G) F (cells_of s);
+        field_corrected = field_back;
+        count_corrected = (correct_levels_meaning s G readable).count F from ∙ differences_comm (field_of G) F (cells_of s);
       }
 
 -- Theorem. Recovery from changes in any set with at most one cell of each class: each word comes from that of the field written.

@@ -46,9 +46,9 @@ pub record ResultExamples : Type 0 where
       × (r.cells ≡ 18)
       × (r.used ≡ 2)
       × (r.digits ≡ 10)
-  pub window_class_lem : (r : ClassResult) → IsClassResult (windowed 5 5 2 3) (cell 3 0 4) r
+  pub class_by_window : (r : ClassResult) → IsClassResult (windowed 5 5 2 3) (cell 3 0 4) r
       → (r.number ≡ 0) × (r.class_index ≡ 4)
-  pub no_window_lem : (r : PlanResult) → IsPlanResult (windowed 5 5 0 3) r
+  pub without_window : (r : PlanResult) → IsPlanResult (windowed 5 5 0 3) r
       → (r.number ≡ 11) × (r.classes ≡ 0) × (r.used ≡ 0) × (r.digits ≡ 0)
   -- 2 by 1 of strength 1 takes no byte; of its cells 0 1 one is mended, and 1 1 are out of reach
   pub encode : (last : List ℕ) (r : ℕ) → IsEncodeResult pair (0 ∷ []) (0 ∷ 1 ∷ []) last r

@@ -8,7 +8,7 @@ use std::path::{Path, PathBuf};
 use std::process::Command;
 use varmintfoil::Shape;
 
-/// The card program that `VARMINTFOIL_CARD` names, or the one that `rt run` leaves in crates/card, if it is there.
+/// The card program that `VARMINTFOIL_CARD` names, or the one that `rt run --cpu x86-64` leaves in crates/card, if it is there.
 fn card_program() -> Option<PathBuf> {
     let package = Path::new(env!("CARGO_MANIFEST_DIR"));
     let program = match std::env::var_os("VARMINTFOIL_CARD") {
@@ -28,7 +28,7 @@ fn run(program: &Path, input: &Path) -> String {
 /// Prints the times of a card of 128 by 128 at t = 8, written and read, and of a process that does nothing.
 pub fn print() {
     let Some(card) = card_program() else {
-        println!("The card program is left out: it is not there (`rt run` in crates/card).");
+        println!("The card program is left out: it is not there (`rt run --cpu x86-64` in crates/card).");
         return;
     };
     let shape = Shape::new(128, 128, 1, 8).unwrap();

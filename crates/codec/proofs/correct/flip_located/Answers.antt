@@ -1,6 +1,7 @@
 -- `flip_located` meets its contract: the cells of each list, one list after another.
 use Prim.Native.Nat.{◌≤◌}
 use mathlib.Core.Path.{◌≡◌, refl, sym, ◌∙◌}
+use native.Mathlib.Omega.{arith}
 use Rattle.lattice.specs.Class.{classes_of}
 use Rattle.lattice.specs.Shape.{max_classes}
 use Rattle.codec.proofs.theory.CorrectedField.{classes_given, classes_few, names_given, flipped_next}
@@ -14,10 +15,10 @@ few : (c : After-classes-m) → c.classes-m.result ≤ max_classes
 few c = classes_few _ c.requires.field_fits.accepted _ c.classes-m.ensures
 
 pub flip_cells-requires : goal.flip_cells-requires
-flip_cells-requires c = few (goal.at.flip_cells-requires c).After-classes-m
+flip_cells-requires c = omega (arith, few (goal.at.flip_cells-requires c).After-classes-m)
 
 pub flip_cells-requires-2 : goal.flip_cells-requires-2
-flip_cells-requires-2 c = few (goal.at.flip_cells-requires-2 c).After-classes-m
+flip_cells-requires-2 c = omega (arith, few (goal.at.flip_cells-requires-2 c).After-classes-m)
 
 pub flip_cells-requires-3 : goal.flip_cells-requires-3
 flip_cells-requires-3 c = few (goal.at.flip_cells-requires-3 c).After-classes-m
