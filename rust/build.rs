@@ -1,5 +1,6 @@
-//! Links the proved library, libvarmintfoil.a, from the folder that `VARMINTFOIL_LIB_DIR` names, or from crates/varmintfoil/out, where
-//! `rt lib --cpu x86-64` writes it. Writes the text of the proved crates as Rust, for `others/same.rs`. Sets the condition `liquid` where liquid-dsp can be linked, which the benchmark alone does.
+//! Links the proved library, libvarmintfoil.a, from the folder that `VARMINTFOIL_LIB_DIR` names, or from crates/varmintfoil/out,
+//! where `rt lib --cpu x86-64` writes it. Writes the text of the proved crates as Rust, for `others/same.rs`. Sets the condition
+//! `liquid` where liquid-dsp can be linked, which the benchmark alone does.
 
 #[path = "build/same.rs"]
 mod same;
