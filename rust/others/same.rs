@@ -12,49 +12,36 @@
 
 include!(concat!(env!("OUT_DIR"), "/same.rs"));
 
-pub use lattice::shape::{ShapeNumbers, Window};
+use lattice::refusal::Refusal;
 
-/// The number as a result.
-fn result<T>(number: usize, value: T) -> Result<T, usize> {
-    if number == 0 {
-        Ok(value)
-    } else {
-        Err(number)
-    }
-}
+pub use lattice::shape::{ShapeNumbers, Window};
 
 /// Encode (write): 1, 2, 11, 3, 4.
 pub fn encode(shape: ShapeNumbers, payload: &[u8], field: &mut [u8]) -> Result<(), usize> {
-    let answer = operations::encode_in(shape, payload, field);
-    result(answer.number(), ())
+    operations::encode_in(shape, payload, field).map_err(Refusal::number)
 }
 
 /// Decode (read): 1, 2, 11, 3, 4, 5, 10, 6, 7. Gives the number of cells changed on the way.
 pub fn decode(shape: ShapeNumbers, payload: &mut [u8], field: &[u8]) -> Result<usize, usize> {
-    let answer = operations::decode_in(shape, payload, field);
-    result(answer.number(), answer.count())
+    operations::decode_in(shape, payload, field).map_err(Refusal::number)
 }
 
 /// Correct (mend) a field where it lies: 1, 2, 11, 4, 5, 10, 6, 7. Gives the number of cells changed.
 pub fn correct(shape: ShapeNumbers, field: &mut [u8]) -> Result<usize, usize> {
-    let answer = operations::correct_in(shape, field);
-    result(answer.number(), answer.count())
+    operations::correct_in(shape, field).map_err(Refusal::number)
 }
 
 /// Encode levels (shaded write): 1, 2, 11, 3, 4, 12.
 pub fn encode_levels(shape: ShapeNumbers, payload: &[u8], field: &mut [u8]) -> Result<(), usize> {
-    let answer = operations::encode_levels_in(shape, payload, field);
-    result(answer.number(), ())
+    operations::encode_levels_in(shape, payload, field).map_err(Refusal::number)
 }
 
 /// Decode levels (shaded read): 1, 2, 11, 3, 4, 12, 6. Gives the number of cells of words corrected on the way.
 pub fn decode_levels(shape: ShapeNumbers, payload: &mut [u8], field: &[u8]) -> Result<usize, usize> {
-    let answer = operations::decode_levels_in(shape, payload, field);
-    result(answer.number(), answer.count())
+    operations::decode_levels_in(shape, payload, field).map_err(Refusal::number)
 }
 
 /// Correct levels (shaded mend) where they lie: 1, 2, 11, 4, 12, 6. Gives the number of all cells changed.
 pub fn correct_levels(shape: ShapeNumbers, field: &mut [u8]) -> Result<usize, usize> {
-    let answer = operations::correct_levels_in(shape, field);
-    result(answer.number(), answer.count())
+    operations::correct_levels_in(shape, field).map_err(Refusal::number)
 }

@@ -1,3 +1,2 @@
 -- What the table of keys uses alone.
-mod Parts
 mod ByIndex

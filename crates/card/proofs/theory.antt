@@ -2,6 +2,7 @@
 
 -- what stands at a position of a text
 pub mod StandsAt
+pub mod Found
 pub mod Feeds
 pub mod ByteTests
 pub mod Digits

@@ -1,13 +1,11 @@
 -- A card: its limits, its header, its cells, and its text.
-use Rattle.std.specs.Prelude.{ℕ, ◌<◌, ◌≤◌, List, [], ◌∷◌, ◌++◌, ◌≡◌, length}
+use Rattle.std.specs.Prelude.{ℕ, ◌<◌, ◌≤◌, List, [], ◌∷◌, ◌++◌, ◌≡◌, length, Option, Some, None}
 use Rattle.lattice.specs.declared.shape.Shape.{Shape}
 use Rattle.lattice.specs.declared.shape.ShapeNumbers.{ShapeNumbers}
 use Rattle.lattice.specs.declared.shape.Window.{Window}
 use Rattle.lattice.specs.Shape.{Accepted, shape_from, no_window, cells_of}
 use Rattle.codec.specs.Field.{field_of, Received}
 use Rattle.card.specs.declared.header.Header.{Header}
-use Rattle.card.specs.declared.header.WindowLines.{WindowLines}
-use Rattle.card.specs.declared.header.WindowLines.TheVariants as sides
 use Rattle.card.specs.Text.{NumberLine, header_lines, header_text, payload_text, field_text}
 
 -- the limits: 65,536 bytes of input and 16,384 cells
@@ -26,9 +24,9 @@ abbrev pub max_answer : ℕ
 max_answer = 36946
 
 -- the window that its lines give: with none of them both sides are 0
-abbrev pub window_of : WindowLines → Window
-window_of sides.Absent = no_window
-window_of (sides.Given w) = w
+abbrev pub window_of : Option Window → Window
+window_of None = no_window
+window_of (Some w) = w
 
 -- the numbers that a header gives, and the shape that it names
 abbrev pub shape_numbers : Header → ShapeNumbers

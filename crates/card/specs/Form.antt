@@ -1,5 +1,5 @@
 -- The form of a card text, said by its text alone, and the program's refusals, each by a condition of its own.
-use Rattle.std.specs.Prelude.{ℕ, ◌<◌, List, [], ◌∷◌, ◌++◌, ◌≢◌, ◌≡◌, length}
+use Rattle.std.specs.Prelude.{ℕ, ◌<◌, List, [], ◌∷◌, ◌++◌, ◌≢◌, ◌≡◌, length, None}
 use Rattle.lattice.specs.declared.shape.Shape.{Shape}
 use Rattle.lattice.specs.Refusal.{Listed, listed, Condition, listed_by}
 use Rattle.lattice.specs.Shape.{shape_conditions, cells_of}
@@ -9,7 +9,6 @@ use Rattle.codec.specs.Plan.{plan_bytes}
 use Rattle.codec.specs.Conditions.{WrongPayloadLength, ManyErasures, NoneInReach}
 use Rattle.codec.specs.Reach.{WrongInReach}
 use Rattle.card.specs.declared.header.Header.{Header}
-use Rattle.card.specs.declared.header.WindowLines.TheVariants as sides
 use Rattle.card.specs.Text.{window_rows_key, window_columns_key, header_text, payload_text, field_text, refusal_text}
 use Rattle.card.specs.Card.{max_input, max_card_cells, shape_of, FewDigits, CardHeader, FieldCells, payload_card, field_card}
 use Rattle.card.specs.Program.{program_number, written_text, read_text, answer}
@@ -28,7 +27,7 @@ pub record HeaderFirst (s : List ℕ) : Type 0 where
   pub rest : List ℕ
   pub small : FewDigits header
   pub text : s ≡ header_text header ++ rest
-  pub whole : header.window ≡ sides.Absent → NoWindowLine rest
+  pub whole : header.window ≡ None → NoWindowLine rest
 
 -- the rest is the text of one payload, or of the rows that the header asks for
 pub data Body (h : Header) (rest : List ℕ) : Type 0 where

@@ -1,15 +1,17 @@
 -- How a card text is read: what stands at a position of the input. `get_or s i 0` is byte i, and 0, which no card text has, past
 -- the end.
 use Rattle.std.specs.Prelude.{ℕ, zero, suc, ◌+◌, ◌-◌, ◌*◌, ◌/◌, ◌%◌, Bool, false, cond, not, ◌&&◌, ◌||◌, List, [], ◌∷◌, ◌++◌, leb}
-use Rattle.std.specs.Prelude.{ltb, eqb, length, get_or}
+use Rattle.std.specs.Prelude.{ltb, eqb, length, get_or, Option, Some, None}
 use Rattle.lattice.specs.Range.{in_range}
 use Rattle.lattice.specs.Counting.{all_below}
 use Rattle.codec.specs.Field.{list_of, is_received}
-use Rattle.card.specs.declared.line.Line.{Line}
-use Rattle.card.specs.declared.line.Line.TheVariants as line
-use Rattle.card.specs.declared.header.HeaderAnswer.{HeaderAnswer}
-use Rattle.card.specs.declared.header.HeaderAnswer.TheVariants as head
+use Rattle.card.specs.declared.scan.Found.{Found}
+use Rattle.card.specs.declared.header.Header.{Header}
 use Rattle.card.specs.Text.{header_keys, window_keys, header_from, payload_key, row_key, feed}
+
+-- something is read, and `next` is where the rest starts
+abbrev pub read : {A : Type 0} → A → ℕ → Option (Found A)
+read value next = Some (record { value = value; next = next })
 
 -- the bytes of a key stand at position `at`
 unfoldable pub key_at : List ℕ → List ℕ → ℕ → Bool
@@ -34,29 +36,28 @@ unfoldable pub number_ends : List ℕ → ℕ → ℕ → Bool
 number_ends s at k = in_range 1 5 k && (eqb k 1 || not (eqb (get_or s at 0) 48)) && eqb (get_or s (at + k) 0) feed
 
 -- the number at `at` that ends its line; six digits are counted, so that a sixth is seen
-unfoldable pub number_at : List ℕ → ℕ → Line
+unfoldable pub number_at : List ℕ → ℕ → Option (Found ℕ)
 number_at s at =
     let k = digit_run s at 6 in
-    cond (number_ends s at k) (line.Number (digits_value s at k) (at + k + 1)) line.Fault
+    cond (number_ends s at k) (read (digits_value s at k) (at + k + 1)) None
 
 -- a line key=number at `at`: the number, and where the next line starts
-unfoldable pub line_at : List ℕ → List ℕ → ℕ → Line
-line_at key s at = cond (key_at key s at) (number_at s (at + length key)) line.Fault
+unfoldable pub line_at : List ℕ → List ℕ → ℕ → Option (Found ℕ)
+line_at key s at = cond (key_at key s at) (number_at s (at + length key)) None
 
--- what is read of lines: their numbers and where the rest starts, or a fault
-pub data LinesRead : Type 0 where
-  read : List ℕ → ℕ → LinesRead
-  fault : LinesRead
+-- what is read of lines: their numbers, if there is no fault
+abbrev pub LinesRead : Type 0
+LinesRead = Option (Found (List ℕ))
 
 -- numbers put before those that are read
 abbrev pub before : List ℕ → LinesRead → LinesRead
-before ns (read ms next) = read (ns ++ ms) next
-before ns fault = fault
+before ns (Some r) = read (ns ++ r.value) r.next
+before ns None = None
 
 -- one line, then the others from where it ends
-abbrev pub after_line : (ℕ → LinesRead) → Line → LinesRead
-after_line others (line.Number n next) = before (n ∷ []) (others next)
-after_line others line.Fault = fault
+abbrev pub after_line : (ℕ → LinesRead) → Option (Found ℕ) → LinesRead
+after_line others (Some r) = before (r.value ∷ []) (others r.next)
+after_line others None = None
 
 -- the lines of these keys from `at` on, in this order
 abbrev pub lines_at : List (List ℕ) → List ℕ → ℕ → LinesRead
@@ -74,15 +75,15 @@ optional_at keys s at = cond (any_key_at keys s at) (lines_at keys s at) (read [
 
 -- some lines, then others from where they end
 abbrev pub after_lines : (ℕ → LinesRead) → LinesRead → LinesRead
-after_lines others (read ns next) = before ns (others next)
-after_lines others fault = fault
+after_lines others (Some r) = before r.value (others r.next)
+after_lines others None = None
 
 -- the first lines: the header, and where the rest starts
-abbrev pub header_read : LinesRead → HeaderAnswer
-header_read (read ns next) = head.Found (header_from ns) next
-header_read fault = head.Fault
+abbrev pub header_read : LinesRead → Option (Found Header)
+header_read (Some r) = read (header_from r.value) r.next
+header_read None = None
 
-unfoldable pub header_of : List ℕ → HeaderAnswer
+unfoldable pub header_of : List ℕ → Option (Found Header)
 header_of s = header_read (after_lines (optional_at window_keys s) (lines_at header_keys s 0))
 
 -- a lower-case hexadecimal digit, and its value

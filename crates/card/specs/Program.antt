@@ -1,13 +1,12 @@
 -- The card program: the number that an input is refused with, and the text that it writes.
-use Rattle.std.specs.Prelude.{ℕ, ◌*◌, Bool, cond, List, ◌++◌, leb, length, replicate, drop}
+use Rattle.std.specs.Prelude.{ℕ, ◌*◌, Bool, cond, List, ◌++◌, leb, length, replicate, drop, Option, Some, None}
 use Rattle.lattice.specs.Refusal.{unless, beside}
 use Rattle.lattice.specs.Shape.{after_shape, cells_of}
 use Rattle.codec.specs.Plan.{plan_classes, plan_bytes}
 use Rattle.codec.specs.Encode.{encode_number, encoded_field}
 use Rattle.codec.specs.Decode.{decode_number, decode_count, decode_leaves}
 use Rattle.card.specs.declared.header.Header.{Header}
-use Rattle.card.specs.declared.header.HeaderAnswer.{HeaderAnswer}
-use Rattle.card.specs.declared.header.HeaderAnswer.TheVariants as head
+use Rattle.card.specs.declared.scan.Found.{Found}
 use Rattle.card.specs.Text.{number_line, header_text, payload_text, field_text, refusal_text, classes_key, mended_key}
 use Rattle.card.specs.Text.{payload_key}
 use Rattle.card.specs.Card.{max_input, max_card_cells, shape_of}
@@ -42,13 +41,14 @@ operation_number s h next =
     (decode_number (shape_of h) (blank_payload h) (cells_in s h next))
 
 -- after the header: the shape's, 8 for more than 16,384 cells, 8 for a fault of form later, then the operation's own
-unfoldable pub number_after : List ℕ → HeaderAnswer → ℕ
-number_after s head.Fault = 8
-number_after s (head.Found h next) =
+unfoldable pub number_after : List ℕ → Option (Found Header) → ℕ
+number_after s None = 8
+number_after s (Some r) =
+    let h = r.value in
     after_shape (shape_of h)
     (unless (leb (cells_of (shape_of h)) max_card_cells) 8
-    (unless (body_ok s h next) 8
-    (operation_number s h next)))
+    (unless (body_ok s h r.next) 8
+    (operation_number s h r.next)))
 
 -- the number: 8 for more than 65,536 bytes, 8 for a fault in the first lines, then the rest
 unfoldable pub program_number : List ℕ → ℕ
@@ -67,10 +67,10 @@ read_text h cells =
     ++ payload_text (decode_leaves (shape_of h) (blank_payload h) cells))
 
 -- a success; a fault in the first lines is none, and is refused with 8 before this is asked
-unfoldable pub success_text : List ℕ → HeaderAnswer → List ℕ
-success_text s head.Fault = refusal_text 8
-success_text s (head.Found h next) =
-    cond (is_payload s next) (written_text h (payload_of s next)) (read_text h (cells_in s h next))
+unfoldable pub success_text : List ℕ → Option (Found Header) → List ℕ
+success_text s None = refusal_text 8
+success_text s (Some r) =
+    cond (is_payload s r.next) (written_text r.value (payload_of s r.next)) (read_text r.value (cells_in s r.value r.next))
 
 -- the answer to an input
 unfoldable pub answer : List ℕ → List ℕ

@@ -1,10 +1,10 @@
 -- The text of a card and of an answer, as lists of ASCII codes: document 01, "Card text".
 use Rattle.std.specs.Prelude.{ℕ, zero, suc, ◌+◌, ◌*◌, ◌/◌, ◌%◌, cond, List, [], ◌∷◌, ◌++◌, map, ltb, get_or, take, drop}
+use Rattle.std.specs.Prelude.{Option, Some, None}
 use Prim.Native.Char.{code}
 use Prim.Native.String.{String, [] as []ˢ, ◌∷◌ as ◌∷ˢ◌}
+use Rattle.lattice.specs.declared.shape.Window.{Window}
 use Rattle.card.specs.declared.header.Header.{Header}
-use Rattle.card.specs.declared.header.WindowLines.{WindowLines}
-use Rattle.card.specs.declared.header.WindowLines.TheVariants as sides
 
 -- the codes of a text's characters
 abbrev pub ascii : String → List ℕ
@@ -92,9 +92,9 @@ lines_of (key ∷ keys) [] = []
 lines_of (key ∷ keys) (n ∷ ns) = line key n ∷ lines_of keys ns
 
 -- the lines of the window
-abbrev pub window_lines : WindowLines → List NumberLine
-window_lines sides.Absent = []
-window_lines (sides.Given w) = line window_rows_key w.rows ∷ line window_columns_key w.columns ∷ []
+abbrev pub window_lines : Option Window → List NumberLine
+window_lines None = []
+window_lines (Some w) = line window_rows_key w.rows ∷ line window_columns_key w.columns ∷ []
 
 -- the first lines, and their text
 abbrev pub header_lines : Header → List NumberLine
@@ -110,9 +110,9 @@ unfoldable pub header_text : Header → List ℕ
 header_text h = lines_text (header_lines h)
 
 -- the header of numbers in the order of its lines: those of the window are given where there are more than four
-abbrev pub window_from : List ℕ → WindowLines
-window_from [] = sides.Absent
-window_from (p ∷ ns) = sides.Given (record { rows = p; columns = get_or ns 0 0 })
+abbrev pub window_from : List ℕ → Option Window
+window_from [] = None
+window_from (p ∷ ns) = Some (record { rows = p; columns = get_or ns 0 0 })
 
 abbrev pub header_from : List ℕ → Header
 header_from ns =

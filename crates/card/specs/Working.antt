@@ -1,42 +1,23 @@
 -- What the work buffers of the program hold. Only contracts of functions that are private to the crate cite this file; no promise
 -- to a caller rests on it.
-use Rattle.std.specs.Prelude.{ℕ, ◌+◌, ◌<◌, ◌≤◌, cond, List, [], ◌∷◌, ◌++◌, ◌≡◌, length, take, drop}
+use Rattle.std.specs.Prelude.{ℕ, ◌+◌, ◌<◌, ◌≤◌, List, ◌++◌, ◌≡◌, length, take, drop, Option, Some, None}
 use Rattle.lattice.specs.declared.shape.Shape.{Shape}
+use Rattle.lattice.specs.declared.shape.Window.{Window}
 use Rattle.lattice.specs.Refusal.{beside}
 use Rattle.lattice.specs.Shape.{max_side, max_cells}
-use Rattle.codec.specs.Field.{field_of, list_of}
 use Rattle.codec.specs.Encode.{encode_number}
 use Rattle.codec.specs.Decode.{decode_number}
 use Rattle.card.specs.declared.header.Header.{Header}
-use Rattle.card.specs.declared.header.HeaderAnswer.TheVariants as head
-use Rattle.card.specs.declared.header.WindowAnswer.{WindowAnswer}
-use Rattle.card.specs.declared.header.WindowAnswer.TheVariants as found
-use Rattle.card.specs.declared.keys.Lines.{Lines}
-use Rattle.card.specs.Text.{header_keys, window_keys, number_line, window_from, header_text, refusal_text}
+use Rattle.card.specs.declared.scan.Found.{Found}
+use Rattle.card.specs.Text.{number_line, window_from, header_text, refusal_text}
 use Rattle.card.specs.Card.{max_input, shape_of, CardHeader}
-use Rattle.card.specs.Parse.{LinesRead, read, fault, header_of}
+use Rattle.card.specs.Parse.{LinesRead, read, header_of}
 use Rattle.card.specs.Program.{blank_field, blank_payload, written_text, read_text, output_leaves}
 
--- the keys of all first lines, and so many of them from a first one on
-abbrev pub all_keys : List (List ℕ)
-all_keys = header_keys ++ window_keys
-
-unfoldable pub keys_from : ℕ → ℕ → List (List ℕ)
-keys_from first count = take count (drop first all_keys)
-
--- keys end to end
-abbrev pub joined : List (List ℕ) → List ℕ
-joined [] = []
-joined (key ∷ keys) = key ++ joined keys
-
--- what an answer says of so many lines
-unfoldable pub read_lines : ℕ → Lines → LinesRead
-read_lines count r = cond r.found (read (list_of (field_of r.numbers) count) r.next) fault
-
 -- the lines of the window from what is read of them
-abbrev pub window_read : LinesRead → WindowAnswer
-window_read (read ns next) = found.Found (window_from ns) next
-window_read fault = found.Fault
+abbrev pub window_read : LinesRead → Option (Found (Option Window))
+window_read (Some r) = read (window_from r.value) r.next
+window_read None = None
 
 -- rows of w digits from `at` are to be stored in a field
 pub record CellsFit (s : List ℕ) (at w : ℕ) (field : List ℕ) : Type 0 where
@@ -71,7 +52,7 @@ pub record CardShape (h : Header) (s : Shape) : Type 0 where
 -- an input with a header, not too long
 pub record HeaderRead (s : List ℕ) (h : Header) (next : ℕ) : Type 0 where
   pub short : length s ≤ max_input
-  pub found : header_of s ≡ head.Found h next
+  pub found : header_of s ≡ read h next
 
 -- such an input whose header is a card's
 pub record BodyRead (s : List ℕ) (h : Header) (next : ℕ) (shape : Shape) : Type 0 where

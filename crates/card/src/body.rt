@@ -1,6 +1,5 @@
 // The lines after the header: one payload, or rows.
-ghost use Rattle.std.specs.Prelude.{true, ◌≡◌, ◌+◌, ◌-◌, ◌*◌, ◌/◌, ◌≤◌, length, get_or};
-ghost use Rattle.lattice.specs.Counting.{all_below};
+ghost use Rattle.std.specs.Prelude.{true, ◌≡◌, ◌+◌, ◌-◌, ◌*◌, ◌/◌, ◌≤◌, length};
 ghost use Rattle.card.specs.Text.{payload_key};
 ghost use Rattle.card.specs.Parse.{key_at, is_hex, hex_value, hex_count, payload_ok, payload_of, is_cell_digit, row_ok, rows_ok};
 ghost use Rattle.card.specs.Parse.{cells_of_rows};
@@ -8,7 +7,6 @@ ghost use Rattle.card.specs.Working.{CellsFit};
 
 use crate::scan::{byte_at, key_at};
 use codec::cell::is_received;
-use lattice::range::within;
 
 // Is the line at a position a payload?
 pub fn is_payload(text: &[u8], at: usize) -> bool
@@ -18,13 +16,11 @@ pub fn is_payload(text: &[u8], at: usize) -> bool
 }
 
 // Is the byte a lower-case hexadecimal digit?
+#[tactic(auto, unfolding(crate::specs::Parse::is_hex, lattice::specs::Range::in_range))]
 fn is_hex(byte: u8) -> bool
     ensures { result ≡ is_hex byte }
 {
-    if within(48, 57, byte as usize) {
-        return true;
-    }
-    within(97, 102, byte as usize)
+    matches!(byte, b'0'..=b'9' | b'a'..=b'f')
 }
 
 // The value of a lower-case hexadecimal digit.
@@ -33,20 +29,6 @@ fn hex_value(byte: u8) -> u8
     ensures { result ≡ hex_value byte }
 {
     if byte < 58 { byte - 48 } else { byte - 87 }
-}
-
-// Are the n bytes from a position lower-case hexadecimal digits?
-fn all_hex(text: &[u8], start: usize, n: usize) -> bool
-    ensures { result ≡ all_below (λ j. is_hex (get_or text.now (start + j) 0)) n }
-{
-    let mut j = 0;
-    while j < n {
-        if !is_hex(byte_at(text, start, j)) {
-            return false;
-        }
-        j += 1;
-    }
-    true
 }
 
 // Is the rest from a position one line `payload` of whole bytes?
@@ -68,21 +50,14 @@ pub fn payload_ok(text: &[u8], at: usize) -> bool
     if digits % 2 != 0 {
         return false;
     }
-    all_hex(text, start, digits)
+    (0..digits).all(|j| is_hex(byte_at(text, start, j)))
 }
 
 // The number of bytes of the payload that the rest is: all but the 8 of its key and the line feed are digits.
 pub fn payload_bytes(text: &[u8], at: usize) -> usize
     ensures { result ≡ hex_count text.now at / 2 }
 {
-    if text.len() < 9 {
-        return 0;
-    }
-    let most = text.len() - 9;
-    if most < at {
-        return 0;
-    }
-    (most - at) / 2
+    text.len().saturating_sub(9).saturating_sub(at) / 2
 }
 
 // Stores the payload that the rest is.
@@ -92,37 +67,19 @@ pub(crate) fn fill_payload(text: &[u8], at: usize, payload: &mut [u8])
     ensures { payload.new ≡ payload_of text.now at }
 {
     let start = at + 8;
-    let mut j = 0;
-    while j < payload.len() {
+    for (j, byte) in payload.iter_mut().enumerate() {
         let high = hex_value(byte_at(text, start, 2 * j));
         let low = hex_value(byte_at(text, start, 2 * j + 1));
-        payload[j] = high * 16 + low;
-        j += 1;
+        *byte = high * 16 + low;
     }
 }
 
 // Is the byte the digit of a cell: 0, 1, or 2 for an erased one?
+#[tactic(auto, unfolding(crate::specs::Parse::is_cell_digit))]
 fn is_cell_digit(byte: u8) -> bool
     ensures { result ≡ is_cell_digit byte }
 {
-    if byte < 48 {
-        return false;
-    }
-    is_received(byte - 48)
-}
-
-// Are the n bytes from a position digits of cells?
-fn all_cells(text: &[u8], start: usize, n: usize) -> bool
-    ensures { result ≡ all_below (λ j. is_cell_digit (get_or text.now (start + j) 0)) n }
-{
-    let mut j = 0;
-    while j < n {
-        if !is_cell_digit(byte_at(text, start, j)) {
-            return false;
-        }
-        j += 1;
-    }
-    true
+    byte >= b'0' && is_received(byte - b'0')
 }
 
 // Is the line at a position a row of that width?
@@ -134,7 +91,7 @@ fn row_ok(text: &[u8], start: usize, width: usize) -> bool
         return false;
     }
     let cells = start + 4;
-    if !all_cells(text, cells, width) {
+    if !(0..width).all(|c| is_cell_digit(byte_at(text, cells, c))) {
         return false;
     }
     byte_at(text, cells, width) == b'\n'
@@ -152,12 +109,10 @@ pub fn rows_ok(text: &[u8], at: usize, columns: u16, rows: u32) -> bool
     if text.len() - at != lines * (width + 5) {
         return false;
     }
-    let mut r = 0;
-    while r < lines {
+    for r in 0..lines {
         if !row_ok(text, at + r * (width + 5), width) {
             return false;
         }
-        r += 1;
     }
     true
 }
@@ -166,7 +121,7 @@ pub fn rows_ok(text: &[u8], at: usize, columns: u16, rows: u32) -> bool
 fn cell_value(byte: u8) -> u8
     ensures { result ≡ byte - 48 }
 {
-    if byte < 48 { 0 } else { byte - 48 }
+    byte.saturating_sub(b'0')
 }
 
 // Stores the cells of rows of that width.
@@ -174,10 +129,8 @@ pub(crate) fn fill_cells(text: &[u8], at: usize, width: usize, field: &mut [u8])
     requires { CellsFit text.now at width field.old }
     ensures { field.new ≡ cells_of_rows text.now at width (length field.old) }
 {
-    let mut i = 0;
-    while i < field.len() {
+    for (i, cell) in field.iter_mut().enumerate() {
         let start = at + i / width * (width + 5) + 4;
-        field[i] = cell_value(byte_at(text, start, i % width));
-        i += 1;
+        *cell = cell_value(byte_at(text, start, i % width));
     }
 }

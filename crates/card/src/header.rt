@@ -5,115 +5,89 @@ ghost use Rattle.card.specs.Card.{shape_numbers};
 ghost use Rattle.card.specs.Parse.{optional_at, header_of};
 ghost use Rattle.card.specs.Working.{window_read, HasRoom, Printed};
 
-use crate::keys::{KEY_BYTES, KEYS, LINES, WINDOW_LINES, any_key_at, lines_at, put_lines};
+use crate::keys::{HEADER_KEYS, LINES, WINDOW_KEYS, WINDOW_LINES, any_key_at, lines_at, put_lines};
+use crate::scan::Found;
 use lattice::shape::{ShapeNumbers, Window};
 
-// The lines of the window, which may be left out.
-#[derive(Clone, Copy)]
-pub enum WindowLines {
-    Absent,
-    Given(Window),
-}
-
-// What the first lines say.
+// What the first lines say; those of the window may be left out.
 #[derive(Clone, Copy)]
 pub struct Header {
     pub columns: usize,
     pub rows: usize,
     pub planes: usize,
     pub strength: usize,
-    pub window: WindowLines,
+    pub window: Option<Window>,
 }
 
-// The lines of the window, and where the rest starts.
-#[derive(Clone, Copy)]
-pub enum WindowAnswer {
-    Found(WindowLines, usize),
-    Fault,
-}
-
-// The header, and where the rest starts.
-#[derive(Clone, Copy)]
-pub enum HeaderAnswer {
-    Found(Header, usize),
-    Fault,
-}
+// The window of a header that leaves its lines out.
+const NO_WINDOW: Window = Window {
+    rows: 0,
+    columns: 0,
+};
 
 impl Header {
     // The numbers of its shape; without the window's lines both sides are 0.
     pub fn shape_numbers(self) -> ShapeNumbers
         ensures { result ≡ shape_numbers self }
     {
-        let lines = self.window;
-        let window = match lines {
-            WindowLines::Absent => Window {
-                rows: 0,
-                columns: 0,
-            },
-            WindowLines::Given(given) => given,
-        };
         ShapeNumbers {
             columns: self.columns,
             rows: self.rows,
             planes: self.planes,
             strength: self.strength,
-            window,
+            window: self.window.unwrap_or(NO_WINDOW),
         }
     }
 }
 
 // The lines of the window at a position: both, or none where neither key stands there.
-fn window_at(text: &[u8], at: usize) -> WindowAnswer
+fn window_at(text: &[u8], at: usize) -> Option<Found<Option<Window>>>
     requires { at ≤ length text.now }
     ensures { result ≡ window_read (optional_at window_keys text.now at) }
 {
-    if !any_key_at(LINES, WINDOW_LINES, text, at) {
-        return WindowAnswer::Found(WindowLines::Absent, at);
+    if !any_key_at(&WINDOW_KEYS, text, at) {
+        return Some(Found {
+            value: None,
+            next: at,
+        });
     }
-    let lines = lines_at(LINES, WINDOW_LINES, text, at);
-    if !lines.found {
-        return WindowAnswer::Fault;
-    }
-    let sides = lines.numbers;
-    let window = Window {
-        rows: sides[0],
-        columns: sides[1],
-    };
-    WindowAnswer::Found(WindowLines::Given(window), lines.next)
+    let lines = lines_at::<WINDOW_LINES>(&WINDOW_KEYS, text, at)?;
+    let [rows, columns] = lines.value;
+    Some(Found {
+        value: Some(Window { rows, columns }),
+        next: lines.next,
+    })
 }
 
 // The header that a card text begins with.
-pub fn parse_header(text: &[u8]) -> HeaderAnswer
+pub fn parse_header(text: &[u8]) -> Option<Found<Header>>
     ensures { result ≡ header_of text.now }
 {
-    let lines = lines_at(0, LINES, text, 0);
-    if !lines.found {
-        return HeaderAnswer::Fault;
-    }
-    let WindowAnswer::Found(window, next) = window_at(text, lines.next) else {
-        return HeaderAnswer::Fault;
-    };
-    let numbers = lines.numbers;
-    let header = Header {
-        columns: numbers[0],
-        rows: numbers[1],
-        planes: numbers[2],
-        strength: numbers[3],
-        window,
-    };
-    HeaderAnswer::Found(header, next)
+    let lines = lines_at::<LINES>(&HEADER_KEYS, text, 0)?;
+    let [columns, rows, planes, strength] = lines.value;
+    let window = window_at(text, lines.next)?;
+    Some(Found {
+        value: Header {
+            columns,
+            rows,
+            planes,
+            strength,
+            window: window.value,
+        },
+        next: window.next,
+    })
 }
 
 // Writes the lines of the window, where they are given.
-fn put_window(out: &mut [u8], at: usize, lines: WindowLines) -> usize
-    requires { HasRoom out.old at (lines_text (window_lines lines)) }
-    ensures { Printed out.old out.new at (lines_text (window_lines lines)) result }
+fn put_window(out: &mut [u8], at: usize, window: Option<Window>) -> usize
+    requires { HasRoom out.old at (lines_text (window_lines window)) }
+    ensures { Printed out.old out.new at (lines_text (window_lines window)) result }
 {
-    let WindowLines::Given(window) = lines else {
+    let Some(window) = window else {
         return at;
     };
     let sides = [window.rows, window.columns];
-    put_lines(out, at, LINES, &sides)
+    put_lines(out, at, &WINDOW_KEYS, &sides)
 }
 
 // Writes the first lines.
@@ -122,13 +96,12 @@ pub(crate) fn put_header(out: &mut [u8], at: usize, header: Header) -> usize
     ensures { Printed out.old out.new at (header_text header) result }
 {
     let numbers = [header.columns, header.rows, header.planes, header.strength];
-    let next = put_lines(out, at, 0, &numbers);
-    let window = header.window;
-    put_window(out, next, window)
+    let next = put_lines(out, at, &HEADER_KEYS, &numbers);
+    put_window(out, next, header.window)
 }
 
-// Room for the first lines of any header: five digits and a line feed beside each key.
-const MAX_LINES: usize = KEY_BYTES + 6 * KEYS;
+// Room for the first lines of any header: the 56 bytes of the keys, and five digits and a line feed beside each.
+const MAX_LINES: usize = 56 + 6 * (LINES + WINDOW_LINES);
 
 // The length of the first lines: where they end in a buffer of their own.
 pub fn header_length(header: Header) -> usize

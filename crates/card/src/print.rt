@@ -1,4 +1,5 @@
-// Writers of the parts of an answer: each writes its text into a buffer at a position and gives the position behind it.
+// Writers of the parts of an answer: each writes its text into a buffer at a position and gives the position behind it. A
+// struct of the buffer and the position is no plainer: each clause would also have to say that it still holds the same buffer.
 ghost use Rattle.std.specs.Prelude.{[], ◌∷◌, ◌≡◌, ◌+◌, ◌*◌, ◌<◌, length};
 ghost use Rattle.codec.specs.Field.{field_of, Received};
 ghost use Rattle.card.specs.Text.{digits, digit_count, number_line, hex_digit, hex_text, payload_text, cells_text, row_text};
@@ -19,28 +20,23 @@ fn put_bytes(out: &mut [u8], at: usize, text: &[u8]) -> usize
     requires { HasRoom out.old at text.now }
     ensures { Printed out.old out.new at text.now result }
 {
-    let mut i = 0;
-    while i < text.len() {
-        out[at + i] = text[i];
-        i += 1;
-    }
-    at + text.len()
+    let end = at + text.len();
+    out[at..end].copy_from_slice(text);
+    end
 }
 
 // The number of decimal digits of a number below 100,000; 5 for any above.
+#[tactic(auto, unfolding(crate::specs::Text::digit_count))]
 fn digit_count(n: usize) -> usize
     ensures { result ≡ digit_count n }
 {
-    if n < 10 {
-        return 1;
+    match n {
+        0..=9 => 1,
+        10..=99 => 2,
+        100..=999 => 3,
+        1000..=9999 => 4,
+        _ => 5,
     }
-    if n < 100 {
-        return 2;
-    }
-    if n < 1000 {
-        return 3;
-    }
-    if n < 10000 { 4 } else { 5 }
 }
 
 // Writes the last k decimal digits of a number.
@@ -86,13 +82,10 @@ fn put_hex(out: &mut [u8], at: usize, payload: &[u8]) -> usize
     ensures { Printed out.old out.new at (hex_text payload.now) result }
 {
     let mut next = at;
-    let mut j = 0;
-    while j < payload.len() {
-        let byte = payload[j];
+    for &byte in payload {
         out[next] = hex_digit(byte / 16);
         out[next + 1] = hex_digit(byte % 16);
         next += 2;
-        j += 1;
     }
     next
 }
@@ -113,10 +106,8 @@ fn put_cells(out: &mut [u8], at: usize, cells: &[u8]) -> usize
     requires received { Received (field_of cells.now) (length cells.now) }
     ensures { Printed out.old out.new at (cells_text cells.now) result }
 {
-    let mut i = 0;
-    while i < cells.len() {
-        out[at + i] = b'0' + cells[i];
-        i += 1;
+    for (i, cell) in cells.iter().enumerate() {
+        out[at + i] = b'0' + *cell;
     }
     at + cells.len()
 }
@@ -132,7 +123,7 @@ fn put_row(out: &mut [u8], at: usize, cells: &[u8]) -> usize
     put_byte(out, end, b'\n')
 }
 
-// Writes rows of cells, plane after plane.
+// Writes rows of cells, plane after plane. By index and not by chunks, since rows of no cells are rows too.
 pub(crate) fn put_rows(out: &mut [u8], at: usize, width: usize, lines: usize, cells: &[u8]) -> usize
     requires has_room { HasRoom out.old at (rows_text width lines cells.now) }
     requires received { Received (field_of cells.now) (length cells.now) }
@@ -140,12 +131,10 @@ pub(crate) fn put_rows(out: &mut [u8], at: usize, width: usize, lines: usize, ce
     ensures { Printed out.old out.new at (rows_text width lines cells.now) result }
 {
     let mut next = at;
-    let mut r = 0;
-    while r < lines {
+    for r in 0..lines {
         let first = r * width;
         let behind = first + width;
         next = put_row(out, next, &cells[first..behind]);
-        r += 1;
     }
     next
 }

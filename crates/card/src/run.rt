@@ -7,12 +7,12 @@ ghost use Rattle.card.specs.Program.{is_payload, blank_payload, answer, output_l
 ghost use Rattle.card.specs.Working.{Answered, CardShape, HeaderRead, BodyRead, encoded_text, decoded_text};
 
 use crate::body::{fill_cells, fill_payload, is_payload, payload_bytes, payload_ok, rows_ok};
-use crate::header::{Header, HeaderAnswer, parse_header};
+use crate::header::{Header, parse_header};
 use crate::reply::{refuse, reply_field, reply_payload};
-use codec::decode::{DecodeAnswer, decode};
-use codec::encode::{EncodeAnswer, encode};
+use codec::decode::decode;
+use codec::encode::encode;
 use lattice::refusal::Refusal;
-use lattice::shape::{NewShape, Shape};
+use lattice::shape::Shape;
 
 // The longest input.
 const MAX_INPUT: usize = 65536;
@@ -42,8 +42,8 @@ fn write_card(
     ensures { Answered (encoded_text header payload.now) output.old output.new result }
 {
     match encode(shape, payload, field) {
-        EncodeAnswer::Refused(why) => refuse(why, output),
-        EncodeAnswer::Encoded => reply_field(header, shape.classes(), field, output),
+        Ok(()) => reply_field(header, shape.classes(), field, output),
+        Err(why) => refuse(why, output),
     }
 }
 
@@ -60,8 +60,8 @@ fn read_card(
     ensures { Answered (decoded_text header field.now) output.old output.new result }
 {
     match decode(shape, payload, field) {
-        DecodeAnswer::Refused(why) => refuse(why, output),
-        DecodeAnswer::Decoded(count) => reply_payload(header, count, payload, output),
+        Ok(count) => reply_payload(header, count, payload, output),
+        Err(why) => refuse(why, output),
     }
 }
 
@@ -131,8 +131,8 @@ fn answer_header(input: &[u8], header: Header, next: usize, output: &mut [u8]) -
     ensures { Answered (answer input.now) output.old output.new result }
 {
     match Shape::new(header.shape_numbers()) {
-        NewShape::Refused(why) => refuse(why, output),
-        NewShape::Accepted(shape) => {
+        Err(why) => refuse(why, output),
+        Ok(shape) => {
             if shape.cells() > MAX_CELLS {
                 return refuse(Refusal::BadForm, output);
             }
@@ -154,8 +154,8 @@ pub fn answer_card(input: &[u8], output: &mut [u8]) -> usize
     if input.len() > MAX_INPUT {
         return refuse(Refusal::BadForm, output);
     }
-    let HeaderAnswer::Found(header, next) = parse_header(input) else {
+    let Some(found) = parse_header(input) else {
         return refuse(Refusal::BadForm, output);
     };
-    answer_header(input, header, next, output)
+    answer_header(input, found.value, found.next, output)
 }

@@ -1,2 +1,3 @@
--- What flipping the damaged cells uses alone.
+-- What flipping the damaged cells and counting the checks before a cell use alone.
 mod FlippedCells
+mod Parted

@@ -1,6 +1,7 @@
 -- Laws about the definitions, for any reader of them.
 
 -- numbers, lists and tests
+pub mod Counted
 pub mod Xor
 pub mod BinaryDigits
 pub mod AllBelow
@@ -54,7 +55,6 @@ pub mod ClusterCells
 pub mod PlanRefusal
 pub mod FieldTests
 pub mod FieldNumber
-pub mod Examinations
 pub mod OperationNumbers
 mod FieldMeaning
 pub mod ReadFields

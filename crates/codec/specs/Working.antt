@@ -1,16 +1,14 @@
 -- What the work arrays of a pass over the cells hold. Only contracts of functions that are private to the crate cite this file.
-use Rattle.std.specs.Prelude.{ℕ, ◌+◌, ◌<◌, Bool, cond, not, ◌||◌, List, ◌≢◌, ◌⊎◌, ◌≡◌, eqb, length, get_or}
-use Rattle.lattice.specs.declared.refusal.Refusal.TheVariants as why
+use Rattle.std.specs.Prelude.{ℕ, ◌+◌, ◌<◌, Bool, cond, not, ◌||◌, List, ◌⊎◌, ◌≡◌, eqb, length, get_or, Result}
+use Rattle.lattice.specs.declared.refusal.Refusal.{Refusal}
 use Rattle.lattice.specs.declared.shape.Shape.{Shape}
-use Rattle.lattice.specs.Refusal.{refusal_number, unless}
+use Rattle.lattice.specs.Refusal.{figure_of, unless}
 use Rattle.lattice.specs.Shape.{max_classes, Accepted, after_shape, cells_of}
 use Rattle.lattice.specs.Class.{classes_of, layout_of}
 use Rattle.lattice.specs.Position.{Layout}
 use Rattle.lattice.specs.Counting.{count}
 use Rattle.lattice.specs.Listing.{no_cell}
 use Rattle.lattice.specs.Sizes.{HoldsSizes}
-use Rattle.codec.specs.declared.examine.Examination.{Examination}
-use Rattle.codec.specs.declared.examine.Examination.TheVariants as exam
 use Rattle.codec.specs.declared.payload.Padding.{Padding}
 use Rattle.codec.specs.declared.payload.Padding.TheVariants as pads
 use Rattle.codec.specs.Field.{Field, field_of, Same, erased, having}
@@ -54,19 +52,6 @@ length_number s payload field =
     (unless (eqb (length payload) (plan_bytes s)) 3
     (unless (eqb (length field) (plan_cells s)) 4
     0))
-
--- the number that an examination gives, and the number of erased cells that it counts
-abbrev pub examined_number : Examination → ℕ
-examined_number (exam.Passed k) = 0
-examined_number (exam.Refused q) = refusal_number q
-
-abbrev pub examined_erased : Examination → ℕ
-examined_erased (exam.Passed k) = k
-examined_erased (exam.Refused q) = 0
-
--- of the two reasons with the number 4, it is the field's length
-abbrev pub ExaminedField : Examination → Type 0
-ExaminedField r = r ≢ exam.Refused why.OutsideShape
 
 -- what the tests of the lengths leave where they pass
 pub record Fits (s : Shape) (payload field sizes : List ℕ) : Type 0 where
@@ -130,7 +115,7 @@ pub record Located (s : Shape) (field damaged first second : List ℕ) : Type 0 
       (get_or damaged a 0) (get_or first a 0) (get_or second a 0)
       ≡ in_reach (layout_of s) (tags_at s) (field_of field) a
 
--- a field that passes its tests: the arrays say what correction flips, and the erased cells are counted
-pub record Sound (s : Shape) (field damaged first second : List ℕ) (r : Examination) : Type 0 where
+-- a field that passes its tests: the arrays say what correction flips, and the figure is the number of erased cells
+pub record Sound (s : Shape) (field damaged first second : List ℕ) (r : Result ℕ Refusal) : Type 0 where
   pub located : Located s field damaged first second
-  pub erased_cells : examined_erased r ≡ count (is_erased (field_of field)) (cells_of s)
+  pub erased_cells : figure_of r ≡ count (is_erased (field_of field)) (cells_of s)

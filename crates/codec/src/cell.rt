@@ -1,5 +1,5 @@
 // The cells of a field that is handed in: the values that they may have, and how one is read.
-ghost use Rattle.std.specs.Prelude.{◌≡◌, ◌<◌, max, length};
+ghost use Rattle.std.specs.Prelude.{◌≡◌, ◌<◌, length};
 ghost use Rattle.codec.specs.Field.{field_of, is_received, having};
 
 // An erasure, the papers' unread cell.
@@ -26,11 +26,4 @@ pub(crate) fn one_at(field: &[u8], i: usize) -> u8
     ensures { result ≡ having 1 (field_of field.now) i }
 {
     if field[i] == 1 { 1 } else { 0 }
-}
-
-// The greater of two bytes.
-pub(crate) fn greater(a: u8, b: u8) -> u8
-    ensures { result ≡ max a b }
-{
-    if a < b { b } else { a }
 }

@@ -1,5 +1,6 @@
 // Correcting: the tests, 0 in each erased cell, and cells flipped.
 ghost use Rattle.std.specs.Prelude.{◌≡◌, length};
+ghost use Rattle.lattice.specs.Refusal.{number_of, NoOutside};
 ghost use Rattle.lattice.specs.Shape.{cells_of};
 ghost use Rattle.lattice.specs.Class.{classes_of, layout_of};
 ghost use Rattle.lattice.specs.Counting.{count};
@@ -8,46 +9,17 @@ ghost use Rattle.codec.specs.Erasure.{is_erased};
 ghost use Rattle.codec.specs.Decode.{corrected_field, corrected_count};
 ghost use Rattle.codec.specs.Correct.{correct_number};
 ghost use Rattle.codec.specs.Reach.{Readable};
-ghost use Rattle.codec.specs.Answer.{IsCorrected, correct_answer_number, correct_answer_count};
+ghost use Rattle.codec.specs.Answer.{IsCorrected};
 ghost use Rattle.codec.specs.Packing.{Names, flipped_by};
-ghost use Rattle.codec.specs.Working.{HoldsNone, FieldFits, Located, Sound, examined_number, ExaminedField};
+ghost use Rattle.codec.specs.Working.{HoldsNone, FieldFits, Located, Sound};
 
 use crate::cell::one_at;
 use crate::damage::{count_changed, flip_cells};
-use crate::examine::{Examination, examine};
+use crate::examine::examine;
 use lattice::capacity::class_sizes;
-use lattice::refusal::{Refusal, Tested};
+use lattice::refusal::Refusal;
 use lattice::shape::Shape;
 use passes::cell_places::NO_CELL;
-
-// The number of cells changed, or the refusal 1, 2, 11, 4, 5, 10, 6 or 7.
-#[derive(Clone, Copy)]
-pub enum CorrectAnswer {
-    Corrected(usize),
-    Refused(Refusal),
-}
-
-impl CorrectAnswer {
-    // The papers' number.
-    pub fn number(self) -> usize
-        ensures { result ≡ correct_answer_number self }
-    {
-        match self {
-            CorrectAnswer::Corrected(_) => 0,
-            CorrectAnswer::Refused(why) => why.number(),
-        }
-    }
-
-    // The number of cells changed, 0 beside a refusal.
-    pub fn count(self) -> usize
-        ensures { result ≡ correct_answer_count self }
-    {
-        match self {
-            CorrectAnswer::Corrected(count) => count,
-            CorrectAnswer::Refused(_) => 0,
-        }
-    }
-}
 
 // Puts 0 in each erased cell of a field that has so many.
 fn clear_erased(erased: usize, field: &mut [u8])
@@ -59,10 +31,8 @@ fn clear_erased(erased: usize, field: &mut [u8])
     if erased == 0 {
         return;
     }
-    let mut i = 0;
-    while i < field.len() {
+    for i in 0..field.len() {
         field[i] = one_at(field, i);
-        i += 1;
     }
 }
 
@@ -109,7 +79,8 @@ fn store_corrected(
     count_changed(shape, erased, damaged)
 }
 
-// The tests of correcting in their order, 1, 2, 11, 4, 5, 10, 6, 7; where they pass, the arrays say which cells are flipped.
+// The tests of correcting in their order, 1, 2, 11, 4, 5, 10, 6, 7; where they pass, the arrays say which cells are flipped, and
+// the number of erased cells is given.
 // At entry no cell is named as first or second.
 fn correct_tests(
     shape: Shape,
@@ -117,19 +88,16 @@ fn correct_tests(
     damaged: &mut [u32; Shape::MAX_CLASSES],
     first: &mut [u32; Shape::MAX_CLASSES],
     second: &mut [u32; Shape::MAX_CLASSES],
-) -> Examination
+) -> Result<usize, Refusal>
     requires { HoldsNone first.old × HoldsNone second.old }
-    ensures result_value { examined_number result ≡ correct_number shape field.now }
-    ensures examined_field { ExaminedField result }
-    ensures sound { examined_number result ≡ 0
+    ensures result_value { number_of result ≡ correct_number shape field.now }
+    ensures no_outside { NoOutside result }
+    ensures sound { number_of result ≡ 0
         → Sound shape field.now damaged.new first.new second.new result }
 {
-    let tested = shape.tests();
-    if let Tested::Refused(why) = tested {
-        return Examination::Refused(why);
-    }
+    shape.tests()?;
     if field.len() != shape.cells() {
-        return Examination::Refused(Refusal::FieldLength);
+        return Err(Refusal::FieldLength);
     }
     let mut sizes = [0u32; Shape::MAX_CLASSES];
     class_sizes(shape, &mut sizes);
@@ -137,18 +105,12 @@ fn correct_tests(
 }
 
 // Stores the corrected field and gives the number of cells changed, or gives the refusal 1, 2, 11, 4, 5, 10, 6 or 7.
-pub fn correct(shape: Shape, field: &mut [u8]) -> CorrectAnswer
+pub fn correct(shape: Shape, field: &mut [u8]) -> Result<usize, Refusal>
     ensures { IsCorrected shape field.old field.new result }
 {
     let mut damaged = [NO_CELL; Shape::MAX_CLASSES];
     let mut first = [NO_CELL; Shape::MAX_CLASSES];
     let mut second = [NO_CELL; Shape::MAX_CLASSES];
-    match correct_tests(shape, field, &mut damaged, &mut first, &mut second) {
-        Examination::Refused(why) => CorrectAnswer::Refused(why),
-        Examination::Passed(erased) => {
-            CorrectAnswer::Corrected(store_corrected(
-                shape, erased, &damaged, &first, &second, field,
-            ))
-        }
-    }
+    let erased = correct_tests(shape, field, &mut damaged, &mut first, &mut second)?;
+    Ok(store_corrected(shape, erased, &damaged, &first, &second, field))
 }

@@ -10,31 +10,16 @@ ghost use Rattle.codec.specs.Packing.{BitFlipped, HoldsBits, flipped_at, flipped
 ghost use Rattle.codec.specs.Working.{names};
 
 use crate::hamming::flip;
-use crate::index::{wide_16, wide_32};
 use lattice::shape::Shape;
 use passes::cell_places::NO_CELL;
 use passes::check_cells::MAX_CHECKS;
-
-// One more where the test holds.
-pub(crate) fn count_if(test: bool, n: usize) -> usize
-    requires { n < max_cells }
-    ensures { result ≡ cond test 1 0 + n }
-{
-    if test { 1 + n } else { n }
-}
 
 // The number of classes below m for which a cell is named.
 fn count_named(m: usize, cells: &[u32; Shape::MAX_CLASSES]) -> usize
     requires { m ≤ max_classes }
     ensures { result ≡ count (names cells.now) m }
 {
-    let mut n = 0;
-    let mut a = 0;
-    while a < m {
-        n = count_if(cells[a] != NO_CELL, n);
-        a += 1;
-    }
-    n
+    cells[..m].iter().filter(|cell| **cell != NO_CELL).count()
 }
 
 // The number of cells that correction changes in a field with so many erased ones.
@@ -68,10 +53,8 @@ pub(crate) fn flip_cells(m: usize, named: &[u32; Shape::MAX_CLASSES], field: &mu
         → Same (field_of field.new) (flipped_to L named.now (field_of field.old) m)
         (length field.old) }
 {
-    let mut a = 0;
-    while a < m {
-        flip_cell(field, wide_32(named[a]));
-        a += 1;
+    for cell in &named[..m] {
+        flip_cell(field, *cell as usize);
     }
 }
 
@@ -84,17 +67,7 @@ fn checks_before(checks: &[u16; MAX_CHECKS], amount: usize, cell: usize) -> usiz
         → cell ≤ L.cells
         → result ≡ checks_to L cell }
 {
-    let mut low = 0;
-    let mut high = amount;
-    while low < high {
-        let middle = (low + high) / 2;
-        if wide_16(checks[middle]) < cell {
-            low = middle + 1;
-        } else {
-            high = middle;
-        }
-    }
-    low
+    checks[..amount].partition_point(|check| (*check as usize) < cell)
 }
 
 // Is the k-th of the listed check cells this one?
@@ -106,7 +79,7 @@ fn is_at(checks: &[u16; MAX_CHECKS], amount: usize, k: usize, cell: usize) -> bo
     if k >= amount {
         return false;
     }
-    wide_16(checks[k]) == cell
+    checks[k] as usize == cell
 }
 
 // Flips bit k of the payload; a number that is no bit's leaves it.
@@ -159,9 +132,7 @@ pub(crate) fn flip_bits(
         → HoldsBits L f payload.old
         → HoldsBits L (flipped_to L named.now f m) payload.new }
 {
-    let mut a = 0;
-    while a < m {
-        flip_at(checks, amount, cells, wide_32(named[a]), payload);
-        a += 1;
+    for cell in &named[..m] {
+        flip_at(checks, amount, cells, *cell as usize, payload);
     }
 }

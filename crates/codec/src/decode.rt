@@ -1,5 +1,6 @@
 // Decoding: the tests, the payload gathered from the 1 cells of the field, and bits of cells flipped.
 ghost use Rattle.std.specs.Prelude.{◌≡◌, ℕ, ◌≤◌, get_or, length};
+ghost use Rattle.lattice.specs.Refusal.{number_of, NoOutside};
 ghost use Rattle.lattice.specs.Shape.{Accepted, cells_of};
 ghost use Rattle.lattice.specs.Class.{classes_of, layout_of};
 ghost use Rattle.lattice.specs.Listing.{max_checks, ListsChecks};
@@ -8,58 +9,18 @@ ghost use Rattle.codec.specs.Field.{Field, field_of};
 ghost use Rattle.codec.specs.Payload.{payload_bytes, held_payload};
 ghost use Rattle.codec.specs.Decode.{corrected_field, decode_number};
 ghost use Rattle.codec.specs.Reach.{Readable};
-ghost use Rattle.codec.specs.Answer.{IsDecoded, decode_answer_number, decode_answer_count};
+ghost use Rattle.codec.specs.Answer.{IsDecoded};
 ghost use Rattle.codec.specs.Packing.{HoldsBits, Names, flipped_by};
-ghost use Rattle.codec.specs.Working.{HoldsNone, Located, Sound, examined_number, ExaminedField};
+ghost use Rattle.codec.specs.Working.{HoldsNone, Located, Sound};
 
 use crate::damage::{count_changed, flip_bits};
-use crate::examine::{Examination, examine};
+use crate::examine::examine;
 use crate::gather::gather;
 use crate::lengths::length_tests;
-use lattice::refusal::{Refusal, Tested};
+use lattice::refusal::Refusal;
 use lattice::shape::Shape;
 use passes::cell_places::NO_CELL;
 use passes::check_cells::{MAX_CHECKS, check_cells};
-
-// The number of cells changed, or the refusal 1, 2, 11, 3, 4, 5, 10, 6 or 7.
-#[derive(Clone, Copy)]
-pub enum DecodeAnswer {
-    Decoded(usize),
-    Refused(Refusal),
-}
-
-impl DecodeAnswer {
-    // The papers' number.
-    pub fn number(self) -> usize
-        ensures { result ≡ decode_answer_number self }
-    {
-        match self {
-            DecodeAnswer::Decoded(_) => 0,
-            DecodeAnswer::Refused(why) => why.number(),
-        }
-    }
-
-    // The number of cells changed, 0 beside a refusal.
-    pub fn count(self) -> usize
-        ensures { result ≡ decode_answer_count self }
-    {
-        match self {
-            DecodeAnswer::Decoded(count) => count,
-            DecodeAnswer::Refused(_) => 0,
-        }
-    }
-}
-
-// Sets every byte to 0.
-fn clear(payload: &mut [u8])
-    ensures { (j : ℕ) → get_or payload.new j 0 ≡ 0 }
-{
-    let mut j = 0;
-    while j < payload.len() {
-        payload[j] = 0;
-        j += 1;
-    }
-}
 
 // Flips the bits of the cells that correction flips.
 fn correct_payload(
@@ -110,7 +71,7 @@ fn store_payload(
     let mut places = [0u16; MAX_CHECKS];
     let amount = check_cells(shape, sizes, &mut checks, &mut places);
     let cells = shape.cells();
-    clear(payload);
+    payload.fill(0);
     gather(shape, &checks, amount, cells, field, payload);
     correct_payload(
         shape, &checks, amount, cells, damaged, first, second, payload,
@@ -118,7 +79,7 @@ fn store_payload(
 }
 
 // The tests of decoding in their order, 1, 2, 11, 3, 4, 5, 10, 6, 7; where they pass, the arrays hold the size of each class
-// and say which cells are flipped. At entry no cell is named as first or second.
+// and say which cells are flipped, and the number of erased cells is given. At entry no cell is named as first or second.
 fn decode_tests(
     shape: Shape,
     payload: &[u8],
@@ -127,30 +88,27 @@ fn decode_tests(
     damaged: &mut [u32; Shape::MAX_CLASSES],
     first: &mut [u32; Shape::MAX_CLASSES],
     second: &mut [u32; Shape::MAX_CLASSES],
-) -> Examination
+) -> Result<usize, Refusal>
     requires { HoldsNone first.old × HoldsNone second.old }
-    ensures result_value { examined_number result ≡ decode_number shape payload.now field.now }
-    ensures examined_field { ExaminedField result }
-    ensures holds_sizes { examined_number result ≡ 0
+    ensures result_value { number_of result ≡ decode_number shape payload.now field.now }
+    ensures no_outside { NoOutside result }
+    ensures holds_sizes { number_of result ≡ 0
         → HoldsSizes (layout_of shape) sizes.new (cells_of shape)
         × Sound shape field.now damaged.new first.new second.new result }
 {
-    let tested = length_tests(shape, payload, field, sizes);
-    if let Tested::Refused(why) = tested {
-        return Examination::Refused(why);
-    }
+    length_tests(shape, payload, field, sizes)?;
     examine(shape, field, sizes, damaged, first, second)
 }
 
 // Stores the payload and gives the number of cells changed, or gives the refusal 1, 2, 11, 3, 4, 5, 10, 6 or 7.
-pub fn decode(shape: Shape, payload: &mut [u8], field: &[u8]) -> DecodeAnswer
+pub fn decode(shape: Shape, payload: &mut [u8], field: &[u8]) -> Result<usize, Refusal>
     ensures { IsDecoded shape payload.old field.now payload.new result }
 {
     let mut sizes = [0u32; Shape::MAX_CLASSES];
     let mut damaged = [NO_CELL; Shape::MAX_CLASSES];
     let mut first = [NO_CELL; Shape::MAX_CLASSES];
     let mut second = [NO_CELL; Shape::MAX_CLASSES];
-    match decode_tests(
+    let erased = decode_tests(
         shape,
         payload,
         field,
@@ -158,11 +116,7 @@ pub fn decode(shape: Shape, payload: &mut [u8], field: &[u8]) -> DecodeAnswer
         &mut damaged,
         &mut first,
         &mut second,
-    ) {
-        Examination::Refused(why) => DecodeAnswer::Refused(why),
-        Examination::Passed(erased) => {
-            store_payload(shape, field, &sizes, &damaged, &first, &second, payload);
-            DecodeAnswer::Decoded(count_changed(shape, erased, &damaged))
-        }
-    }
+    )?;
+    store_payload(shape, field, &sizes, &damaged, &first, &second, payload);
+    Ok(count_changed(shape, erased, &damaged))
 }

@@ -6,36 +6,16 @@ ghost use Rattle.lattice.specs.Listing.{max_checks};
 ghost use Rattle.lattice.specs.Sizes.{HoldsZeros};
 ghost use Rattle.codec.specs.Field.{field_of};
 ghost use Rattle.codec.specs.Encode.{encoded_field};
-ghost use Rattle.codec.specs.Answer.{IsEncoded, encode_answer_number};
+ghost use Rattle.codec.specs.Answer.{IsEncoded};
 ghost use Rattle.codec.specs.Working.{HoldsSyndromes, PayloadFits, FieldFits};
 ghost use Rattle.codec.specs.Filling.{ChecksPut, bit_at};
 
 use crate::fill::fill_planes;
-use crate::index::wide_16;
 use crate::lengths::length_tests;
 use crate::syndromes::field_syndromes;
-use lattice::refusal::{Refusal, Tested};
+use lattice::refusal::Refusal;
 use lattice::shape::Shape;
 use passes::check_cells::{MAX_CHECKS, check_cells};
-
-// Done, or the refusal 1, 2, 11, 3 or 4.
-#[derive(Clone, Copy)]
-pub enum EncodeAnswer {
-    Encoded,
-    Refused(Refusal),
-}
-
-impl EncodeAnswer {
-    // The papers' number.
-    pub fn number(self) -> usize
-        ensures { result ≡ encode_answer_number self }
-    {
-        match self {
-            EncodeAnswer::Encoded => 0,
-            EncodeAnswer::Refused(why) => why.number(),
-        }
-    }
-}
 
 // The bit of its class's syndrome that a check at a place holds.
 fn check_bit(syndromes: &[u32; Shape::MAX_CLASSES], place: usize) -> u8
@@ -68,11 +48,9 @@ fn set_checks(
     ensures { ChecksPut checks.now places.now syndromes.now
         field.old field.new amount }
 {
-    let mut k = 0;
-    while k < amount {
-        let cell = wide_16(checks[k]);
-        field[cell] = check_bit(syndromes, wide_16(places[k]));
-        k += 1;
+    for k in 0..amount {
+        let cell = checks[k] as usize;
+        field[cell] = check_bit(syndromes, places[k] as usize);
     }
 }
 
@@ -92,14 +70,11 @@ fn write_field(shape: Shape, payload: &[u8], sizes: &[u32; Shape::MAX_CLASSES], 
 }
 
 // Writes the field of a payload, or gives the refusal 1, 2, 11, 3 or 4.
-pub fn encode(shape: Shape, payload: &[u8], field: &mut [u8]) -> EncodeAnswer
+pub fn encode(shape: Shape, payload: &[u8], field: &mut [u8]) -> Result<(), Refusal>
     ensures { IsEncoded shape payload.now field.old field.new result }
 {
     let mut sizes = [0u32; Shape::MAX_CLASSES];
-    let tested = length_tests(shape, payload, field, &mut sizes);
-    if let Tested::Refused(why) = tested {
-        return EncodeAnswer::Refused(why);
-    }
+    length_tests(shape, payload, field, &mut sizes)?;
     write_field(shape, payload, &sizes, field);
-    EncodeAnswer::Encoded
+    Ok(())
 }

@@ -9,8 +9,7 @@ ghost use Rattle.codec.specs.Erasure.{is_erased, erasures_to};
 ghost use Rattle.codec.specs.Code.{field_few_erasures};
 ghost use Rattle.codec.specs.Working.{HoldsSyndromes, HoldsNone, FieldFits, ListsErasures, kept_cell, damaged_cell, Located};
 
-use crate::cell::{ERASED, cell_value, greater};
-use crate::damage::count_if;
+use crate::cell::{ERASED, cell_value};
 use crate::syndromes::field_syndromes;
 use lattice::class::{Placement, class_at};
 use lattice::shape::Shape;
@@ -25,13 +24,7 @@ pub(crate) fn count_erased(field: &[u8], most: u8) -> usize
     if most < ERASED {
         return 0;
     }
-    let mut n = 0;
-    let mut i = 0;
-    while i < field.len() {
-        n = count_if(cell_value(field, i) == ERASED, n);
-        i += 1;
-    }
-    n
+    field.iter().filter(|cell| **cell == ERASED).count()
 }
 
 // Lists an erased cell as the first or the second of its class; no where the class has two already.
@@ -91,10 +84,8 @@ fn none_erased(field: &[u8], from: usize) -> bool
         return false;
     }
     let mut most = 0;
-    let mut d = 0;
-    while d < 32 {
-        most = greater(most, cell_value(field, from + d));
-        d += 1;
+    for cell in &field[from..from + 32] {
+        most = most.max(*cell);
     }
     most < ERASED
 }
@@ -115,6 +106,7 @@ fn list_erasures(
 {
     let placement = shape.placement();
     let mut i = 0;
+    // its step is 32 cells or one
     while i < field.len() {
         if none_erased(field, i) {
             i += 32;
@@ -158,10 +150,8 @@ fn keep_ones(
         ≡ kept_cell (get_or syndromes.now a 0) (get_or sums.now a 0) (get_or cells.now a 0)
         (get_or erasures.old a 0) }
 {
-    let mut a = 0;
-    while a < m {
-        erasures[a] = kept_cell(syndromes[a], sums[a], cells[a], erasures[a]);
-        a += 1;
+    for (a, erasure) in erasures[..m].iter_mut().enumerate() {
+        *erasure = kept_cell(syndromes[a], sums[a], cells[a], *erasure);
     }
 }
 
@@ -185,10 +175,8 @@ fn list_damaged(
         → get_or damaged.new a 0
         ≡ damaged_cell (get_or first.now a 0) (get_or cells.now a 0) }
 {
-    let mut a = 0;
-    while a < m {
-        damaged[a] = damaged_cell(first[a], cells[a]);
-        a += 1;
+    for (a, cell) in damaged[..m].iter_mut().enumerate() {
+        *cell = damaged_cell(first[a], cells[a]);
     }
 }
 

@@ -1,6 +1,6 @@
 // The tests of a field that decoding and correcting share: 5, 10, 6 and 7.
 ghost use Rattle.std.specs.Prelude.{◌≡◌, true, cond, ℕ, ◌+◌, ◌<◌, ◌≤◌, get_or, length};
-ghost use Rattle.lattice.specs.Refusal.{tested_number};
+ghost use Rattle.lattice.specs.Refusal.{number_of};
 ghost use Rattle.lattice.specs.Shape.{max_classes, cells_of};
 ghost use Rattle.lattice.specs.Class.{layout_of};
 ghost use Rattle.lattice.specs.Counting.{all_below};
@@ -9,25 +9,17 @@ ghost use Rattle.codec.specs.Field.{field_of, is_received, cells_ok};
 ghost use Rattle.codec.specs.Payload.{padded_with, padding_ok};
 ghost use Rattle.codec.specs.Decode.{corrected_field, field_number};
 ghost use Rattle.codec.specs.Working.{FieldFits, HoldsNone, padding_of, right_at, reached_by, Located, Sound};
-ghost use Rattle.codec.specs.Working.{examined_number};
 
-use crate::cell::{cell_value, greater, is_received, one_at};
+use crate::cell::{is_received, one_at};
 use crate::erasures::{count_erased, locate};
 use crate::hamming::{corrected_value, holds_data};
 use crate::payload::{Padding, padding_value};
 use crate::syndromes::field_syndromes;
 use lattice::capacity::data_in;
-use lattice::refusal::{Refusal, Tested};
+use lattice::refusal::Refusal;
 use lattice::shape::Shape;
 use passes::cell_places::NO_CELL;
 use passes::place::place_back;
-
-// What the examination of a field gives: the number of its erased cells, or a refusal.
-#[derive(Clone, Copy)]
-pub(crate) enum Examination {
-    Passed(usize),
-    Refused(Refusal),
-}
 
 // The greatest of the first n bytes, which tells whether each is a cell or an erasure.
 fn greatest(field: &[u8], n: usize) -> u8
@@ -36,10 +28,8 @@ fn greatest(field: &[u8], n: usize) -> u8
     ensures by_index { (i : ℕ) → i < n → field_of field.now i ≤ result }
 {
     let mut most = 0;
-    let mut i = 0;
-    while i < n {
-        most = greater(most, cell_value(field, i));
-        i += 1;
+    for cell in &field[..n] {
+        most = most.max(*cell);
     }
     most
 }
@@ -74,10 +64,8 @@ fn all_in_reach(
         (λ a. reached_by (get_or syndromes.now a 0) (get_or damaged.now a 0)
         (get_or first.now a 0) (get_or second.now a 0)) m }
 {
-    let mut left = m;
-    while left > 0 {
-        left -= 1;
-        if !in_reach(syndromes[left], damaged[left], first[left], second[left]) {
+    for a in (0..m).rev() {
+        if !in_reach(syndromes[a], damaged[a], first[a], second[a]) {
             return false;
         }
     }
@@ -92,14 +80,6 @@ fn is_right(is_data: bool, padding: Padding, j: usize, value: u8) -> bool
         return true;
     }
     value == padding_value(padding, j)
-}
-
-// One less where the test holds.
-fn less_if(test: bool, n: usize) -> usize
-    requires { 0 < n }
-    ensures { cond test 1 0 + result ≡ n }
-{
-    if test { n - 1 } else { n }
 }
 
 // Do the padding cells hold this padding after correction? They are the last of the data, so the cells are looked at from the
@@ -123,6 +103,7 @@ fn padded_with(
     let mut behind = [0u32; Shape::MAX_CLASSES];
     let mut unseen = data_in(sizes, shape.classes()) % 8;
     let mut i = shape.cells();
+    // it ends by the count of the padding cells, and not by that of the cells
     while unseen > 0 {
         i -= 1;
         let place = place_back(&mut behind, sizes, shape, placement, i as u32);
@@ -138,7 +119,7 @@ fn padded_with(
         if !is_right(is_data, padding, unseen - 1, value) {
             return false;
         }
-        unseen = less_if(is_data, unseen);
+        unseen -= usize::from(is_data);
     }
     true
 }
@@ -180,27 +161,27 @@ fn examine_received(
     damaged: &mut [u32; Shape::MAX_CLASSES],
     first: &mut [u32; Shape::MAX_CLASSES],
     second: &mut [u32; Shape::MAX_CLASSES],
-) -> Tested
+) -> Result<(), Refusal>
     requires field_fits { FieldFits shape field.now × (cells_ok (field_of field.now) (cells_of shape) ≡ true) }
     requires by_index { (i : ℕ) → i < cells_of shape → field_of field.now i ≤ most }
     requires holds_sizes { HoldsSizes (layout_of shape) sizes.now (cells_of shape) }
     requires holds_none { HoldsNone first.old × HoldsNone second.old }
-    ensures result_value { tested_number result ≡ field_number shape (field_of field.now) }
-    ensures located { tested_number result ≡ 0
+    ensures result_value { number_of result ≡ field_number shape (field_of field.now) }
+    ensures located { number_of result ≡ 0
         → Located shape field.now damaged.new first.new second.new }
 {
     let mut syndromes = [0u32; Shape::MAX_CLASSES];
     field_syndromes(shape.pass(), field, 1, &mut syndromes);
     if !locate(shape, field, most, &syndromes, damaged, first, second) {
-        return Tested::Refused(Refusal::TooManyErasures);
+        return Err(Refusal::TooManyErasures);
     }
     if !all_in_reach(shape.classes(), &syndromes, damaged, first, second) {
-        return Tested::Refused(Refusal::OutOfReach);
+        return Err(Refusal::OutOfReach);
     }
     if !padding_ok(shape, field, sizes, damaged, first, second) {
-        return Tested::Refused(Refusal::BadPadding);
+        return Err(Refusal::BadPadding);
     }
-    Tested::Passed
+    Ok(())
 }
 
 // The field's own tests in their order, 5, 10, 6, 7, where `sizes` holds the size of each class; where they pass, the cells that
@@ -212,21 +193,18 @@ pub(crate) fn examine(
     damaged: &mut [u32; Shape::MAX_CLASSES],
     first: &mut [u32; Shape::MAX_CLASSES],
     second: &mut [u32; Shape::MAX_CLASSES],
-) -> Examination
+) -> Result<usize, Refusal>
     requires field_fits { FieldFits shape field.now }
     requires holds_sizes { HoldsSizes (layout_of shape) sizes.now (cells_of shape) }
     requires holds_none { HoldsNone first.old × HoldsNone second.old }
-    ensures result_value { examined_number result ≡ field_number shape (field_of field.now) }
-    ensures sound { examined_number result ≡ 0
+    ensures result_value { number_of result ≡ field_number shape (field_of field.now) }
+    ensures sound { number_of result ≡ 0
         → Sound shape field.now damaged.new first.new second.new result }
 {
     let most = greatest(field, field.len());
     if !is_received(most) {
-        return Examination::Refused(Refusal::BadCell);
+        return Err(Refusal::BadCell);
     }
-    let tested = examine_received(shape, field, most, sizes, damaged, first, second);
-    if let Tested::Refused(why) = tested {
-        return Examination::Refused(why);
-    }
-    Examination::Passed(count_erased(field, most))
+    examine_received(shape, field, most, sizes, damaged, first, second)?;
+    Ok(count_erased(field, most))
 }

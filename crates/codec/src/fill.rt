@@ -4,7 +4,6 @@ ghost use Rattle.lattice.specs.Listing.{max_checks};
 ghost use Rattle.lattice.specs.Shape.{cells_of};
 ghost use Rattle.codec.specs.Filling.{RunEnd, ChecksListed, AtPlane, Filled, plane_cells, data_buffer};
 
-use crate::index::wide_16;
 use crate::scatter::scatter_run;
 use lattice::shape::Shape;
 use passes::check_cells::MAX_CHECKS;
@@ -22,7 +21,7 @@ fn run_end(checks: &[u16; MAX_CHECKS], amount: usize, k: usize, end: usize) -> u
     ensures { (result ≤ end) × RunEnd checks.now amount k end result }
 {
     if k < amount {
-        let cell = wide_16(checks[k]);
+        let cell = checks[k] as usize;
         if cell < end {
             return cell;
         }
@@ -49,6 +48,7 @@ fn fill_plane(
     let mut k = first;
     let mut from = at;
     let mut to = run_end(checks, amount, k, end);
+    // its step is from check to check, up to the plane's end
     while to < end {
         scatter_run(payload, part, at, k, from, to);
         part[to - at] = 0;
@@ -75,10 +75,8 @@ pub(crate) fn fill_planes(
     let cells = plane_cells(shape);
     let planes = shape.planes as usize;
     let mut k = 0;
-    let mut z = 0;
-    while z < planes {
+    for z in 0..planes {
         let at = z * cells;
         k = fill_plane(shape, payload, checks, amount, at, k, &mut field[at..]);
-        z += 1;
     }
 }

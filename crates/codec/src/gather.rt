@@ -97,6 +97,7 @@ fn gather_run(field: &[u8], payload: &mut [u8], k: usize, begin: usize, end: usi
         → HoldsBytes L (having 1 (field_of field.now)) payload.new end }
 {
     let mut i = begin;
+    // its step is eight cells or one
     while i < end {
         i = gather_some(field, payload, k, i, end);
     }
@@ -119,12 +120,10 @@ pub(crate) fn gather(
         payload.new (cells_of shape) }
 {
     let mut begin = 0;
-    let mut k = 0;
-    while k < amount {
+    for k in 0..amount {
         let end = checks[k] as usize;
         gather_run(field, payload, k, begin, end);
         begin = end + 1;
-        k += 1;
     }
     gather_run(field, payload, amount, begin, cells);
 }

@@ -11,7 +11,6 @@ mod examine;
 mod fill;
 mod gather;
 mod hamming;
-mod index;
 mod lengths;
 mod payload;
 pub mod plan;

@@ -1,9 +1,9 @@
 // The plan of a field.
 ghost use Rattle.std.specs.Prelude.{◌≡◌};
-ghost use Rattle.codec.specs.Answer.{IsPlan, plan_answer_number, plan_figures};
+ghost use Rattle.codec.specs.Answer.{IsPlan, plan_figures};
 
 use lattice::capacity::{class_sizes, data_in, digits_in, used_in};
-use lattice::refusal::{Refusal, Tested};
+use lattice::refusal::Refusal;
 use lattice::shape::Shape;
 
 // The classes m, the capacity K, the payload's bytes, the cells, how many of the classes hold at least one cell, and the digits
@@ -18,50 +18,25 @@ pub struct FieldPlan {
     pub digits: usize,
 }
 
-// The plan, or the refusal 1, 2 or 11.
-#[derive(Clone, Copy)]
-pub enum PlanAnswer {
-    Planned(FieldPlan),
-    Refused(Refusal),
-}
-
-impl PlanAnswer {
-    // The papers' number.
-    pub fn number(self) -> usize
-        ensures { result ≡ plan_answer_number self }
-    {
-        match self {
-            PlanAnswer::Planned(_) => 0,
-            PlanAnswer::Refused(why) => why.number(),
-        }
-    }
-
-    // The six figures, each 0 beside a refusal.
-    pub fn figures(self) -> FieldPlan
-        ensures { result ≡ plan_figures self }
-    {
-        match self {
-            PlanAnswer::Planned(figures) => figures,
-            PlanAnswer::Refused(_) => FieldPlan {
-                classes: 0,
-                capacity: 0,
-                bytes: 0,
-                cells: 0,
-                used: 0,
-                digits: 0,
-            },
-        }
-    }
+// The six figures of an answer, each 0 beside a refusal.
+pub fn figures(answer: Result<FieldPlan, Refusal>) -> FieldPlan
+    ensures { result ≡ plan_figures answer }
+{
+    answer.unwrap_or(FieldPlan {
+        classes: 0,
+        capacity: 0,
+        bytes: 0,
+        cells: 0,
+        used: 0,
+        digits: 0,
+    })
 }
 
 // The figures of a field, or the refusal 1, 2 or 11.
-pub fn plan(shape: Shape) -> PlanAnswer
+pub fn plan(shape: Shape) -> Result<FieldPlan, Refusal>
     ensures { IsPlan shape result }
 {
-    let tested = shape.tests();
-    if let Tested::Refused(why) = tested {
-        return PlanAnswer::Refused(why);
-    }
+    shape.tests()?;
     let mut sizes = [0u32; Shape::MAX_CLASSES];
     class_sizes(shape, &mut sizes);
     let classes = shape.classes();
@@ -69,7 +44,7 @@ pub fn plan(shape: Shape) -> PlanAnswer
     let used = used_in(&sizes, classes);
     let digits = digits_in(&sizes, classes);
     let cells = shape.cells();
-    PlanAnswer::Planned(FieldPlan {
+    Ok(FieldPlan {
         classes,
         capacity,
         bytes: capacity / 8,

@@ -65,6 +65,7 @@ pub(crate) fn scatter_run(
     ensures { ValuesPut payload.now part.old part.new at k begin end }
 {
     let mut i = begin;
+    // its step is eight cells or one
     while i < end {
         i = scatter_some(payload, part, at, k, i, end);
     }

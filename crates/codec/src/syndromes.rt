@@ -21,24 +21,14 @@ fn position_if(field: &[u8], i: usize, value: u8, position: u16) -> u16
     if field[i] == value { position } else { 0 }
 }
 
-// The same for a position that may be 65,536.
-fn wide_position_if(field: &[u8], i: usize, value: u8, position: u32) -> u32
-    requires { i < length field.now }
-    ensures { result ≡ position * having value (field_of field.now) i }
-{
-    if field[i] == value { position } else { 0 }
-}
-
 // Takes in the line of w cells that begins at cell n, from the place `start` on.
 fn take_line(t: &mut [u16], e: &[u16], field: &[u8], value: u8, start: usize, n: usize, w: usize)
     requires { (start + w ≤ length t.old) × (start + w ≤ length e.now) × (n + w ≤ length field.now) }
     ensures { LineTaken (having value (field_of field.now)) start n w
         e.now t.old t.new }
 {
-    let mut x = 0;
-    while x < w {
-        t[start + x] = t[start + x] ^ position_if(field, n + x, value, e[start + x]);
-        x += 1;
+    for x in 0..w {
+        t[start + x] ^= position_if(field, n + x, value, e[start + x]);
     }
 }
 
@@ -66,8 +56,7 @@ fn take_lines(
         t.new (cells_of s) }
 {
     let mut line = first;
-    let mut l = j;
-    while l < pass.lines {
+    for l in (j..pass.lines).step_by(pass.slices) {
         take_line(
             t,
             e,
@@ -78,7 +67,6 @@ fn take_lines(
             pass.columns,
         );
         line = next_positions(pass, line, e, p, q);
-        l += pass.slices;
     }
 }
 
@@ -94,11 +82,9 @@ fn fold(t: &[u16], m: usize, first: usize, syndromes: &mut [u32])
         → get_or syndromes.new a 0 ≡ get_or syndromes.old a 0 }
 {
     let mut a = 0;
-    let mut y = 0;
-    while y < t.len() {
-        syndromes[first + a] = syndromes[first + a] ^ t[y] as u32;
+    for sum in t {
+        syndromes[first + a] ^= *sum as u32;
         a = next_place(a, m);
-        y += 1;
     }
 }
 
@@ -164,12 +150,10 @@ fn line_syndromes(pass: Pass, field: &[u8], value: u8, syndromes: &mut [u32])
         → pass ≡ pass_of s
         → HoldsSyndromes (layout_of s) (having value (field_of field.now)) syndromes.new (cells_of s) }
 {
-    let mut j = 0;
-    while j < pass.slices {
+    for j in 0..pass.slices {
         if j < pass.lines {
             slice_syndromes(pass, j, field, value, syndromes);
         }
-        j += 1;
     }
 }
 
@@ -182,10 +166,10 @@ fn one_syndrome(n: usize, field: &[u8], value: u8, syndromes: &mut [u32])
         → HoldsSyndromes L (having value (field_of field.now)) syndromes.new n }
 {
     let mut sum: u32 = 0;
-    let mut i = 0;
-    while i < n {
-        sum = sum ^ wide_position_if(field, i, value, i as u32 + 1);
-        i += 1;
+    for (i, cell) in field[..n].iter().enumerate() {
+        if *cell == value {
+            sum ^= i as u32 + 1;
+        }
     }
     syndromes[0] = sum;
 }

@@ -9,5 +9,6 @@ pub(crate) mod plans;
 pub(crate) mod random;
 pub(crate) mod shaded;
 pub(crate) mod shapes;
+pub(crate) mod sizes;
 pub(crate) mod tears;
 pub(crate) mod windows;

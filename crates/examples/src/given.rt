@@ -1,8 +1,9 @@
 // What the library gives, as an answer.
 ghost use Rattle.std.specs.Prelude.{◌≤◌};
 
-use lattice::distance::distance_test;
-use lattice::shape::{NewShape, Shape, ShapeNumbers};
+use lattice::distance::{distance_test, failing, holds, tried};
+use lattice::refusal::{figure, number};
+use lattice::shape::{Shape, ShapeNumbers};
 use second::answer;
 use second::answer::{Answer, Buffer};
 
@@ -24,23 +25,23 @@ pub(crate) fn of_numbers(n: ShapeNumbers) -> Answer {
 
 pub(crate) fn shape(numbers: ShapeNumbers) -> Answer {
     match Shape::new(numbers) {
-        NewShape::Accepted(s) => of_numbers(s.numbers()),
-        NewShape::Refused(why) => answer::of(why.number(), [0; 6]),
+        Ok(s) => of_numbers(s.numbers()),
+        Err(why) => answer::of(why.number(), [0; 6]),
     }
 }
 
 pub(crate) fn plan(shape: Shape) -> Answer {
     let given = codec::plan::plan(shape);
-    let p = given.figures();
+    let p = codec::plan::figures(given);
     answer::of(
-        given.number(),
+        number(&given),
         [p.classes, p.capacity, p.bytes, p.cells, p.used, p.digits],
     )
 }
 
 pub(crate) fn class(shape: Shape, row: usize, plane: usize, column: usize) -> Answer {
     let given = shape.class_of(row, plane, column);
-    answer::of(given.number(), [given.class(), 0, 0, 0, 0, 0])
+    answer::of(number(&given), [figure(given), 0, 0, 0, 0, 0])
 }
 
 // The first `bytes` of a payload are written into the first `cells` of a field.
@@ -55,7 +56,7 @@ pub(crate) fn encode(
 {
     let mut lent = field;
     let given = codec::encode::encode(shape, &payload[..bytes], &mut lent[..cells]);
-    answer::leaving(given.number(), lent)
+    answer::leaving(number(&given), lent)
 }
 
 // The first `cells` of a field are read into the first `bytes` of a payload.
@@ -71,8 +72,8 @@ pub(crate) fn decode(
     let mut lent = payload;
     let given = codec::decode::decode(shape, &mut lent[..bytes], &field[..cells]);
     Answer {
-        number: given.number(),
-        figures: [given.count(), 0, 0, 0, 0, 0],
+        number: number(&given),
+        figures: [figure(given), 0, 0, 0, 0, 0],
         buffer: lent,
     }
 }
@@ -84,8 +85,8 @@ pub(crate) fn correct(shape: Shape, field: Buffer, cells: usize) -> Answer
     let mut lent = field;
     let given = codec::correct::correct(shape, &mut lent[..cells]);
     Answer {
-        number: given.number(),
-        figures: [given.count(), 0, 0, 0, 0, 0],
+        number: number(&given),
+        figures: [figure(given), 0, 0, 0, 0, 0],
         buffer: lent,
     }
 }
@@ -102,7 +103,7 @@ pub(crate) fn encode_levels(
 {
     let mut lent = field;
     let given = levels::encode::encode_levels(shape, &payload[..digits], &mut lent[..cells]);
-    answer::leaving(given.number(), lent)
+    answer::leaving(number(&given), lent)
 }
 
 // The first `cells` of a shaded field are read into the first `digits` of a payload.
@@ -118,8 +119,8 @@ pub(crate) fn decode_levels(
     let mut lent = payload;
     let given = levels::decode::decode_levels(shape, &mut lent[..digits], &field[..cells]);
     Answer {
-        number: given.number(),
-        figures: [given.count(), 0, 0, 0, 0, 0],
+        number: number(&given),
+        figures: [figure(given), 0, 0, 0, 0, 0],
         buffer: lent,
     }
 }
@@ -131,67 +132,34 @@ pub(crate) fn correct_levels(shape: Shape, field: Buffer, cells: usize) -> Answe
     let mut lent = field;
     let given = levels::correct::correct_levels(shape, &mut lent[..cells]);
     Answer {
-        number: given.number(),
-        figures: [given.count(), 0, 0, 0, 0, 0],
+        number: number(&given),
+        figures: [figure(given), 0, 0, 0, 0, 0],
         buffer: lent,
     }
 }
 
 // A coordinate from −17 to 17, with 17 added; 99 for any other.
 fn shifted(z: i32) -> usize {
-    match z {
-        -17 => 0,
-        -16 => 1,
-        -15 => 2,
-        -14 => 3,
-        -13 => 4,
-        -12 => 5,
-        -11 => 6,
-        -10 => 7,
-        -9 => 8,
-        -8 => 9,
-        -7 => 10,
-        -6 => 11,
-        -5 => 12,
-        -4 => 13,
-        -3 => 14,
-        -2 => 15,
-        -1 => 16,
-        0 => 17,
-        1 => 18,
-        2 => 19,
-        3 => 20,
-        4 => 21,
-        5 => 22,
-        6 => 23,
-        7 => 24,
-        8 => 25,
-        9 => 26,
-        10 => 27,
-        11 => 28,
-        12 => 29,
-        13 => 30,
-        14 => 31,
-        15 => 32,
-        16 => 33,
-        17 => 34,
-        _ => 99,
+    if (-17..=17).contains(&z) {
+        (z + 17) as usize
+    } else {
+        99
     }
 }
 
 // The figures: whether the settings hold, the triple, with 17 added to each coordinate, and how many were tried.
 pub(crate) fn gauge(m: usize, b: usize, c: usize, t: usize) -> Answer {
     let given = distance_test(m, b, c, t);
-    let x = given.triple();
-    let holds = if given.holds() { 1 } else { 0 };
+    let x = failing(given);
+    let holds = if holds(given) { 1 } else { 0 };
     answer::of(
-        given.number(),
+        number(&given),
         [
             holds,
             shifted(x.row),
             shifted(x.plane),
             shifted(x.column),
-            given.tried() as usize,
+            tried(given) as usize,
             0,
         ],
     )

@@ -7,9 +7,15 @@ mod print;
 mod tally;
 mod worked;
 
+use tally::Tally;
+
 fn main() {
     worked::run();
-    let counts = cases::numbers::with_windows(cases::numbers::all([0; tally::ENTRIES]));
-    let plain = cases::fields::all(cases::plans::all(counts));
-    tally::lines(cases::shaded::all(plain));
+    let mut tally = Tally::new();
+    cases::numbers::all(&mut tally);
+    cases::numbers::with_windows(&mut tally);
+    cases::plans::all(&mut tally);
+    cases::fields::all(&mut tally);
+    cases::shaded::all(&mut tally);
+    tally.lines();
 }

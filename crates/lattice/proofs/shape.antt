@@ -1,3 +1,2 @@
 -- What the methods of `Shape` use alone.
 mod ClassNumber
-mod WindowTest

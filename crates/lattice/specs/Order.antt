@@ -3,6 +3,7 @@
 -- (0, 0, 1), (0, 0, 2), (0, 1, −1), (0, 1, 0), (0, 1, 1), (0, 2, 0),
 -- (1, −1, 0), (1, 0, −1), (1, 0, 0), (1, 0, 1), (1, 1, 0), (2, 0, 0).
 use Rattle.std.specs.Prelude.{ℕ, zero, suc, ◌+◌, ◌-◌, List, [], ◌∷◌, ◌++◌, map, ◌⊎◌, ◌≡◌, ℤ, pos, neg_ℤ, nat_abs, ◌-ℤ◌}
+use Rattle.std.specs.Prelude.{Option, Some, None}
 use Rattle.std.proofs.Math.IntN.{suc_ℤ}
 use Rattle.lattice.specs.declared.distance.Triple.{Triple}
 
@@ -11,6 +12,11 @@ triple r p c = record { row = r; plane = p; column = c }
 
 abbrev pub origin : Triple
 origin = triple (pos 0) (pos 0) (pos 0)
+
+-- a triple that may be there, (0, 0, 0) where it is not
+abbrev pub or_origin : Option Triple → Triple
+or_origin None = origin
+or_origin (Some x) = x
 
 -- the n integers from `low` upward
 abbrev pub run : ℤ → ℕ → List ℤ

@@ -1,9 +1,7 @@
 -- Refusals: their numbers, the number that a list of conditions settles by the order of the list, and what comes beside a number.
-use Rattle.std.specs.Prelude.{ℕ, zero, suc, Bool, true, false, List, [], ◌∷◌, ◌≢◌, ◌⊎◌, ◌↔◌, ◌≡◌}
+use Rattle.std.specs.Prelude.{ℕ, zero, suc, Bool, true, false, List, [], ◌∷◌, ◌≢◌, ◌⊎◌, ◌↔◌, ◌≡◌, Result, Ok, Err}
 use Rattle.lattice.specs.declared.refusal.Refusal.{Refusal}
 use Rattle.lattice.specs.declared.refusal.Refusal.TheVariants as why
-use Rattle.lattice.specs.declared.refusal.Tested.{Tested}
-use Rattle.lattice.specs.declared.refusal.Tested.TheVariants as test
 
 -- the papers' number of each reason; a field whose length is wrong and a cell outside the shape are both 4
 abbrev pub refusal_number : Refusal → ℕ
@@ -21,18 +19,23 @@ refusal_number why.TooManyErasures = 10
 refusal_number why.BadWindow = 11
 refusal_number why.BadLevel = 12
 
--- the number that tests give: 0 where they pass
-abbrev pub tested_number : Tested → ℕ
-tested_number test.Passed = 0
-tested_number (test.Refused reason) = refusal_number reason
+-- the number of an answer, or of what tests give: 0 where there is no refusal
+abbrev pub number_of : {A : Type 0} → Result A Refusal → ℕ
+number_of (Ok x) = 0
+number_of (Err q) = refusal_number q
+
+-- the figure that is an answer, 0 beside a refusal
+abbrev pub figure_of : Result ℕ Refusal → ℕ
+figure_of (Ok n) = n
+figure_of (Err q) = 0
 
 -- of the two reasons with the number 4, a cell that lies outside the shape is never given as a length, nor a length as such a
 -- cell
-abbrev pub NoLength : Tested → Type 0
-NoLength t = t ≢ test.Refused why.FieldLength
+abbrev pub NoLength : {A : Type 0} → Result A Refusal → Type 0
+NoLength r = r ≢ Err why.FieldLength
 
-abbrev pub NoOutside : Tested → Type 0
-NoOutside t = t ≢ test.Refused why.OutsideShape
+abbrev pub NoOutside : {A : Type 0} → Result A Refusal → Type 0
+NoOutside r = r ≢ Err why.OutsideShape
 
 -- a number that an operation may give, with the condition under which it is due
 pub record Listed : Type 1 where

@@ -24,12 +24,10 @@ fn count_starts(pass: Pass, starts: &mut [u32])
         left: pass.last,
         start: 0,
     };
-    let mut l = 0;
-    while l < pass.lines {
+    for l in 0..pass.lines {
         let a = line.start;
         starts[a] += 1;
         line = next_line(pass, line);
-        l += 1;
     }
 }
 
@@ -41,11 +39,9 @@ fn sum_starts(m: usize, starts: &[u32], heads: &mut [u32])
     ensures { Sums (λ y. get_or starts.now (y % m) 0) (2 * m) heads.new }
 {
     let mut a = 0;
-    let mut y = 0;
-    while y < 2 * m {
+    for y in 0..2 * m {
         heads[y + 1] = heads[y] + starts[a];
         a = next_place(a, m);
-        y += 1;
     }
 }
 
@@ -61,10 +57,8 @@ fn spread(m: usize, gap: usize, base: u32, heads: &[u32], sizes: &mut [u32])
         ≡ base + get_or heads.now (a + 1 + m) 0 }
     ensures by_index_4 { (a : ℕ) → m ≤ a → get_or sizes.new a 0 ≡ get_or sizes.old a 0 }
 {
-    let mut a = 0;
-    while a < m {
+    for a in 0..m {
         sizes[a] = base + heads[a + 1 + m] - heads[a + 1 + m - gap];
-        a += 1;
     }
 }
 
@@ -110,12 +104,10 @@ fn sizes_by_slices(pass: Pass, sizes: &mut [u32])
         → (a : ℕ)
         → get_or sizes.new a 0 ≡ size (layout_of s) a }
 {
-    let mut a = 0;
-    while a < pass.classes {
+    for a in 0..pass.classes {
         let lines = share(pass.lines, pass.slices, a / pass.period);
         let columns = share(pass.columns, pass.period, a % pass.period);
         sizes[a] = (lines * columns) as u32;
-        a += 1;
     }
 }
 

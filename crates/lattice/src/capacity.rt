@@ -10,7 +10,6 @@ ghost use Rattle.lattice.specs.Used.{used_of, used_in};
 ghost use Rattle.lattice.specs.Digits.{words_in, digits_in};
 
 use crate::by_lines::sizes_by;
-use crate::refusal::Tested;
 use crate::shape::Shape;
 
 // The number of checks of a class of n cells: the bit length of n.
@@ -24,10 +23,7 @@ pub fn checks(n: u32) -> u32
 fn is_power(p: u32) -> bool
     ensures { result ≡ is_power p }
 {
-    if p == 0 {
-        return false;
-    }
-    1u32 << (checks(p) - 1) == p
+    p.is_power_of_two()
 }
 
 // Does the position hold a check in a class of that size?
@@ -51,29 +47,19 @@ pub fn words_in(n: u32) -> u32
     n / 6
 }
 
-// Sets every entry to 0.
-fn clear(sizes: &mut [u32])
-    ensures { (a : ℕ) → get_or sizes.new a 0 ≡ 0 }
-{
-    let mut a = 0;
-    while a < sizes.len() {
-        sizes[a] = 0;
-        a += 1;
-    }
-}
-
 // The size of each class; for a shape that the constructor refuses the array keeps its entries.
 pub fn class_sizes(shape: Shape, sizes: &mut [u32; Shape::MAX_CLASSES])
     ensures holds_sizes { Accepted shape → HoldsSizes (layout_of shape) sizes.new (cells_of shape) }
     ensures sizes_unchanged { shape_number shape ≢ 0 → sizes.new ≡ sizes.old }
 {
-    let tested = shape.tests();
-    if let Tested::Refused(_) = tested {
+    let Ok(()) = shape.tests() else {
         return;
-    }
-    clear(sizes);
+    };
+    *sizes = [0; Shape::MAX_CLASSES];
     sizes_by(shape.pass(), sizes);
 }
+
+// The three sums over the classes stay apart: one function for them would take a closure, whose clause is longer than a loop.
 
 // The number of cells that hold no check, where `sizes` holds the size of each of that many classes; 0 for more than there can
 // be.
@@ -84,10 +70,8 @@ pub fn data_in(sizes: &[u32; Shape::MAX_CLASSES], classes: usize) -> usize
         return 0;
     }
     let mut sum: usize = 0;
-    let mut a = 0;
-    while a < classes {
-        sum += data_cells(sizes[a]) as usize;
-        a += 1;
+    for size in &sizes[..classes] {
+        sum += data_cells(*size) as usize;
     }
     sum
 }
@@ -101,12 +85,10 @@ pub fn used_in(sizes: &[u32; Shape::MAX_CLASSES], classes: usize) -> usize
         return 0;
     }
     let mut used: usize = 0;
-    let mut a = 0;
-    while a < classes {
-        if 0 < sizes[a] {
+    for size in &sizes[..classes] {
+        if 0 < *size {
             used += 1;
         }
-        a += 1;
     }
     used
 }
@@ -120,10 +102,8 @@ pub fn digits_in(sizes: &[u32; Shape::MAX_CLASSES], classes: usize) -> usize
         return 0;
     }
     let mut words: usize = 0;
-    let mut a = 0;
-    while a < classes {
-        words += words_in(sizes[a]) as usize;
-        a += 1;
+    for size in &sizes[..classes] {
+        words += words_in(*size) as usize;
     }
     5 * words
 }

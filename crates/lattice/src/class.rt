@@ -1,13 +1,13 @@
 // The class of a cell.
 ghost use Rattle.std.specs.Prelude.{◌≡◌, ◌/◌, ◌%◌, ◌<◌};
 ghost use Rattle.lattice.specs.Cell.{cell, cell_at};
-ghost use Rattle.lattice.specs.Refusal.{tested_number, NoLength, figure};
+ghost use Rattle.lattice.specs.Refusal.{number_of, NoLength, figure};
 ghost use Rattle.lattice.specs.Shape.{shape_number, Accepted};
 ghost use Rattle.lattice.specs.Class.{minus_mod, class_with, classes_of, inside, class_number};
 ghost use Rattle.lattice.specs.Class.{placement_of, placement_given, class_by};
-ghost use Rattle.lattice.specs.Answer.{IsCellClass, cell_class_number, cell_class};
+ghost use Rattle.lattice.specs.Answer.{IsCellClass};
 
-use crate::refusal::{Refusal, Tested};
+use crate::refusal::Refusal;
 use crate::settings::Settings;
 use crate::shape::Shape;
 
@@ -19,53 +19,18 @@ pub struct Placement {
     pub settings: Settings,
 }
 
-// The class, or the refusal 1, 2, 11 or 4.
-#[derive(Clone, Copy)]
-pub enum CellClass {
-    Class(usize),
-    Refused(Refusal),
-}
-
-impl CellClass {
-    // The papers' number.
-    pub fn number(self) -> usize
-        ensures { result ≡ cell_class_number self }
-    {
-        match self {
-            CellClass::Class(_) => 0,
-            CellClass::Refused(why) => why.number(),
-        }
-    }
-
-    // The class, 0 beside a refusal.
-    pub fn class(self) -> usize
-        ensures { result ≡ cell_class self }
-    {
-        match self {
-            CellClass::Class(class) => class,
-            CellClass::Refused(_) => 0,
-        }
-    }
-}
-
 // The quotient, 0 where b is 0.
 fn quotient(a: u32, b: u32) -> u32
     ensures { result ≡ a / b }
 {
-    if b == 0 {
-        return 0;
-    }
-    a / b
+    a.checked_div(b).unwrap_or(0)
 }
 
 // The remainder, a where b is 0.
 fn remainder(a: u32, b: u32) -> u32
     ensures { result ≡ a % b }
 {
-    if b == 0 {
-        return a;
-    }
-    a % b
+    a.checked_rem(b).unwrap_or(a)
 }
 
 // (a − z) mod m, from 0 to m − 1 also where z is above a.
@@ -110,42 +75,31 @@ pub fn class_at(shape: Shape, placement: Placement, cell: u32) -> usize
 
 impl Shape {
     // Does the cell lie in the field?
+    #[tactic(auto, unfolding(crate::specs::Class::inside))]
     fn contains(self, row: usize, plane: usize, column: usize) -> bool
         ensures { result ≡ inside self (cell row plane column) }
     {
-        if row >= self.rows as usize {
-            return false;
-        }
-        if plane >= self.planes as usize {
-            return false;
-        }
-        column < self.columns as usize
+        row < self.rows as usize && plane < self.planes as usize && column < self.columns as usize
     }
 
     // The tests of the class of a cell: 1, 2, 11, 4.
-    fn class_tests(self, row: usize, plane: usize, column: usize) -> Tested
-        ensures result_value { tested_number result ≡ class_number self (cell row plane column) }
+    fn class_tests(self, row: usize, plane: usize, column: usize) -> Result<(), Refusal>
+        ensures result_value { number_of result ≡ class_number self (cell row plane column) }
         ensures no_length { NoLength result }
     {
-        let tested = self.tests();
-        if let Tested::Refused(why) = tested {
-            return Tested::Refused(why);
-        }
+        self.tests()?;
         if !self.contains(row, plane, column) {
-            return Tested::Refused(Refusal::OutsideShape);
+            return Err(Refusal::OutsideShape);
         }
-        Tested::Passed
+        Ok(())
     }
 
     // The class of the cell, or the refusal 1, 2, 11 or 4.
-    pub fn class_of(self, row: usize, plane: usize, column: usize) -> CellClass
+    pub fn class_of(self, row: usize, plane: usize, column: usize) -> Result<usize, Refusal>
         ensures { IsCellClass self (cell row plane column) result }
     {
-        let tested = self.class_tests(row, plane, column);
-        if let Tested::Refused(why) = tested {
-            return CellClass::Refused(why);
-        }
-        CellClass::Class(class_by(self.placement(), row as u32, plane as u32, column as u32))
+        self.class_tests(row, plane, column)?;
+        Ok(class_by(self.placement(), row as u32, plane as u32, column as u32))
     }
 
     // How the cells of an accepted field are placed in classes.
@@ -175,14 +129,13 @@ impl Shape {
     pub fn placement(self) -> Placement
         ensures { result ≡ placement_given self }
     {
-        let tested = self.tests();
-        if let Tested::Refused(_) = tested {
+        let Ok(()) = self.tests() else {
             let settings = Settings { m: 0, b: 0, c: 0 };
             return Placement {
                 slices: 0,
                 settings,
             };
-        }
+        };
         self.placed()
     }
 

@@ -26,19 +26,10 @@ pub(crate) fn scaled(n: u16, z: i32) -> i32
     n as i32 * z
 }
 
-// |z|
-pub(crate) fn absolute(z: i32) -> u32
-    requires { nat_abs z < 512 }
-    ensures { result ≡ nat_abs z }
-{
-    if z < 0 { (-z) as u32 } else { z as u32 }
-}
-
 // n − |z|, and 0 where |z| is above n
 pub(crate) fn remaining(n: u32, z: i32) -> u32
     requires { nat_abs z < 512 }
     ensures { result ≡ n - nat_abs z }
 {
-    let used = absolute(z);
-    if used < n { n - used } else { 0 }
+    n.saturating_sub(z.unsigned_abs())
 }

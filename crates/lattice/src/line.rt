@@ -6,12 +6,11 @@ ghost use Rattle.lattice.specs.Class.{minus_mod, placement_of};
 ghost use Rattle.lattice.specs.Lines.{table_of, pass_of, pass_given, IsLine};
 
 use crate::class::{Placement, minus_mod};
-use crate::refusal::Tested;
 use crate::shape::Shape;
 
 // What a pass over the cells needs of a shape, weighed once: columns, lines, cells and classes; the slices, and the period of the
 // table of classes; the steps back in the table to the next row, and from a plane's last row to the next plane; and the number of
-// a plane's last row.
+// a plane's last row. That it is a shape's is no invariant: `Shape::pass` promises one that is all 0 beside a refusal.
 #[derive(Clone, Copy)]
 pub struct Pass {
     pub columns: usize,
@@ -63,8 +62,7 @@ impl Shape {
     pub fn pass(self) -> Pass
         ensures { result ≡ pass_given self }
     {
-        let tested = self.tests();
-        if let Tested::Refused(_) = tested {
+        let Ok(()) = self.tests() else {
             return Pass {
                 columns: 0,
                 lines: 0,
@@ -76,7 +74,7 @@ impl Shape {
                 plane: 0,
                 last: 0,
             };
-        }
+        };
         pass_with(self, self.placed())
     }
 }

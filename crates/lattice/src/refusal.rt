@@ -1,9 +1,9 @@
-// Why an operation refuses, and what the tests of an operation give.
+// The refusals of all operations, and what an answer has beside one.
 ghost use Rattle.std.specs.Prelude.{◌≡◌};
-ghost use Rattle.lattice.specs.Refusal.{refusal_number};
+ghost use Rattle.lattice.specs.Refusal.{refusal_number, number_of, figure_of};
 
 // A case for each reason. A field whose length is wrong and a cell outside the shape are two reasons with the number 4.
-#[derive(Clone, Copy)]
+#[derive(Clone, Copy, Debug, PartialEq, Eq)]
 pub enum Refusal {
     BadSize,
     BadStrength,
@@ -21,7 +21,7 @@ pub enum Refusal {
 }
 
 impl Refusal {
-    // The papers' number.
+    // The papers' number. It is no conversion, as two reasons have one number, and its name says which number it is.
     pub fn number(self) -> usize
         ensures { result ≡ refusal_number self }
     {
@@ -43,9 +43,22 @@ impl Refusal {
     }
 }
 
-// What tests give: they pass, or one of them refuses.
-#[derive(Clone, Copy)]
-pub enum Tested {
-    Passed,
-    Refused(Refusal),
+// The papers' number of an answer: that of its refusal, 0 where it has none.
+pub fn number<T>(answer: &Result<T, Refusal>) -> usize
+    ensures { result ≡ number_of answer.now }
+{
+    match answer {
+        Ok(_) => 0,
+        Err(why) => why.number(),
+    }
+}
+
+// The figure of an answer, 0 beside a refusal.
+pub fn figure(answer: Result<usize, Refusal>) -> usize
+    ensures { result ≡ figure_of answer }
+{
+    match answer {
+        Ok(figure) => figure,
+        Err(_) => 0,
+    }
 }

@@ -1,12 +1,13 @@
 // The shape of a field: its limits, its constructor and its number of cells.
 ghost use Rattle.std.specs.Prelude.{◌≡◌};
-ghost use Rattle.lattice.specs.Refusal.{tested_number, figure};
+ghost use Rattle.lattice.specs.Refusal.{number_of, figure};
 ghost use Rattle.lattice.specs.Shape.{max_side, max_planes, max_cells, max_flat_strength, max_stack_strength, max_classes};
-ghost use Rattle.lattice.specs.Shape.{max_strength, size_ok, is_none, strength_ok, window_ok, shape_from, shape_number, cells_of};
-ghost use Rattle.lattice.specs.Answer.{IsNewShape, new_number};
+ghost use Rattle.lattice.specs.Shape.{max_strength, size_ok, is_none, can_rule, strength_ok, window_ok, shape_from};
+ghost use Rattle.lattice.specs.Shape.{shape_number, cells_of};
+ghost use Rattle.lattice.specs.Answer.{IsNewShape};
 
 use crate::range::within;
-use crate::refusal::{Refusal, Tested};
+use crate::refusal::Refusal;
 
 // A window of p rows by q columns; both are 0 where a shape has none.
 #[repr(C)]
@@ -37,34 +38,24 @@ pub struct ShapeNumbers {
     pub window: Window,
 }
 
-// What the constructor gives: the shape, or the refusal 1, 2 or 11.
-#[derive(Clone, Copy)]
-pub enum NewShape {
-    Accepted(Shape),
-    Refused(Refusal),
-}
-
-impl NewShape {
-    // The papers' number.
-    pub fn number(self) -> usize
-        ensures { result ≡ new_number self }
-    {
-        match self {
-            NewShape::Accepted(_) => 0,
-            NewShape::Refused(why) => why.number(),
-        }
-    }
-}
-
 impl Window {
     // Are both sides 0?
+    #[tactic(auto, unfolding(crate::specs::Shape::is_none))]
     fn is_none(self) -> bool
         ensures { result ≡ is_none self }
     {
-        if self.rows != 0 {
-            return false;
-        }
-        self.columns == 0
+        self.rows == 0 && self.columns == 0
+    }
+
+    // Has it 1 to 512 cells, and the field one plane?
+    #[tactic(auto, unfolding(crate::specs::Range::in_range))]
+    fn can_rule(self, planes: usize) -> bool
+        ensures { result ≡ can_rule planes self }
+    {
+        within(1, Shape::MAX_WINDOW, self.rows)
+            && within(1, Shape::MAX_WINDOW, self.columns)
+            && self.rows * self.columns <= Shape::MAX_WINDOW
+            && planes <= 1
     }
 }
 
@@ -83,19 +74,14 @@ impl Shape {
 
     const MAX_WINDOW: usize = 512;
 
+    #[tactic(auto, unfolding(crate::specs::Shape::size_ok, crate::specs::Range::in_range))]
     fn size_ok(columns: usize, rows: usize, planes: usize) -> bool
         ensures { result ≡ size_ok columns rows planes }
     {
-        if !within(1, Shape::MAX_SIDE, columns) {
-            return false;
-        }
-        if !within(1, Shape::MAX_SIDE, rows) {
-            return false;
-        }
-        if !within(1, Shape::MAX_PLANES, planes) {
-            return false;
-        }
-        columns * rows * planes <= Shape::MAX_CELLS
+        within(1, Shape::MAX_SIDE, columns)
+            && within(1, Shape::MAX_SIDE, rows)
+            && within(1, Shape::MAX_PLANES, planes)
+            && columns * rows * planes <= Shape::MAX_CELLS
     }
 
     fn max_strength(planes: usize) -> usize
@@ -108,64 +94,56 @@ impl Shape {
         }
     }
 
+    #[tactic(auto, unfolding(crate::specs::Shape::strength_ok))]
     fn strength_ok(planes: usize, strength: usize, window: Window) -> bool
         ensures { result ≡ strength_ok planes strength window }
     {
         if strength == 0 {
-            return !window.is_none();
+            !window.is_none()
+        } else {
+            strength <= Shape::max_strength(planes)
         }
-        strength <= Shape::max_strength(planes)
     }
 
+    #[tactic(auto, unfolding(crate::specs::Shape::window_ok, crate::specs::Range::in_range))]
     fn window_ok(planes: usize, strength: usize, window: Window) -> bool
         ensures { result ≡ window_ok planes strength window }
     {
-        if strength != 0 {
-            return window.is_none();
+        if strength == 0 {
+            window.can_rule(planes)
+        } else {
+            window.is_none()
         }
-        if !within(1, Shape::MAX_WINDOW, window.rows) {
-            return false;
-        }
-        if !within(1, Shape::MAX_WINDOW, window.columns) {
-            return false;
-        }
-        if window.rows * window.columns > Shape::MAX_WINDOW {
-            return false;
-        }
-        planes <= 1
     }
 
     // The tests of a shape's numbers: 1, 2, 11.
-    fn tests_of(numbers: ShapeNumbers) -> Tested
-        ensures { tested_number result ≡ shape_number (shape_from numbers) }
+    fn tests_of(numbers: ShapeNumbers) -> Result<(), Refusal>
+        ensures { number_of result ≡ shape_number (shape_from numbers) }
     {
         if !Shape::size_ok(numbers.columns, numbers.rows, numbers.planes) {
-            return Tested::Refused(Refusal::BadSize);
+            return Err(Refusal::BadSize);
         }
         let window = numbers.window;
         if !Shape::strength_ok(numbers.planes, numbers.strength, window) {
-            return Tested::Refused(Refusal::BadStrength);
+            return Err(Refusal::BadStrength);
         }
         if !Shape::window_ok(numbers.planes, numbers.strength, window) {
-            return Tested::Refused(Refusal::BadWindow);
+            return Err(Refusal::BadWindow);
         }
-        Tested::Passed
+        Ok(())
     }
 
-    // The shape of these numbers, or the refusal 1, 2 or 11.
-    pub fn new(numbers: ShapeNumbers) -> NewShape
+    // The shape of these numbers, or the refusal 1, 2 or 11. No conversion, nor is `numbers`, as docs/OPERATIONS.md names both.
+    pub fn new(numbers: ShapeNumbers) -> Result<Shape, Refusal>
         ensures new_shape { IsNewShape numbers result }
         ensures limits { (Self.MAX_SIDE ≡ max_side) × (Self.MAX_PLANES ≡ max_planes) × (Self.MAX_CELLS ≡ max_cells) }
         ensures strengths { (Self.MAX_FLAT_STRENGTH ≡ max_flat_strength)
             × (Self.MAX_STACK_STRENGTH ≡ max_stack_strength)
             × (Self.MAX_CLASSES ≡ max_classes) }
     {
-        let tested = Shape::tests_of(numbers);
-        if let Tested::Refused(why) = tested {
-            return NewShape::Refused(why);
-        }
+        Shape::tests_of(numbers)?;
         let window = numbers.window;
-        NewShape::Accepted(Shape {
+        Ok(Shape {
             columns: numbers.columns as u16,
             rows: numbers.rows as u16,
             planes: numbers.planes as u16,
@@ -189,8 +167,8 @@ impl Shape {
     }
 
     // The constructor's tests of the shape's own numbers.
-    pub fn tests(self) -> Tested
-        ensures { tested_number result ≡ shape_number self }
+    pub fn tests(self) -> Result<(), Refusal>
+        ensures { number_of result ≡ shape_number self }
     {
         Shape::tests_of(self.numbers())
     }
@@ -200,8 +178,8 @@ impl Shape {
         ensures { result ≡ figure (shape_number self) (cells_of self) }
     {
         match self.tests() {
-            Tested::Refused(_) => 0,
-            Tested::Passed => self.columns as usize * self.rows as usize * self.planes as usize,
+            Ok(()) => self.columns as usize * self.rows as usize * self.planes as usize,
+            Err(_) => 0,
         }
     }
 }

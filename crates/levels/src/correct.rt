@@ -1,6 +1,6 @@
 // Correcting of levels: the tests, and then every change taken back, with 0 in the ignored cells.
 ghost use Rattle.std.specs.Prelude.{◌≡◌, ℕ, get_or};
-ghost use Rattle.lattice.specs.Refusal.{tested_number, NoOutside};
+ghost use Rattle.lattice.specs.Refusal.{number_of, NoOutside};
 ghost use Rattle.lattice.specs.Shape.{cells_of};
 ghost use Rattle.codec.specs.Field.{field_of, list_of, differences};
 ghost use Rattle.levels.specs.Decode.{restored_field};
@@ -9,12 +9,11 @@ ghost use Rattle.levels.specs.Answer.{IsCorrectedLevels};
 ghost use Rattle.levels.specs.Working.{LevelsExamined};
 
 use crate::examine::examine_levels;
-use crate::restore::{change_of, count_if, restored_level};
+use crate::restore::{change_of, restored_level};
 use crate::spot::spot_of;
 use crate::walk::{first_cell, next_cell};
 use crate::words::{MAX_WORDS, lay_words};
-use codec::correct::CorrectAnswer;
-use lattice::refusal::{Refusal, Tested};
+use lattice::refusal::Refusal;
 use lattice::shape::Shape;
 
 // Stores the corrected cells; gives the number of cells that change.
@@ -34,14 +33,12 @@ fn store_corrected(
     let mut counts = [0u32; Shape::MAX_CLASSES];
     let mut walk = first_cell(pass);
     let mut changed = 0;
-    let mut i = 0;
-    while i < field.len() {
+    for (i, cell) in field.iter_mut().enumerate() {
         let spot = spot_of(&mut counts, sizes, offsets, pass, walk, shape, i);
-        let before = field[i];
+        let before = *cell;
         let value = restored_level(spot.inside, before, change_of(remainders, spot));
-        field[i] = value;
-        changed = count_if(before != value, changed);
-        i += 1;
+        *cell = value;
+        changed += usize::from(before != value);
         walk = next_cell(pass, walk);
     }
     changed
@@ -55,34 +52,28 @@ fn correct_tests(
     sizes: &mut [u32; Shape::MAX_CLASSES],
     offsets: &mut [u32; Shape::MAX_CLASSES],
     remainders: &mut [u8; MAX_WORDS],
-) -> Tested
+) -> Result<(), Refusal>
     requires { (w : ℕ) → get_or remainders.old w 0 ≡ 0 }
-    ensures result_value { tested_number result ≡ correct_levels_number shape field.now }
+    ensures result_value { number_of result ≡ correct_levels_number shape field.now }
     ensures no_outside { NoOutside result }
-    ensures levels_examined { tested_number result ≡ 0
+    ensures levels_examined { number_of result ≡ 0
         → LevelsExamined shape field.now sizes.new offsets.new remainders.new }
 {
-    let tested = shape.tests();
-    if let Tested::Refused(why) = tested {
-        return Tested::Refused(why);
-    }
+    shape.tests()?;
     if field.len() != shape.cells() {
-        return Tested::Refused(Refusal::FieldLength);
+        return Err(Refusal::FieldLength);
     }
     lay_words(shape, sizes, offsets);
     examine_levels(shape, field, sizes, offsets, remainders)
 }
 
 // Stores the corrected field and gives the number of cells that change, or gives the refusal 1, 2, 11, 4, 12 or 6.
-pub fn correct_levels(shape: Shape, field: &mut [u8]) -> CorrectAnswer
+pub fn correct_levels(shape: Shape, field: &mut [u8]) -> Result<usize, Refusal>
     ensures { IsCorrectedLevels shape field.old field.new result }
 {
     let mut sizes = [0u32; Shape::MAX_CLASSES];
     let mut offsets = [0u32; Shape::MAX_CLASSES];
     let mut remainders = [0u8; MAX_WORDS];
-    let tested = correct_tests(shape, field, &mut sizes, &mut offsets, &mut remainders);
-    if let Tested::Refused(why) = tested {
-        return CorrectAnswer::Refused(why);
-    }
-    CorrectAnswer::Corrected(store_corrected(shape, &sizes, &offsets, &remainders, field))
+    correct_tests(shape, field, &mut sizes, &mut offsets, &mut remainders)?;
+    Ok(store_corrected(shape, &sizes, &offsets, &remainders, field))
 }

@@ -1,6 +1,6 @@
 // Decoding of levels: the tests, and then the digits that the corrected field holds.
 ghost use Rattle.std.specs.Prelude.{◌≡◌, not, ◌&&◌, ℕ, eqb, get_or, length};
-ghost use Rattle.lattice.specs.Refusal.{tested_number, NoOutside};
+ghost use Rattle.lattice.specs.Refusal.{number_of, NoOutside};
 ghost use Rattle.lattice.specs.Class.{layout_of};
 ghost use Rattle.lattice.specs.Digits.{digits_of};
 ghost use Rattle.codec.specs.Field.{field_of};
@@ -11,12 +11,11 @@ ghost use Rattle.levels.specs.Working.{LevelsExamined, DigitStored};
 
 use crate::examine::examine_levels;
 use crate::lengths::length_tests;
-use crate::restore::{change_of, count_if, restored_level};
+use crate::restore::{change_of, restored_level};
 use crate::spot::{holds_digit, spot_of};
 use crate::walk::{first_cell, next_cell};
 use crate::words::MAX_WORDS;
-use codec::decode::DecodeAnswer;
-use lattice::refusal::Tested;
+use lattice::refusal::Refusal;
 use lattice::shape::Shape;
 
 // Stores the value of a cell that holds a digit.
@@ -34,7 +33,7 @@ fn store_digit(payload: &mut [u8], held: bool, rank: usize, value: u8)
 fn differs(inside: bool, before: u8, after: u8) -> bool
     ensures { result ≡ (inside && not (eqb before after)) }
 {
-    if inside { before != after } else { false }
+    inside && before != after
 }
 
 // Stores the digits that the corrected field holds; gives the number of word cells that differ.
@@ -58,16 +57,13 @@ fn store_digits(
     let mut walk = first_cell(pass);
     let mut rank = 0;
     let mut changed = 0;
-    let mut i = 0;
-    while i < field.len() {
+    for (i, cell) in field.iter().enumerate() {
         let spot = spot_of(&mut counts, sizes, offsets, pass, walk, shape, i);
         let held = holds_digit(spot);
-        let before = field[i];
-        let value = restored_level(spot.inside, before, change_of(remainders, spot));
+        let value = restored_level(spot.inside, *cell, change_of(remainders, spot));
         store_digit(payload, held, rank, value);
-        rank = count_if(held, rank);
-        changed = count_if(differs(spot.inside, before, value), changed);
-        i += 1;
+        rank += usize::from(held);
+        changed += usize::from(differs(spot.inside, *cell, value));
         walk = next_cell(pass, walk);
     }
     changed
@@ -82,38 +78,32 @@ fn decode_tests(
     sizes: &mut [u32; Shape::MAX_CLASSES],
     offsets: &mut [u32; Shape::MAX_CLASSES],
     remainders: &mut [u8; MAX_WORDS],
-) -> Tested
+) -> Result<(), Refusal>
     requires { (w : ℕ) → get_or remainders.old w 0 ≡ 0 }
-    ensures result_value { tested_number result ≡ decode_levels_number shape payload.now field.now }
+    ensures result_value { number_of result ≡ decode_levels_number shape payload.now field.now }
     ensures no_outside { NoOutside result }
-    ensures levels_examined { tested_number result ≡ 0
+    ensures levels_examined { number_of result ≡ 0
         → LevelsExamined shape field.now sizes.new offsets.new remainders.new
         × (length payload.now ≡ digits_of shape) }
 {
-    let tested = length_tests(shape, payload, field, sizes, offsets);
-    if let Tested::Refused(why) = tested {
-        return Tested::Refused(why);
-    }
+    length_tests(shape, payload, field, sizes, offsets)?;
     examine_levels(shape, field, sizes, offsets, remainders)
 }
 
 // Stores the digits and gives the number of word cells that differ, or gives the refusal 1, 2, 11, 3, 4, 12 or 6.
-pub fn decode_levels(shape: Shape, payload: &mut [u8], field: &[u8]) -> DecodeAnswer
+pub fn decode_levels(shape: Shape, payload: &mut [u8], field: &[u8]) -> Result<usize, Refusal>
     ensures { IsDecodedLevels shape payload.old field.now payload.new result }
 {
     let mut sizes = [0u32; Shape::MAX_CLASSES];
     let mut offsets = [0u32; Shape::MAX_CLASSES];
     let mut remainders = [0u8; MAX_WORDS];
-    let tested = decode_tests(
+    decode_tests(
         shape,
         payload,
         field,
         &mut sizes,
         &mut offsets,
         &mut remainders,
-    );
-    if let Tested::Refused(why) = tested {
-        return DecodeAnswer::Refused(why);
-    }
-    DecodeAnswer::Decoded(store_digits(shape, field, &sizes, &offsets, &remainders, payload))
+    )?;
+    Ok(store_digits(shape, field, &sizes, &offsets, &remainders, payload))
 }

@@ -1,6 +1,6 @@
 // Encoding of levels: the remainders of the digits alone, and then every cell from them.
 ghost use Rattle.std.specs.Prelude.{◌≡◌, cond, true, ℕ, ◌<◌, get_or, length};
-ghost use Rattle.lattice.specs.Refusal.{tested_number, NoOutside};
+ghost use Rattle.lattice.specs.Refusal.{number_of, NoOutside};
 ghost use Rattle.lattice.specs.Shape.{cells_of};
 ghost use Rattle.levels.specs.Payload.{check_for};
 ghost use Rattle.levels.specs.Encode.{encode_levels_number, encoded_levels_field};
@@ -10,12 +10,10 @@ ghost use Rattle.levels.specs.Working.{max_words, Laid, HoldsDigits, LengthsFit,
 use crate::examine::levels_ok;
 use crate::lengths::length_tests;
 use crate::remainders::take_level;
-use crate::restore::count_if;
 use crate::spot::{Spot, holds_digit, spot_of};
 use crate::walk::{first_cell, next_cell};
 use crate::words::MAX_WORDS;
-use codec::encode::EncodeAnswer;
-use lattice::refusal::{Refusal, Tested};
+use lattice::refusal::Refusal;
 use lattice::shape::Shape;
 
 // The digit of a cell, or 0 for a cell that holds none.
@@ -70,13 +68,11 @@ fn digit_remainders(
     let mut counts = [0u32; Shape::MAX_CLASSES];
     let mut walk = first_cell(pass);
     let mut rank = 0;
-    let mut i = 0;
-    while i < cells {
+    for i in 0..cells {
         let spot = spot_of(&mut counts, sizes, offsets, pass, walk, shape, i);
         let held = holds_digit(spot);
         take_level(remainders, spot, digit_value(payload, held, rank));
-        rank = count_if(held, rank);
-        i += 1;
+        rank += usize::from(held);
         walk = next_cell(pass, walk);
     }
 }
@@ -99,13 +95,11 @@ fn store_encoded(
     let mut counts = [0u32; Shape::MAX_CLASSES];
     let mut walk = first_cell(pass);
     let mut rank = 0;
-    let mut i = 0;
-    while i < field.len() {
+    for (i, cell) in field.iter_mut().enumerate() {
         let spot = spot_of(&mut counts, sizes, offsets, pass, walk, shape, i);
         let held = holds_digit(spot);
-        field[i] = encoded_value(remainders, spot, digit_value(payload, held, rank));
-        rank = count_if(held, rank);
-        i += 1;
+        *cell = encoded_value(remainders, spot, digit_value(payload, held, rank));
+        rank += usize::from(held);
         walk = next_cell(pass, walk);
     }
 }
@@ -118,34 +112,28 @@ fn encode_tests(
     field: &[u8],
     sizes: &mut [u32; Shape::MAX_CLASSES],
     offsets: &mut [u32; Shape::MAX_CLASSES],
-) -> Tested
-    ensures result_value { tested_number result ≡ encode_levels_number shape payload.now field.now }
+) -> Result<(), Refusal>
+    ensures result_value { number_of result ≡ encode_levels_number shape payload.now field.now }
     ensures no_outside { NoOutside result }
-    ensures lengths_fit { tested_number result ≡ 0
+    ensures lengths_fit { number_of result ≡ 0
         → LengthsFit shape payload.now field.now sizes.new offsets.new }
 {
-    let tested = length_tests(shape, payload, field, sizes, offsets);
-    if let Tested::Refused(why) = tested {
-        return Tested::Refused(why);
-    }
+    length_tests(shape, payload, field, sizes, offsets)?;
     if !levels_ok(payload) {
-        return Tested::Refused(Refusal::BadLevel);
+        return Err(Refusal::BadLevel);
     }
-    Tested::Passed
+    Ok(())
 }
 
 // Writes the field of a payload of digits, or gives the refusal 1, 2, 11, 3, 4 or 12.
-pub fn encode_levels(shape: Shape, payload: &[u8], field: &mut [u8]) -> EncodeAnswer
+pub fn encode_levels(shape: Shape, payload: &[u8], field: &mut [u8]) -> Result<(), Refusal>
     ensures { IsEncodedLevels shape payload.now field.old field.new result }
 {
     let mut sizes = [0u32; Shape::MAX_CLASSES];
     let mut offsets = [0u32; Shape::MAX_CLASSES];
-    let tested = encode_tests(shape, payload, field, &mut sizes, &mut offsets);
-    if let Tested::Refused(why) = tested {
-        return EncodeAnswer::Refused(why);
-    }
+    encode_tests(shape, payload, field, &mut sizes, &mut offsets)?;
     let mut remainders = [0u8; MAX_WORDS];
     digit_remainders(shape, payload, &sizes, &offsets, &mut remainders);
     store_encoded(shape, payload, &sizes, &offsets, &remainders, field);
-    EncodeAnswer::Encoded
+    Ok(())
 }

@@ -1,6 +1,6 @@
 // The tests of a field of levels that decoding and correcting share.
 ghost use Rattle.std.specs.Prelude.{◌≡◌, ℕ, get_or, length};
-ghost use Rattle.lattice.specs.Refusal.{tested_number};
+ghost use Rattle.lattice.specs.Refusal.{number_of};
 ghost use Rattle.lattice.specs.Shape.{cells_of};
 ghost use Rattle.lattice.specs.Class.{layout_of};
 ghost use Rattle.codec.specs.Field.{field_of};
@@ -14,21 +14,14 @@ use crate::restore::{MAX_LEVEL, can_restore, change_of};
 use crate::spot::spot_of;
 use crate::walk::{first_cell, next_cell};
 use crate::words::MAX_WORDS;
-use lattice::refusal::{Refusal, Tested};
+use lattice::refusal::Refusal;
 use lattice::shape::Shape;
 
 // Is every byte a level?
 pub(crate) fn levels_ok(bytes: &[u8]) -> bool
     ensures { result ≡ levels_ok (field_of bytes.now) (length bytes.now) }
 {
-    let mut i = 0;
-    while i < bytes.len() {
-        if bytes[i] > MAX_LEVEL {
-            return false;
-        }
-        i += 1;
-    }
-    true
+    bytes.iter().all(|level| *level <= MAX_LEVEL)
 }
 
 // Can every change be taken back?
@@ -45,13 +38,11 @@ fn levels_in_reach(
     let pass = shape.pass();
     let mut counts = [0u32; Shape::MAX_CLASSES];
     let mut walk = first_cell(pass);
-    let mut i = 0;
-    while i < field.len() {
+    for (i, cell) in field.iter().enumerate() {
         let spot = spot_of(&mut counts, sizes, offsets, pass, walk, shape, i);
-        if !can_restore(field[i], change_of(remainders, spot)) {
+        if !can_restore(*cell, change_of(remainders, spot)) {
             return false;
         }
-        i += 1;
         walk = next_cell(pass, walk);
     }
     true
@@ -64,20 +55,20 @@ pub(crate) fn examine_levels(
     sizes: &[u32; Shape::MAX_CLASSES],
     offsets: &[u32; Shape::MAX_CLASSES],
     remainders: &mut [u8; MAX_WORDS],
-) -> Tested
+) -> Result<(), Refusal>
     requires laid { Laid shape sizes.now offsets.now }
     requires field_len { length field.now ≡ cells_of shape }
     requires by_index { (w : ℕ) → get_or remainders.old w 0 ≡ 0 }
-    ensures result_value { tested_number result ≡ levels_number shape (field_of field.now) }
-    ensures levels_examined { tested_number result ≡ 0
+    ensures result_value { number_of result ≡ levels_number shape (field_of field.now) }
+    ensures levels_examined { number_of result ≡ 0
         → LevelsExamined shape field.now sizes.now offsets.now remainders.new }
 {
     if !levels_ok(field) {
-        return Tested::Refused(Refusal::BadLevel);
+        return Err(Refusal::BadLevel);
     }
     field_remainders(shape, field, sizes, offsets, remainders);
     if !levels_in_reach(shape, field, sizes, offsets, remainders) {
-        return Tested::Refused(Refusal::OutOfReach);
+        return Err(Refusal::OutOfReach);
     }
-    Tested::Passed
+    Ok(())
 }

@@ -1,10 +1,10 @@
 // The tests that encoding and decoding share: the shape's, then 3 and 4 for the lengths of the payload and of the field.
 ghost use Rattle.std.specs.Prelude.{◌≡◌};
-ghost use Rattle.lattice.specs.Refusal.{tested_number, NoOutside};
+ghost use Rattle.lattice.specs.Refusal.{number_of, NoOutside};
 ghost use Rattle.levels.specs.Working.{lengths_number, LengthsFit};
 
 use crate::words::lay_words;
-use lattice::refusal::{Refusal, Tested};
+use lattice::refusal::Refusal;
 use lattice::shape::Shape;
 
 // The tests in their order, 1, 2, 11, 3, 4; where they pass, the arrays hold the size of each class and the number of words of
@@ -15,21 +15,18 @@ pub(crate) fn length_tests(
     field: &[u8],
     sizes: &mut [u32; Shape::MAX_CLASSES],
     offsets: &mut [u32; Shape::MAX_CLASSES],
-) -> Tested
-    ensures result_value { tested_number result ≡ lengths_number shape payload.now field.now }
+) -> Result<(), Refusal>
+    ensures result_value { number_of result ≡ lengths_number shape payload.now field.now }
     ensures no_outside { NoOutside result }
-    ensures lengths_fit { tested_number result ≡ 0
+    ensures lengths_fit { number_of result ≡ 0
         → LengthsFit shape payload.now field.now sizes.new offsets.new }
 {
-    let tested = shape.tests();
-    if let Tested::Refused(why) = tested {
-        return Tested::Refused(why);
-    }
+    shape.tests()?;
     if payload.len() != lay_words(shape, sizes, offsets) {
-        return Tested::Refused(Refusal::PayloadLength);
+        return Err(Refusal::PayloadLength);
     }
     if field.len() != shape.cells() {
-        return Tested::Refused(Refusal::FieldLength);
+        return Err(Refusal::FieldLength);
     }
-    Tested::Passed
+    Ok(())
 }

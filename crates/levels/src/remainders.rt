@@ -48,11 +48,9 @@ pub(crate) fn field_remainders(
     let pass = shape.pass();
     let mut counts = [0u32; Shape::MAX_CLASSES];
     let mut walk = first_cell(pass);
-    let mut i = 0;
-    while i < field.len() {
+    for (i, cell) in field.iter().enumerate() {
         let spot = spot_of(&mut counts, sizes, offsets, pass, walk, shape, i);
-        take_level(remainders, spot, field[i]);
-        i += 1;
+        take_level(remainders, spot, *cell);
         walk = next_cell(pass, walk);
     }
 }

@@ -50,11 +50,3 @@ pub(crate) fn restored_level(inside: bool, value: u8, up: u8) -> u8
     }
     value + 1 - up
 }
-
-// One more where the test holds.
-pub(crate) fn count_if(test: bool, n: usize) -> usize
-    requires { n < 65536 }
-    ensures { result ≡ cond test 1 0 + n }
-{
-    if test { 1 + n } else { n }
-}

@@ -17,7 +17,8 @@ pub(crate) struct Spot {
     pub slot: usize,
 }
 
-// Counts one more cell of a class, and gives its position there.
+// Counts one more cell of a class, and gives its position there. Passes has its like for itself: a public function asks nothing
+// of its callers, and one that tests the class and the count costs each cell two tests.
 fn count_in(counts: &mut [u32], class: usize) -> u32
     requires class_in_bounds { class < length counts.old }
     requires class_bound { get_or counts.old class 0 < max_cells }
@@ -69,5 +70,5 @@ pub(crate) fn spot_of(
 pub(crate) fn holds_digit(spot: Spot) -> bool
     ensures { result ≡ holds_at spot }
 {
-    if spot.inside { spot.slot != 0 } else { false }
+    spot.inside && spot.slot != 0
 }

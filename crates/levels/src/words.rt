@@ -34,11 +34,9 @@ fn word_offsets(
     ensures value { (result ≡ sum_below (λ b. words_in (get_or sizes.now b 0)) classes) × (result ≤ 6000000) }
 {
     let mut sum: u32 = 0;
-    let mut a = 0;
-    while a < classes {
+    for a in 0..classes {
         put(offsets, a, sum);
         sum += words_in(sizes[a]);
-        a += 1;
     }
     sum as usize
 }

@@ -1,5 +1,4 @@
 -- What the list of the check cells uses alone.
-mod LeastMost
 mod Few
 mod Listed
 mod OneMore

@@ -8,10 +8,9 @@ ghost use Rattle.lattice.specs.Listing.{CellOrNone, CellsAt};
 
 use crate::line_positions::raised;
 use lattice::line::{Line, Pass, next_line, next_start};
-use lattice::refusal::Tested;
 use lattice::shape::Shape;
 
-// What stands for a cell where there is none.
+// What stands for a cell where there is none, as `cells_at` promises (`CellOrNone`): an array of options would be twice as long.
 pub const NO_CELL: u32 = 65536;
 
 // The cell of a class that has a position from 1 on, or `NO_CELL`. The class is number y of its slice. Of it `before` cells stand
@@ -29,8 +28,7 @@ fn find_cell(pass: Pass, class: usize, position: usize) -> u32
         start: 0,
     };
     let mut before = 0;
-    let mut l = class / m;
-    while l < pass.lines {
+    for l in (class / m..pass.lines).step_by(pass.slices) {
         let x = next_start(y, line.start, m);
         let here = raised(x, rest, whole) as usize;
         if position <= before + here {
@@ -38,7 +36,6 @@ fn find_cell(pass: Pass, class: usize, position: usize) -> u32
         }
         before += here;
         line = next_line(pass, line);
-        l += pass.slices;
     }
     NO_CELL
 }
@@ -62,10 +59,8 @@ fn place_all(pass: Pass, positions: &[u32], cells: &mut [u32])
         → pass ≡ pass_of s
         → CellsAt (layout_of s) pass.classes positions.now cells.new }
 {
-    let mut a = 0;
-    while a < pass.classes {
+    for a in 0..pass.classes {
         cells[a] = cell_at(pass, a, positions[a]);
-        a += 1;
     }
 }
 
@@ -80,9 +75,8 @@ pub fn cells_at(
         → CellsAt (layout_of shape) (classes_of shape) positions.now cells.new }
     ensures cells_unchanged { (Accepted shape → ⊥) → cells.new ≡ cells.old }
 {
-    let tested = shape.tests();
-    if let Tested::Refused(_) = tested {
+    let Ok(()) = shape.tests() else {
         return;
-    }
+    };
     place_all(shape.pass(), positions, cells);
 }

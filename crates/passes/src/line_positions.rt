@@ -22,10 +22,8 @@ fn fill_low(p: &mut [u16], m: usize, gap: usize, up: u16)
     requires { (m ≤ length p.old) × (up < 65535) }
     ensures { (z : ℕ) → z < m → get_or p.new z 0 ≡ up + cond (ltb z gap) 1 0 }
 {
-    let mut z = 0;
-    while z < m {
-        p[z] = raised(z, gap, up);
-        z += 1;
+    for (z, place) in p[..m].iter_mut().enumerate() {
+        *place = raised(z, gap, up);
     }
 }
 
@@ -36,10 +34,8 @@ fn repeat(p: &mut [u16], m: usize, d: u16)
     ensures by_index_2 { (z : ℕ) → z < m → get_or p.new z 0 ≡ get_or p.old z 0 }
     ensures repeats { Repeats m d (length p.old) p.new }
 {
-    let mut z = m;
-    while z < p.len() {
+    for z in m..p.len() {
         p[z] = p[z - m] + d;
-        z += 1;
     }
 }
 
@@ -71,10 +67,8 @@ fn advance(e: &mut [u16], p: &[u16], from: usize, down: u16)
         ≡ (get_or e.old y 0 + get_or p.now (y + from) 0 + (65536 - down)) % 65536 }
 {
     let less = 65536 - down as u32;
-    let mut y = 0;
-    while y < e.len() {
-        e[y] = ((e[y] as u32 + p[y + from] as u32 + less) % 65536) as u16;
-        y += 1;
+    for (y, position) in e.iter_mut().enumerate() {
+        *position = ((*position as u32 + p[y + from] as u32 + less) % 65536) as u16;
     }
 }
 

@@ -1,5 +1,6 @@
 // The place of a cell, the last cells first: its class, and its position there.
 ghost use Rattle.std.specs.Prelude.{◌≡◌, ◌+◌, ◌-◌, ◌<◌, get_or, length};
+ghost use Rattle.lattice.specs.Shape.{max_cells};
 ghost use Rattle.lattice.specs.Class.{layout_of};
 ghost use Rattle.lattice.specs.Sizes.{HoldsRest, EntryStored, AtCellBack, AtPlace};
 
@@ -11,6 +12,18 @@ use lattice::shape::Shape;
 pub struct Place {
     pub class: usize,
     pub position: u32,
+}
+
+// Counts one more cell of a class, and gives its position there.
+pub(crate) fn count_in(counts: &mut [u32], class: usize) -> u32
+    requires class_in_bounds { class < length counts.old }
+    requires class_bound { get_or counts.old class 0 < max_cells }
+    ensures value { result ≡ get_or counts.old class 0 + 1 }
+    ensures entry_stored { EntryStored counts.old counts.new class result }
+{
+    let position = counts[class] + 1;
+    counts[class] = position;
+    position
 }
 
 // Counts one more cell of a class from its end, and gives its position there.

@@ -1,5 +1,8 @@
 // An answer as document 01 has it: a number, the figures that come with it, and what it leaves in the lent buffer.
-ghost use Rattle.std.specs.Prelude.{◌≡◌, slice_index};
+ghost use Rattle.std.specs.Prelude.{◌≡◌, ◌≤◌, MatchResult, slice_index};
+ghost use Rattle.second.specs.Declined.{number_of};
+
+use crate::declined::Declined;
 
 // The most figures that an operation gives.
 pub const FIGURES: usize = 6;
@@ -14,22 +17,26 @@ pub type Buffer = [u8; CELLS];
 
 // The figures that an operation does not have are 0, and so is every figure on each number above 0. An operation that is lent
 // no buffer to change has zeros for it.
-#[derive(Clone, Copy)]
+#[derive(Clone, Copy, PartialEq, Eq)]
 pub struct Answer {
     pub number: usize,
     pub figures: Figures,
     pub buffer: Buffer,
 }
 
-// A number and what is left in the lent buffer, with no figure.
-pub fn leaving(number: usize, buffer: Buffer) -> Answer
-    ensures { (result.number ≡ number) × (slice_index result.figures 0 ≡ 0) }
+// What an operation leaves in the lent buffer, and in how many cells of the field it found another value than was lent.
+#[derive(Clone, Copy)]
+pub(crate) struct Left {
+    pub(crate) count: usize,
+    pub(crate) buffer: Buffer,
+    ghost at_most_all: { count ≤ 512 },
+}
+
+// The figures of an operation that has one.
+pub(crate) fn alone(figure: usize) -> Figures
+    ensures { slice_index result 0 ≡ figure }
 {
-    Answer {
-        number,
-        figures: [0; FIGURES],
-        buffer,
-    }
+    [figure, 0, 0, 0, 0, 0]
 }
 
 // A number and figures, where no buffer is lent.
@@ -40,5 +47,42 @@ pub fn of(number: usize, figures: Figures) -> Answer
         number,
         figures,
         buffer: [0; CELLS],
+    }
+}
+
+// A number and what is left in the lent buffer, with no figure.
+pub fn leaving(number: usize, buffer: Buffer) -> Answer
+    ensures { (result.number ≡ number) × (slice_index result.figures 0 ≡ 0) }
+{
+    Answer {
+        buffer,
+        ..of(number, [0; FIGURES])
+    }
+}
+
+// The figures of an operation, or, where it declines, its number and no figure.
+pub(crate) fn figured(given: Result<Figures, Declined>) -> Answer
+    ensures { MatchResult given
+        (λ figures. (result.number ≡ 0) × (slice_index result.figures 0 ≡ slice_index figures 0))
+        (λ why. (result.number ≡ number_of why) × (slice_index result.figures 0 ≡ 0)) }
+{
+    match given {
+        Ok(figures) => of(0, figures),
+        Err(why) => of(why.number(), [0; FIGURES]),
+    }
+}
+
+// The count and the buffer of an operation, or, where it declines, its number and the buffer as it was lent.
+pub(crate) fn counted(given: Result<Left, Declined>, lent: Buffer) -> Answer
+    ensures { MatchResult given
+        (λ left. (result.number ≡ 0) × (slice_index result.figures 0 ≡ left.count))
+        (λ why. (result.number ≡ number_of why) × (slice_index result.figures 0 ≡ 0)) }
+{
+    match given {
+        Ok(left) => Answer {
+            figures: alone(left.count),
+            ..leaving(0, left.buffer)
+        },
+        Err(why) => leaving(why.number(), lent),
     }
 }

@@ -1,9 +1,11 @@
 // The gauge: every triple of a cube is looked at, in order, and those that do not count are passed over.
-ghost use Rattle.std.specs.Prelude.{◌≡◌, ◌<◌, ◌≤◌, slice_index};
+ghost use Rattle.std.specs.Prelude.{◌≡◌, ◌<◌, ◌≤◌, MatchResult, IfSome, slice_index};
+ghost use Rattle.second.specs.Declined.{number_of};
 
-use crate::answer::Answer;
+use crate::answer;
+use crate::answer::{Answer, Figures};
+use crate::declined::Declined;
 use crate::settings::Settings;
-use crate::{answer, settings};
 
 // A coordinate of the cube is a number from −17 to 17, held with 17 added.
 const ZERO: usize = 17;
@@ -34,21 +36,14 @@ fn size(coordinate: usize) -> usize
     requires { coordinate < 35 }
     ensures { result ≤ 17 }
 {
-    if coordinate < ZERO {
-        ZERO - coordinate
-    } else {
-        coordinate - ZERO
-    }
+    coordinate.abs_diff(ZERO)
 }
 
 // Whether a triple is tried at strength t.
 fn counts(x: usize, t: usize) -> bool
     requires { x < 42875 }
 {
-    if x <= MIDDLE {
-        return false;
-    }
-    size(row(x)) + size(plane(x)) + size(x % SIDE) < t
+    MIDDLE < x && size(row(x)) + size(plane(x)) + size(x % SIDE) < t
 }
 
 // Whether column − b × row − c × plane is divisible by m: the negative parts are moved to the other side.
@@ -56,67 +51,70 @@ fn divides(s: Settings, x: usize) -> bool
     requires { (0 < s.m) × (x < 42875) }
 {
     let m = s.m as usize;
-    let left = x % SIDE + settings::steps(s, ZERO, ZERO);
-    let right = ZERO + settings::steps(s, row(x), plane(x));
+    let left = x % SIDE + s.steps(ZERO, ZERO);
+    let right = ZERO + s.steps(row(x), plane(x));
     left % m == right % m
 }
 
-// The figures: whether the settings hold, the triple, with 17 added to each coordinate, and how many were tried.
-fn verdict(holds: usize, x: usize, tried: usize) -> Answer
-    requires { (holds ≤ 1) × (x < 42875) }
-    ensures { (result.number ≡ 0) × (slice_index result.figures 0 ≤ 1) }
+// The figures: whether the settings hold, as no triple is found, the triple, with 17 added to each coordinate, and how many were
+// tried.
+fn verdict(found: Option<usize>, tried: usize) -> Figures
+    requires { IfSome found (λ x. x < 42875) }
+    ensures { slice_index result 0 ≤ 1 }
 {
-    answer::of(0, [holds, row(x), plane(x), x % SIDE, tried, 0])
+    let x = found.unwrap_or(MIDDLE);
+    [
+        usize::from(found.is_none()),
+        row(x),
+        plane(x),
+        x % SIDE,
+        tried,
+        0,
+    ]
 }
 
-fn search(s: Settings, t: usize) -> Answer
+// The figures of settings at a strength: the first triple that counts and divides is looked for.
+fn search(s: Settings, t: usize) -> Figures
     requires { 0 < s.m }
-    ensures { (result.number ≡ 0) × (slice_index result.figures 0 ≤ 1) }
+    ensures { slice_index result 0 ≤ 1 }
 {
     let mut tried = 0;
-    let mut x = 0;
-    while x < TRIPLES {
+    for x in 0..TRIPLES {
         if counts(x, t) {
             tried += 1;
             if divides(s, x) {
-                return verdict(0, x, tried);
+                return verdict(Some(x), tried);
             }
         }
-        x += 1;
     }
-    verdict(1, MIDDLE, tried)
+    verdict(None, tried)
 }
 
-// Beside a number the triple is (0, 0, 0).
-fn declined(number: usize) -> Answer
-    ensures { (result.number ≡ number) × (slice_index result.figures 0 ≡ 0) }
+// The figures, where the settings and the strength are within the limits.
+fn gauged(m: usize, b: usize, c: usize, t: usize) -> Result<Figures, Declined>
+    ensures { MatchResult result (λ figures. slice_index figures 0 ≤ 1) (λ why. number_of why ≤ 9) }
 {
-    answer::of(number, [0, ZERO, ZERO, ZERO, 0, 0])
-}
-
-// Whether settings hold at a strength. Any numbers are taken: what is outside the limits is declined.
-pub fn gauge(m: usize, b: usize, c: usize, t: usize) -> Answer
-    ensures { (result.number ≤ 9) × (slice_index result.figures 0 ≤ 1) }
-{
-    if t == 0 {
-        return declined(2);
+    if !(1..=18).contains(&t) {
+        return Err(Declined::BadStrength);
     }
-    if 18 < t {
-        return declined(2);
-    }
-    if 4096 < m {
-        return declined(9);
-    }
-    if m <= b {
-        return declined(9);
-    }
-    if m <= c {
-        return declined(9);
+    if 4096 < m || m <= b || m <= c {
+        return Err(Declined::BadSettings);
     }
     let s = Settings {
         m: m as u16,
         b: b as u16,
         c: c as u16,
     };
-    search(s, t)
+    Ok(search(s, t))
+}
+
+// Whether settings hold at a strength. Any numbers are taken: what is outside the limits is declined, and beside its number the
+// triple is (0, 0, 0).
+pub fn gauge(m: usize, b: usize, c: usize, t: usize) -> Answer
+    ensures { (result.number ≤ 9) × (slice_index result.figures 0 ≤ 1) }
+{
+    match gauged(m, b, c, t) {
+        Ok(figures) => answer::of(0, figures),
+        Err(why) => answer::of(why.number(), [0, ZERO, ZERO, ZERO, 0, 0]),
+    }
 }

@@ -1,20 +1,18 @@
 // The test of a class: the exclusive or of the positions of its 1 cells is 0.
-use crate::answer::{Buffer, CELLS};
-use crate::layout::{CHECK, Layout};
+use crate::answer::Buffer;
+use crate::layout::Layout;
 
 // Whether class a of a field is lawful.
-pub(crate) fn lawful(layout: Layout, a: u16, field: Buffer) -> bool {
+pub(crate) fn lawful(layout: &Layout, a: u16, field: &Buffer) -> bool {
     let mut position: usize = 0;
     let mut sum: usize = 0;
-    let mut i = 0;
-    while i < CELLS {
-        if layout[i] % CHECK == a {
+    for (i, entry) in layout.entries().iter().enumerate() {
+        if entry.class == a {
             position += 1;
             if field[i] == 1 {
-                sum = sum ^ position;
+                sum ^= position;
             }
         }
-        i += 1;
     }
     sum == 0
 }

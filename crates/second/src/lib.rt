@@ -3,6 +3,7 @@
 #![tactic(auto)]
 
 pub mod answer;
+mod declined;
 pub mod gauge;
 mod lawful;
 mod layout;

@@ -1,8 +1,11 @@
 // The number of a shape, the plan of a field and the class of a cell.
-ghost use Rattle.std.specs.Prelude.{◌<◌, ◌≤◌, slice_index};
+ghost use Rattle.std.specs.Prelude.{◌<◌, ◌≤◌, MatchResult, slice_index};
+ghost use Rattle.second.specs.Declined.{IsUnshaded};
 
-use crate::answer::Answer;
+use crate::answer::{Answer, Figures};
+use crate::declined::Declined;
 use crate::layout::lay_out;
+use crate::settings::Spot;
 use crate::used::used_classes;
 use crate::{answer, settings};
 use lattice::shape::Shape;
@@ -11,7 +14,27 @@ use lattice::shape::Shape;
 pub fn shape(shape: Shape) -> usize
     ensures { result ≤ 11 }
 {
-    settings::refusal(shape)
+    match settings::accept(shape) {
+        Ok(_) => 0,
+        Err(why) => why.number(),
+    }
+}
+
+// The figures of a plan, where its shape is accepted.
+fn planned(shape: Shape) -> Result<Figures, Declined>
+    ensures { MatchResult result (λ figures. slice_index figures 0 ≤ 512) IsUnshaded }
+{
+    let laid = lay_out(shape)?;
+    let k = laid.capacity;
+    let used = used_classes(shape, laid.cells);
+    Ok([
+        laid.classes as usize,
+        k,
+        k / 8,
+        laid.cells,
+        used,
+        5 * laid.words,
+    ])
 }
 
 // The figures: m, K, payload bytes, cells, the classes that hold at least one cell, and the digits of a shaded field, five for
@@ -19,46 +42,25 @@ pub fn shape(shape: Shape) -> usize
 pub fn plan(shape: Shape) -> Answer
     ensures { (result.number ≤ 11) × (slice_index result.figures 0 ≤ 512) }
 {
-    let number = settings::refusal(shape);
-    if number != 0 {
-        return answer::of(number, [0; 6]);
-    }
-    let s = settings::settings_of(shape);
-    let laid = lay_out(shape);
-    let k = laid.capacity;
-    let cells = settings::cells(shape);
-    let used = used_classes(shape);
-    answer::of(0, [s.m as usize, k, k / 8, cells, used, 5 * laid.words])
+    answer::figured(planned(shape))
 }
 
-// The number with which the class of a cell is declined, 0 where the cell lies in an accepted shape.
-fn refusal(shape: Shape, row: usize, plane: usize, column: usize) -> usize
-    ensures { result ≤ 11 }
+// The figure of a cell, where it lies in an accepted shape.
+fn placed(shape: Shape, spot: Spot) -> Result<Figures, Declined>
+    ensures { MatchResult result (λ figures. slice_index figures 0 < 512) IsUnshaded }
 {
-    let number = settings::refusal(shape);
-    if number != 0 {
-        return number;
+    settings::accept(shape)?;
+    let within = spot.row < shape.rows as usize && spot.plane < shape.planes as usize;
+    if !within || shape.columns as usize <= spot.column {
+        return Err(Declined::OutsideShape);
     }
-    if shape.rows as usize <= row {
-        return 4;
-    }
-    if shape.planes as usize <= plane {
-        return 4;
-    }
-    if shape.columns as usize <= column {
-        return 4;
-    }
-    0
+    Ok(answer::alone(settings::class(shape, spot)))
 }
 
 // The figure: the class.
 pub fn class(shape: Shape, row: usize, plane: usize, column: usize) -> Answer
     ensures { (result.number ≤ 11) × (slice_index result.figures 0 < 512) }
 {
-    let number = refusal(shape, row, plane, column);
-    if number != 0 {
-        return answer::of(number, [0; 6]);
-    }
-    let a = settings::class(shape, row, plane, column);
-    answer::of(0, [a, 0, 0, 0, 0, 0])
+    let spot = Spot { row, plane, column };
+    answer::figured(placed(shape, spot))
 }

@@ -1,12 +1,14 @@
 // Reading and mending, by search: class by class, the lawful class that agrees with every cell that was read, where some cells
 // are unread, and else the lawful class that differs in at most one cell.
-ghost use Rattle.std.specs.Prelude.{◌≤◌, slice_index};
+ghost use Rattle.std.specs.Prelude.{◌≤◌, IfErr, slice_index};
+ghost use Rattle.second.specs.Declined.{IsUnshaded};
 
-use crate::answer::{Answer, Buffer, CELLS};
+use crate::answer;
+use crate::answer::{Answer, Buffer, CELLS, Left};
+use crate::declined::Declined;
 use crate::lawful::lawful;
-use crate::layout::{CHECK, Layout, NO_CELL, lay_out};
+use crate::layout::{Laid, Layout, lay_out};
 use crate::write::{PATTERN, ZEROS};
-use crate::{answer, settings, write};
 use lattice::shape::Shape;
 
 // The value of an unread cell.
@@ -16,80 +18,36 @@ const UNREAD: u8 = 2;
 const MOST_UNREAD: usize = 2;
 
 // Whether one of the first `length` bytes of a buffer is above the highest that is taken there.
-pub(crate) fn is_soiled(length: usize, buffer: Buffer, highest: u8) -> bool {
-    let mut i = 0;
-    while i < CELLS {
-        if i < length {
-            if highest < buffer[i] {
-                return true;
-            }
-        }
-        i += 1;
-    }
-    false
+pub(crate) fn is_soiled(length: usize, buffer: &Buffer, highest: u8) -> bool {
+    buffer.iter().take(length).any(|value| highest < *value)
 }
 
-// No cell, and more than there are cells or classes.
-const OUT_OF_REACH: usize = 1024;
-
-// The cell of class a that makes the class lawful when it is turned over, OUT_OF_REACH where no cell does.
-fn culprit(layout: Layout, a: u16, field: Buffer) -> usize {
-    let mut j = 0;
-    while j < CELLS {
-        if layout[j] % CHECK == a {
-            let mut other = field;
-            other[j] = other[j] ^ 1;
-            if lawful(layout, a, other) {
-                return j;
-            }
-        }
-        j += 1;
-    }
-    OUT_OF_REACH
+// In how many cells two fields differ.
+pub(crate) fn differences(one: &Buffer, other: &Buffer) -> usize
+    ensures { result ≤ 512 }
+{
+    one.iter().zip(other.iter()).filter(|(x, y)| x != y).count()
 }
 
 // How many cells of class a are unread.
-fn unread(layout: Layout, a: u16, field: Buffer) -> usize {
-    let mut n = 0;
-    let mut i = 0;
-    while i < CELLS {
-        if layout[i] % CHECK == a {
-            if field[i] == UNREAD {
-                n += 1;
-            }
-        }
-        i += 1;
-    }
-    n
-}
-
-// Whether one of m classes has too many unread cells.
-fn too_many_unread(layout: Layout, m: u16, field: Buffer) -> bool
-    requires { m ≤ 512 }
-{
-    let mut a = 0;
-    while a < m {
-        if MOST_UNREAD < unread(layout, a, field) {
-            return true;
-        }
-        a += 1;
-    }
-    false
+fn unread(layout: &Layout, a: u16, field: &Buffer) -> usize {
+    layout
+        .entries()
+        .iter()
+        .zip(field.iter())
+        .filter(|(entry, cell)| entry.class == a && **cell == UNREAD)
+        .count()
 }
 
 // A field whose unread cells of class a hold the binary digits of a number, the lowest first.
-fn filled(layout: Layout, a: u16, digits: u8, before: Buffer) -> Buffer {
+fn filled(layout: &Layout, a: u16, digits: u8, before: Buffer) -> Buffer {
     let mut field = before;
     let mut left = digits;
-    let mut i = 0;
-    while i < CELLS {
-        if layout[i] % CHECK == a {
-            if field[i] == UNREAD {
-                field[i] = left % 2;
-                left = left / 2;
-            }
+    for (i, entry) in layout.entries().iter().enumerate() {
+        if entry.class == a && field[i] == UNREAD {
+            field[i] = left % 2;
+            left /= 2;
         }
-        i += 1;
     }
     field
 }
@@ -97,169 +55,141 @@ fn filled(layout: Layout, a: u16, digits: u8, before: Buffer) -> Buffer {
 // The fillings of two unread cells. Those of one are among them.
 const FILLINGS: u8 = 4;
 
-// Tries every filling of the unread cells of class a until the class is lawful. The number is 6 where no filling makes it so.
-fn fill(layout: Layout, a: u16, before: Buffer) -> Answer
-    ensures { result.number ≤ 6 }
-{
-    let mut digits = 0;
-    while digits < FILLINGS {
-        let field = filled(layout, a, digits, before);
-        if lawful(layout, a, field) {
-            return answer::leaving(0, field);
-        }
-        digits += 1;
-    }
-    answer::leaving(6, before)
+// The field with a filling of the unread cells of class a that makes the class lawful, if one does.
+fn fill(layout: &Layout, a: u16, before: Buffer) -> Option<Buffer> {
+    (0..FILLINGS)
+        .map(|digits| filled(layout, a, digits, before))
+        .find(|field| lawful(layout, a, field))
 }
 
-// Fills the unread cells of class a, or, where it has none and is not lawful, turns over the cell that makes it so. The number is
-// 6 where the class is out of reach.
-fn mend_class(layout: Layout, a: u16, before: Buffer) -> Answer
-    ensures { result.number ≤ 6 }
-{
-    if unread(layout, a, before) != 0 {
+// The field with the cell of class a turned over that makes the class lawful, if one does.
+fn turn(layout: &Layout, a: u16, before: Buffer) -> Option<Buffer> {
+    for (j, entry) in layout.entries().iter().enumerate() {
+        if entry.class == a {
+            let mut field = before;
+            field[j] ^= 1;
+            if lawful(layout, a, &field) {
+                return Some(field);
+            }
+        }
+    }
+    None
+}
+
+// Fills the unread cells of class a, or, where it has none and is not lawful, turns over the cell that makes it so. There is none
+// where the class is out of reach.
+fn mend_class(layout: &Layout, a: u16, before: Buffer) -> Option<Buffer> {
+    if unread(layout, a, &before) != 0 {
         return fill(layout, a, before);
     }
-    if lawful(layout, a, before) {
-        return answer::leaving(0, before);
+    if lawful(layout, a, &before) {
+        return Some(before);
     }
-    let j = culprit(layout, a, before);
-    if CELLS <= j {
-        return answer::leaving(6, before);
-    }
-    let mut field = before;
-    field[j] = field[j] ^ 1;
-    answer::leaving(0, field)
+    turn(layout, a, before)
 }
 
-// In how many cells two fields differ.
-pub(crate) fn differences(one: Buffer, other: Buffer) -> usize
-    ensures { result ≤ 512 }
-{
-    let mut n = 0;
-    let mut i = 0;
-    while i < CELLS {
-        if one[i] != other[i] {
-            n += 1;
-        }
-        i += 1;
-    }
-    n
+// What the cells that hold no check spell, eight to a byte, and what those spell that are left over, the filler.
+#[derive(Clone, Copy)]
+struct Spelling {
+    payload: Buffer,
+    filler: u8,
 }
 
-// Mends m classes, one after the other. The figure: in how many cells the field then differs. The number is 6 where a class is
-// out of reach.
-fn mend_classes(layout: Layout, m: u16, before: Buffer) -> Answer
-    requires { m ≤ 512 }
-    ensures { (result.number ≤ 6) × (slice_index result.figures 0 ≤ 512) }
-{
-    let mut field = before;
-    let mut a = 0;
-    while a < m {
-        let mended = mend_class(layout, a, field);
-        if mended.number != 0 {
-            return answer::leaving(mended.number, before);
-        }
-        let other = mended.buffer;
-        field = other;
-        a += 1;
-    }
-    Answer {
-        number: 0,
-        figures: [differences(before, field), 0, 0, 0, 0, 0],
-        buffer: field,
-    }
-}
-
-// What the cells that hold no check spell, eight to a byte. In the last byte stand those that are left over, the filler.
-fn spelt(layout: Layout, field: Buffer) -> Buffer {
-    let mut spelt = [0u8; CELLS];
+// What a field spells, read in byte order.
+fn spelt(layout: &Layout, field: &Buffer) -> Spelling {
+    let mut payload = [0u8; CELLS];
     let mut k = 0;
-    let mut i = 0;
-    while i < CELLS {
-        if layout[i] < NO_CELL {
+    for (i, entry) in layout.entries().iter().enumerate() {
+        if !entry.is_check {
             let q = k / 8;
-            spelt[q] = (spelt[q] << 1) | field[i];
+            payload[q] = (payload[q] << 1) | field[i];
             k += 1;
         }
-        i += 1;
     }
-    spelt[CELLS - 1] = spelt[k / 8];
-    spelt
+    let filler = payload[k / 8];
+    Spelling { payload, filler }
 }
 
 // Whether the cells that a capacity leaves over spell the first bits of the pattern or of the zeros.
 fn is_filler(spelt: u8, capacity: usize) -> bool {
     let missing = 8 - capacity % 8;
-    let bits = spelt as u16;
-    if bits == (PATTERN as u16) >> missing {
-        return true;
+    [PATTERN, ZEROS]
+        .iter()
+        .any(|filler| u16::from(*filler) >> missing == u16::from(spelt))
+}
+
+// Mends the first `cells` of a field, class by class.
+fn mended(laid: &Laid, before: Buffer, cells: usize) -> Result<Left, Declined>
+    ensures { IfErr result IsUnshaded }
+{
+    if is_soiled(cells, &before, UNREAD) {
+        return Err(Declined::BadCell);
     }
-    bits == (ZEROS as u16) >> missing
+    let layout = &laid.layout;
+    if (0..laid.classes).any(|a| MOST_UNREAD < unread(layout, a, &before)) {
+        return Err(Declined::TooManyUnread);
+    }
+    let mut field = before;
+    for a in 0..laid.classes {
+        field = mend_class(layout, a, field).ok_or(Declined::OutOfReach)?;
+    }
+    if !is_filler(spelt(layout, &field).filler, laid.capacity) {
+        return Err(Declined::BadFiller);
+    }
+    Ok(Left {
+        count: differences(&before, &field),
+        buffer: field,
+    })
+}
+
+// A mended field, where the operation does not decline.
+fn mended_by_shape(shape: Shape, field: Buffer, cells: usize) -> Result<Left, Declined>
+    ensures { IfErr result IsUnshaded }
+{
+    let laid = lay_out(shape)?;
+    laid.accept(0, 0, cells)?;
+    mended(&laid, field, cells)
 }
 
 // Mends the first `cells` of a field; there is no payload, and none is asked for. The figure: the count.
 pub fn mend(shape: Shape, field: Buffer, cells: usize) -> Answer
     ensures { (result.number ≤ 11) × (slice_index result.figures 0 ≤ 512) }
 {
-    let number = write::refusal(shape, 0, 0, cells);
-    if number != 0 {
-        return answer::leaving(number, field);
-    }
-    if is_soiled(cells, field, UNREAD) {
-        return answer::leaving(5, field);
-    }
-    let laid = lay_out(shape);
-    let layout = laid.layout;
-    let m = settings::settings_of(shape).m;
-    if too_many_unread(layout, m, field) {
-        return answer::leaving(10, field);
-    }
-    let found = mend_classes(layout, m, field);
-    if found.number != 0 {
-        return found;
-    }
-    let mended = found.buffer;
-    if is_filler(spelt(layout, mended)[CELLS - 1], laid.capacity) {
-        return found;
-    }
-    answer::leaving(7, field)
+    answer::counted(mended_by_shape(shape, field, cells), field)
 }
 
 // The start of a buffer, before what is left of another.
-fn joined(start: Buffer, length: usize, rest: Buffer) -> Buffer {
+fn joined(start: &Buffer, length: usize, rest: Buffer) -> Buffer {
     let mut buffer = rest;
-    let mut q = 0;
-    while q < CELLS {
-        if q < length {
-            buffer[q] = start[q];
-        }
-        q += 1;
+    for (byte, spelt) in buffer.iter_mut().zip(start.iter()).take(length) {
+        *byte = *spelt;
     }
     buffer
+}
+
+// A payload with the bytes of a mended field, where the operation does not decline.
+fn payload_of(
+    shape: Shape,
+    payload: Buffer,
+    bytes: usize,
+    field: Buffer,
+    cells: usize,
+) -> Result<Left, Declined>
+    ensures { IfErr result IsUnshaded }
+{
+    let laid = lay_out(shape)?;
+    laid.accept(laid.capacity / 8, bytes, cells)?;
+    let mended = mended(&laid, field, cells)?;
+    let spelt = spelt(&laid.layout, &mended.buffer);
+    Ok(Left {
+        buffer: joined(&spelt.payload, bytes, payload),
+        count: mended.count,
+    })
 }
 
 // Reads the first `cells` of a field into the first `bytes` of a payload. The figure: the count.
 pub fn read(shape: Shape, payload: Buffer, bytes: usize, field: Buffer, cells: usize) -> Answer
     ensures { result.number ≤ 11 }
 {
-    let laid = lay_out(shape);
-    let number = write::refusal(shape, laid.capacity / 8, bytes, cells);
-    if number != 0 {
-        return answer::leaving(number, payload);
-    }
-    let found = mend(shape, field, cells);
-    if found.number != 0 {
-        return answer::leaving(found.number, payload);
-    }
-    let mended = found.buffer;
-    let figures = found.figures;
-    let layout = laid.layout;
-    let spelt = spelt(layout, mended);
-    let buffer = joined(spelt, bytes, payload);
-    Answer {
-        number: 0,
-        figures,
-        buffer,
-    }
+    answer::counted(payload_of(shape, payload, bytes, field, cells), payload)
 }

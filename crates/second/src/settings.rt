@@ -1,6 +1,8 @@
 // The limits of a shape, its settings, and the class of a cell.
-ghost use Rattle.std.specs.Prelude.{◌<◌, ◌≤◌};
+ghost use Rattle.std.specs.Prelude.{◌<◌, ◌≤◌, IfErr, MatchResult};
+ghost use Rattle.second.specs.Declined.{IsUnshaded};
 
+use crate::declined::Declined;
 use crate::window;
 use lattice::shape::Shape;
 
@@ -10,6 +12,14 @@ pub(crate) struct Settings {
     pub(crate) m: u16,
     pub(crate) b: u16,
     pub(crate) c: u16,
+}
+
+// Where a cell stands in a field.
+#[derive(Clone, Copy)]
+pub(crate) struct Spot {
+    pub(crate) row: usize,
+    pub(crate) plane: usize,
+    pub(crate) column: usize,
 }
 
 // The most classes that a shape has.
@@ -24,63 +34,46 @@ fn times(x: u16, y: usize) -> usize
     x as usize * (y % 65536)
 }
 
-// W × H × D, and 0 where that is above 65,536.
-pub(crate) fn cells(shape: Shape) -> usize
-    ensures { result ≤ 65536 }
-{
-    let area = times(shape.columns, shape.rows as usize);
-    let cells = area * shape.planes as usize;
-    if MOST_CELLS < cells { 0 } else { cells }
+// W × H × D.
+fn product(shape: Shape) -> usize {
+    times(shape.columns, shape.rows as usize) * shape.planes as usize
 }
 
-// Whether x is not from 1 to `high`.
-fn outside(high: usize, x: usize) -> bool {
-    if x == 0 {
-        return true;
-    }
-    high < x
-}
-
-// The number with which the strength and the window of a shape are declined, where its sides are accepted.
-fn strength_refusal(shape: Shape) -> usize
-    ensures { result ≤ 11 }
+// Whether the strength and the window of a shape are accepted, where its sides are.
+fn accept_strength(shape: Shape) -> Result<(), Declined>
+    ensures { IfErr result IsUnshaded }
 {
     let most = if shape.planes == 1 { 32 } else { 8 };
     let window = shape.window;
-    if most < shape.strength {
-        return 2;
+    if most < shape.strength || (shape.strength == 0 && window::is_none(window)) {
+        return Err(Declined::BadStrength);
     }
-    if shape.strength != 0 {
-        return if window::is_none(window) { 0 } else { 11 };
+    let fits = if shape.strength == 0 {
+        shape.planes == 1 && window::classes(window).is_some()
+    } else {
+        window::is_none(window)
+    };
+    if fits {
+        Ok(())
+    } else {
+        Err(Declined::BadWindow)
     }
-    if window::is_none(window) {
-        return 2;
-    }
-    if shape.planes != 1 {
-        return 11;
-    }
-    if window::classes(window) == 0 { 11 } else { 0 }
 }
 
-// The number with which a shape is declined, 0 where it is accepted.
-pub(crate) fn refusal(shape: Shape) -> usize
-    ensures { result ≤ 11 }
+// The number of cells of a shape that is accepted.
+pub(crate) fn accept(shape: Shape) -> Result<usize, Declined>
+    ensures { MatchResult result (λ cells. cells ≤ 65536) IsUnshaded }
 {
-    if outside(256, shape.columns as usize) {
-        return 1;
+    let sides = (1..=256).contains(&shape.columns) && (1..=256).contains(&shape.rows);
+    let cells = product(shape);
+    if !sides || !(1..=16).contains(&shape.planes) || MOST_CELLS < cells {
+        return Err(Declined::BadSize);
     }
-    if outside(256, shape.rows as usize) {
-        return 1;
-    }
-    if outside(16, shape.planes as usize) {
-        return 1;
-    }
-    if cells(shape) == 0 {
-        return 1;
-    }
-    strength_refusal(shape)
+    accept_strength(shape)?;
+    Ok(cells)
 }
 
+// The settings of a stack of planes at strength t.
 fn stack(t: u16) -> Settings
     ensures { result.m ≤ 512 }
 {
@@ -100,7 +93,7 @@ fn stack(t: u16) -> Settings
     }
 }
 
-// An even square is halved, and of an odd one the half is rounded up.
+// The settings of one plane at strength t: an even square is halved, and of an odd one the half is rounded up.
 fn flat(t: u16) -> Settings
     requires { t ≤ 32 }
     ensures { result.m ≤ 512 }
@@ -114,55 +107,48 @@ fn flat(t: u16) -> Settings
 pub(crate) fn settings_of(shape: Shape) -> Settings
     ensures { result.m ≤ 512 }
 {
-    let t = shape.strength;
-    let window = shape.window;
-    if t == 0 {
-        return Settings {
-            m: window::classes(window) as u16,
+    match shape.strength {
+        0 => Settings {
+            m: window::classes(shape.window).unwrap_or(0) as u16,
             b: 0,
             c: 0,
-        };
+        },
+        t if shape.planes == 1 && t <= 32 => flat(t),
+        t => stack(t),
     }
-    if shape.planes == 1 {
-        if t <= 32 {
-            return flat(t);
-        }
-    }
-    stack(t)
 }
 
-// b × row + c × plane.
-pub(crate) fn steps(s: Settings, row: usize, plane: usize) -> usize
-    ensures { result < 8589934592 }
-{
-    times(s.b, row) + times(s.c, plane)
-}
-
-// The class of a cell by settings, by search: the first a of 0 to m − 1 of which a + b × row + c × plane and the column have the
-// same remainder.
-fn class_by(s: Settings, row: usize, plane: usize, column: usize) -> usize
-    requires { s.m ≤ 512 }
-    ensures { result < 512 }
-{
-    let m = s.m as usize;
-    let before = steps(s, row, plane);
-    let mut a = 0;
-    while a < m {
-        if (a + before) % m == column % m {
-            return a;
-        }
-        a += 1;
+impl Settings {
+    // b × row + c × plane.
+    pub(crate) fn steps(self, row: usize, plane: usize) -> usize
+        ensures { result < 8589934592 }
+    {
+        times(self.b, row) + times(self.c, plane)
     }
-    0
+
+    // The class of a cell, by search: the first a of 0 to m − 1 of which a + b × row + c × plane and the column have the same
+    // remainder.
+    fn class(self, spot: Spot) -> usize
+        requires { self.m ≤ 512 }
+        ensures { result < 512 }
+    {
+        let m = self.m as usize;
+        let before = self.steps(spot.row, spot.plane);
+        for a in 0..m {
+            if (a + before) % m == spot.column % m {
+                return a;
+            }
+        }
+        0
+    }
 }
 
 // The class of a cell of an accepted shape.
-pub(crate) fn class(shape: Shape, row: usize, plane: usize, column: usize) -> usize
+pub(crate) fn class(shape: Shape, spot: Spot) -> usize
     ensures { result < 512 }
 {
-    let window = shape.window;
     if shape.strength == 0 {
-        return window::class(window, row, column);
+        return window::class(shape.window, spot.row, spot.column);
     }
-    class_by(settings_of(shape), row, plane, column)
+    settings_of(shape).class(spot)
 }

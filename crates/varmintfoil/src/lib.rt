@@ -15,7 +15,9 @@ use crate::operations::{
     class_of, correct_in, correct_levels_in, decode_in, decode_levels_in, encode_in,
     encode_levels_in, plan_of,
 };
-use lattice::distance::distance_test;
+use codec::plan::figures;
+use lattice::distance::{distance_test, failing, holds, tried};
+use lattice::refusal::{figure, number};
 use lattice::shape::ShapeNumbers;
 
 #[repr(C)]
@@ -69,9 +71,9 @@ pub extern "C" fn varmintfoil_plan(shape: ShapeNumbers) -> PlanResult
     ensures { IsPlanResult (shape_from shape) result }
 {
     let answer = plan_of(shape);
-    let figures = answer.figures();
+    let figures = figures(answer);
     PlanResult {
-        number: answer.number(),
+        number: number(&answer),
         classes: figures.classes,
         capacity: figures.capacity,
         bytes: figures.bytes,
@@ -93,8 +95,8 @@ pub extern "C" fn varmintfoil_class(
 {
     let answer = class_of(shape, row, plane, column);
     ClassResult {
-        number: answer.number(),
-        class_index: answer.class(),
+        number: number(&answer),
+        class_index: figure(answer),
     }
 }
 
@@ -103,8 +105,7 @@ pub extern "C" fn varmintfoil_class(
 pub extern "C" fn varmintfoil_encode(shape: ShapeNumbers, payload: &[u8], field: &mut [u8]) -> usize
     ensures { IsEncodeResult (shape_from shape) payload.now field.old field.new result }
 {
-    let answer = encode_in(shape, payload, field);
-    answer.number()
+    number(&encode_in(shape, payload, field))
 }
 
 // Fills the payload and gives the number of cells changed, or gives the refusal 1, 2, 11, 3, 4, 5, 10, 6 or 7.
@@ -118,8 +119,8 @@ pub extern "C" fn varmintfoil_decode(
 {
     let answer = decode_in(shape, payload, field);
     CountResult {
-        number: answer.number(),
-        count: answer.count(),
+        number: number(&answer),
+        count: figure(answer),
     }
 }
 
@@ -130,8 +131,8 @@ pub extern "C" fn varmintfoil_correct(shape: ShapeNumbers, field: &mut [u8]) -> 
 {
     let answer = correct_in(shape, field);
     CountResult {
-        number: answer.number(),
-        count: answer.count(),
+        number: number(&answer),
+        count: figure(answer),
     }
 }
 
@@ -144,8 +145,7 @@ pub extern "C" fn varmintfoil_encode_levels(
 ) -> usize
     ensures { IsEncodeLevelResult (shape_from shape) payload.now field.old field.new result }
 {
-    let answer = encode_levels_in(shape, payload, field);
-    answer.number()
+    number(&encode_levels_in(shape, payload, field))
 }
 
 // Fills the payload with the digits of a field of levels and gives the number of word cells that differ, or gives the refusal 1,
@@ -160,8 +160,8 @@ pub extern "C" fn varmintfoil_decode_levels(
 {
     let answer = decode_levels_in(shape, payload, field);
     CountResult {
-        number: answer.number(),
-        count: answer.count(),
+        number: number(&answer),
+        count: figure(answer),
     }
 }
 
@@ -172,8 +172,8 @@ pub extern "C" fn varmintfoil_correct_levels(shape: ShapeNumbers, field: &mut [u
 {
     let answer = correct_levels_in(shape, field);
     CountResult {
-        number: answer.number(),
-        count: answer.count(),
+        number: number(&answer),
+        count: figure(answer),
     }
 }
 
@@ -188,14 +188,13 @@ pub extern "C" fn varmintfoil_distance_test(
     ensures { IsDistanceResult m b c t result }
 {
     let answer = distance_test(m, b, c, t);
-    let triple = answer.triple();
-    let tried = answer.tried() as usize;
+    let triple = failing(answer);
     DistanceResult {
-        number: answer.number(),
-        holds: as_number(answer.holds()),
+        number: number(&answer),
+        holds: as_number(holds(answer)),
         row: triple.row,
         plane: triple.plane,
         column: triple.column,
-        tried,
+        tried: tried(answer) as usize,
     }
 }

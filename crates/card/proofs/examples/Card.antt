@@ -23,12 +23,11 @@ use Rattle.codec.proofs.examples.Erased.{is_mate, mates_selected}
 use Rattle.codec.proofs.examples.Windows.{window_payload, window_payload_long, window_payload_bytes, window_written}
 use Rattle.codec.proofs.examples.Windows.{window_from_lem}
 use Rattle.codec.proofs.examples.Windows.{is_edge, window_selected, window_damaged, is_either, windows_selected, windows_erased}
+use Rattle.std.specs.Prelude.{Some, None}
 use Rattle.card.specs.declared.header.Header.{Header}
-use Rattle.card.specs.declared.header.HeaderAnswer.TheVariants as head
-use Rattle.card.specs.declared.header.WindowLines.TheVariants as sides
 use Rattle.card.specs.Text.{header_text, number_line, payload_text, mended_key}
 use Rattle.card.specs.Card.{max_answer, shape_of, FieldCells, CardHeader, payload_card, field_card}
-use Rattle.card.specs.Parse.{header_of, payload_ok}
+use Rattle.card.specs.Parse.{read, header_of, payload_ok}
 use Rattle.card.specs.Program.{blank_payload, rows_fit, answer}
 use Rattle.card.specs.Form.{HeaderFirst, Body, CardText}
 use Rattle.card.specs.theorems.Outputs.{longest_header}
@@ -42,7 +41,7 @@ use Rattle.card.proofs.theorems.RoundTrip.{erased_is_read, window_is_read}
 
 -- its header is one of a card
 abbrev pub header : Header
-header = record { columns = 5; rows = 5; planes = 1; strength = 3; window = sides.Absent }
+header = record { columns = 5; rows = 5; planes = 1; strength = 3; window = None }
 
 pub card : CardHeader header
 card = record { accepted = accepted; cells = lit≤ tt }
@@ -55,7 +54,7 @@ pub field_cells : FieldCells header cells
 field_cells = written_cells header card payload payload_long payload_bytes_lem
 
 -- its text is read: the header, the payload, and the rows
-pub header_found : header_of (payload_card header payload) ≡ head.Found header (length (header_text header))
+pub header_found : header_of (payload_card header payload) ≡ read header (length (header_text header))
 header_found = (text_parses.payload_header header card payload).0
 
 pub header_first : HeaderFirst (payload_card header payload)
@@ -71,7 +70,7 @@ header_first =
 pub payload_right : payload_ok (payload_card header payload) (length (header_text header)) ≡ true
 payload_right = (text_parses.payload_back header payload payload_bytes_lem).0
 
-pub rows_found : header_of (field_card header cells) ≡ head.Found header (length (header_text header))
+pub rows_found : header_of (field_card header cells) ≡ read header (length (header_text header))
 rows_found = (text_parses.field_header header card cells).0
 
 pub rows_right : rows_fit (field_card header cells) header (length (header_text header)) ≡ true
@@ -92,7 +91,7 @@ mates_read =
 
 -- a card by window: codec's field of 7 columns and 5 rows with a window of 2 rows and 3 columns
 abbrev pub window_header : Header
-window_header = record { columns = 7; rows = 5; planes = 1; strength = 0; window = sides.Given (window 2 3) }
+window_header = record { columns = 7; rows = 5; planes = 1; strength = 0; window = Some (window 2 3) }
 
 pub window_card : CardHeader window_header
 window_card = record { accepted = window_accepted; cells = lit≤ tt }

@@ -1,131 +1,78 @@
--- The lines of some keys, read, looked for and written one after the other by the index of their keys.
+-- The lines of some keys, read and written one after the other by the index of their keys.
 use Prim.Native.Nat.{ℕ, zero, suc, ◌+◌, ◌<◌, ◌≤◌}
-use mathlib.Core.Bool.{Bool, true, false, ◌||◌}
-use mathlib.Core.List.{List, [], ◌∷◌, ◌++◌, append_assoc, append-nil}
-use mathlib.Core.Path.{◌≡◌, refl, sym, ap, ap₂, subst, ◌∙◌}
-use native.Mathlib.Nat.{not-suc-le-zero, le_of_suc-le-suc, le_antisymm}
+use mathlib.Core.Bool.{◌||◌}
+use mathlib.Core.List.{List, [], ◌∷◌, ◌++◌, map, append_assoc, append-nil}
+use mathlib.Core.Path.{◌≡◌, refl, sym, ap, subst, ◌∙◌}
+use native.Mathlib.Nat.{not-suc-le-zero, le_of_suc-le-suc}
 use native.Mathlib.Numerals.{add-one}
 use native.Mathlib.Omega.{arith}
-use lib.ListN.{length, get_or, set, take, drop, length-set, length-drop, take-append-drop, drop_of_length-le}
-use lib.Seq.{take-suc, take-suc-set, take_all, drop-cons, get_or-take, get_or-drop, length-take-le}
-use Rattle.codec.specs.Field.{field_of, list_of}
-use Rattle.codec.proofs.theory.FieldLists.{list_field}
-use Rattle.card.specs.declared.line.Line.{Line}
-use Rattle.card.specs.declared.line.Line.TheVariants as line
+use denote.Ref.{Bor}
+use lib.ListN.{length, get_or, set, take, drop, length-set, take-append-drop}
+use lib.Seq.{take-suc, take-suc-set, take_all, drop-cons}
+use Rattle.std.proofs.lemmas.List.{length-map, get_or-map}
+use Rattle.std.specs.List.{list_any}
+use Rattle.std.specs.Prelude.{Option, Some, None}
+use Rattle.card.specs.declared.scan.Found.{Found}
 use Rattle.card.specs.Text.{number_line, NumberLine, lines_text, lines_of}
-use Rattle.card.specs.Parse.{key_at, line_at, LinesRead, read, fault, before, after_line, lines_at, any_key_at}
-use Rattle.card.specs.Working.{all_keys, keys_from, HasRoom, Printed}
+use Rattle.card.specs.Parse.{key_at, line_at, LinesRead, read, before, after_line, lines_at, any_key_at}
+use Rattle.card.specs.Working.{HasRoom, Printed}
 use Rattle.card.proofs.theory.LineText.{at_line, line_inside}
 use Rattle.card.proofs.theory.LinesText.{lines_append}
-use Rattle.card.proofs.theory.Printed.{printed_none, printed_then, printed_long, room_first, room_next}
+use Rattle.card.proofs.theory.Printed.{printed_then, room_first, room_next}
 
--- some of the keys, from a first one on: how many they are, and the key of an index
-module _ (first count : ℕ) (fits : first + count ≤ length all_keys) where
-  pub keys_long : length (keys_from first count) ≡ count
-  unfolding keys_from
-  keys_long = length-take-le count (drop first all_keys) (omega (arith, length-drop first all_keys))
+-- the keys that a list of borrowed keys holds
+abbrev pub texts : List (Bor (List ℕ)) → List (List ℕ)
+texts ks = map (λ key. key.now) ks
 
-  pub key_index : (k : ℕ) → k < count → get_or (keys_from first count) k [] ≡ get_or all_keys (first + k) []
-  unfolding keys_from
-  key_index k l = get_or-take count (drop first all_keys) k [] l ∙ get_or-drop first all_keys k []
+pub texts_long : (ks : List (Bor (List ℕ))) → length (texts ks) ≡ length ks
+texts_long ks = length-map ks (λ key. key.now)
+
+pub text_of : (ks : List (Bor (List ℕ))) (k : ℕ) (d : Bor (List ℕ)) → k < length ks → (get_or ks k d).now ≡ get_or (texts ks) k []
+text_of ks k d l = sym (get_or-map (λ key. key.now) ks k d [] l)
+
+-- one of them stands at a position
+pub any_text : (ks : List (Bor (List ℕ))) (s : List ℕ) (at : ℕ)
+    → list_any (λ key. key_at key.now s at) ks ≡ any_key_at (texts ks) s at
+any_text [] s at = refl
+any_text (k ∷ ks) s at = ap (λ b. key_at k.now s at || b) (any_text ks s at)
 
 -- numbers put before numbers
 before_more : (ns : List ℕ) (n : ℕ) (r : LinesRead) → before ns (before (n ∷ []) r) ≡ before (ns ++ (n ∷ [])) r
-before_more ns n (read ms next) = ap (λ (l : List ℕ). read l next) (sym (append_assoc ns (n ∷ []) ms))
-before_more ns n fault = refl
-
-before_none : (r : LinesRead) → before [] r ≡ r
-before_none (read ms next) = refl
-before_none fault = refl
-
--- the first numbers of a buffer
-first_numbers : (ns : List ℕ) (k : ℕ) → k ≤ length ns → take k ns ≡ list_of (field_of ns) k
-first_numbers ns k l = list_field (take k ns) (field_of ns) k (length-take-le k ns l) (λ i m. get_or-take k ns i 0 m)
+before_more ns n (Some r) = ap (λ (l : List ℕ). read l r.next) (sym (append_assoc ns (n ∷ []) r.value))
+before_more ns n None = refl
 
 module _ (keys : List (List ℕ)) (s : List ℕ) (at : ℕ) where
   -- k lines are read: the others are to be read from `next` on
   pub record Reading (numbers : List ℕ) (next k : ℕ) : Type 0 where
     pub some : k ≤ length keys
     pub inside : next ≤ length s
-    pub room : length keys ≤ length numbers
+    pub room : length keys ≡ length numbers
     pub reads : lines_at keys s at ≡ before (take k numbers) (lines_at (drop k keys) s next)
-
-  pub reading_none : (numbers : List ℕ) → length keys ≤ length numbers → at ≤ length s → Reading numbers at 0
-  reading_none numbers room l =
-      record { some = omega arith; inside = l; room = room; reads = sym (before_none (lines_at keys s at)) }
 
   module _ (numbers : List ℕ) (next k : ℕ) (x : Reading numbers next k) where
     -- the next line, whatever it is
-    one_more : (key : List ℕ) → key ≡ get_or keys k [] → k < length keys → (r : Line) → line_at key s next ≡ r
+    one_more : (key : List ℕ) → key ≡ get_or keys k [] → k < length keys → (r : Option (Found ℕ)) → line_at key s next ≡ r
         → lines_at keys s at ≡ before (take k numbers) (after_line (lines_at (drop (suc k) keys) s) r)
     one_more key same l r e =
         x.reads
         ∙ ap (λ (ks : List (List ℕ)). before (take k numbers) (lines_at ks s next)) (drop-cons keys k [] l)
-        ∙ ap (λ (a : Line). before (take k numbers) (after_line (lines_at (drop (suc k) keys) s) a))
+        ∙ ap (λ (a : Option (Found ℕ)). before (take k numbers) (after_line (lines_at (drop (suc k) keys) s) a))
         (ap (λ (a : List ℕ). line_at a s next) (sym same) ∙ e)
 
     pub reading_more : (key : List ℕ) → key ≡ get_or keys k [] → k < length keys
-        → (n behind : ℕ) → line_at key s next ≡ line.Number n behind → Reading (set numbers k n) behind (k + 1)
+        → (n behind : ℕ) → line_at key s next ≡ read n behind → Reading (set numbers k n) behind (k + 1)
     reading_more key same l n behind e =
         record {
           some = omega arith;
           inside = line_inside key s next n behind (at_line key s next n behind e);
           room = omega (arith, length-set numbers k n, x.room);
           reads =
-              one_more key same l (line.Number n behind) e
+              one_more key same l (read n behind) e
               ∙ before_more (take k numbers) n (lines_at (drop (suc k) keys) s behind)
               ∙ ap (λ (ns : List ℕ). before ns (lines_at (drop (suc k) keys) s behind))
               (sym (take-suc-set numbers k n (omega (arith, x.room))))
               ∙ ap (λ (j : ℕ). before (take j (set numbers k n)) (lines_at (drop j keys) s behind)) (sym (add-one k));
         }
-
-    pub reading_fault : (key : List ℕ) → key ≡ get_or keys k [] → k < length keys → line_at key s next ≡ line.Fault
-        → fault ≡ lines_at keys s at
-    reading_fault key same l e = sym (one_more key same l line.Fault e)
-
-    pub reading_all : (count : ℕ) → length keys ≡ count → count ≤ k
-        → read (list_of (field_of numbers) count) next ≡ lines_at keys s at
-    reading_all count long l =
-        sym
-        (x.reads
-        ∙ ap₂ (λ (ns : List ℕ) (ks : List (List ℕ)). before ns (lines_at ks s next))
-        (ap (λ (j : ℕ). take j numbers) (le_antisymm (omega (arith, x.some)) l)
-        ∙ first_numbers numbers count (omega (arith, x.room)))
-        (drop_of_length-le keys {i = k} (omega arith))
-        ∙ ap (λ (ns : List ℕ). read ns next) (append-nil (list_of (field_of numbers) count)))
-
-  -- none of k keys stands there
-  pub record Looking (k : ℕ) : Type 0 where
-    pub some : k ≤ length keys
-    pub left : any_key_at keys s at ≡ any_key_at (drop k keys) s at
-
-  pub looking_none : Looking 0
-  looking_none = record { some = omega arith; left = refl }
-
-  module _ (k : ℕ) (x : Looking k) where
-    -- the test of the next key, and what it says
-    module _ (key : List ℕ) (same : key ≡ get_or keys k []) (l : k < length keys) (b : Bool) (test : b ≡ key_at key s at) where
-      next_key : any_key_at keys s at ≡ (b || any_key_at (drop (suc k) keys) s at)
-      next_key =
-          x.left
-          ∙ ap (λ (ks : List (List ℕ)). any_key_at ks s at) (drop-cons keys k [] l)
-          ∙ ap (λ (a : Bool). a || any_key_at (drop (suc k) keys) s at) (ap (λ (a : List ℕ). key_at a s at) (sym same) ∙ sym test)
-
-      pub looking_found : b ≡ true → true ≡ any_key_at keys s at
-      looking_found e = sym (next_key ∙ ap (λ (a : Bool). a || any_key_at (drop (suc k) keys) s at) e)
-
-      pub looking_more : b ≡ false → Looking (k + 1)
-      looking_more e =
-          record {
-            some = omega arith;
-            left =
-                next_key
-                ∙ ap (λ (a : Bool). a || any_key_at (drop (suc k) keys) s at) e
-                ∙ ap (λ (j : ℕ). any_key_at (drop j keys) s at) (sym (add-one k));
-          }
-
-    pub looking_all : length keys ≤ k → false ≡ any_key_at keys s at
-    looking_all l = sym (x.left ∙ ap (λ (ks : List (List ℕ)). any_key_at ks s at) (drop_of_length-le keys {i = k} l))
 
 -- the line of an index
 no_line : NumberLine
@@ -150,9 +97,6 @@ pub record Writing (lines : List NumberLine) (xs : List ℕ) (at : ℕ) (ys : Li
 
 module _ {xs : List ℕ} {at : ℕ} (keys : List (List ℕ)) (ns : List ℕ) (count : length keys ≡ length ns)
     (room : HasRoom xs at (lines_text (lines_of keys ns))) where
-  pub writing_none : Writing (lines_of keys ns) xs at xs at 0
-  writing_none = record { some = omega arith; printed = printed_none xs at (omega (arith, room.fits)) }
-
   -- the lines before index k have room
   room_of : (k : ℕ) → HasRoom xs at (lines_text (take k (lines_of keys ns)))
   room_of k =
@@ -161,9 +105,6 @@ module _ {xs : List ℕ} {at : ℕ} (keys : List (List ℕ)) (ns : List ℕ) (co
       room_first (lines_text (drop k all)) (subst (λ (t : List ℕ). HasRoom xs at t) parts room)
 
   module _ {ys : List ℕ} {next k : ℕ} (x : Writing (lines_of keys ns) xs at ys next k) where
-    pub writing_long : length ys ≡ length xs
-    writing_long = printed_long (room_of k) x.printed
-
     pub writing_all : length ns ≤ k → Printed xs ys at (lines_text (lines_of keys ns)) next
     writing_all l =
         subst (λ (ls : List NumberLine). Printed xs ys at (lines_text ls) next)

@@ -1,38 +1,24 @@
 -- A decimal number, read digit by digit.
-use Prim.Native.Nat.{ℕ, zero, suc, ◌+◌, ◌-◌, ◌*◌, ◌<◌, ◌≤◌}
-use mathlib.Core.Bool.{Bool, true, false, not, ◌&&◌, ◌||◌}
+use Prim.Native.Nat.{ℕ, zero, suc, ◌+◌, ◌<◌, ◌≤◌}
+use mathlib.Core.Bool.{true, false}
 use mathlib.Core.List.{List}
-use mathlib.Core.Path.{◌≡◌, refl, sym, ap, subst, ◌∙◌}
-use native.Mathlib.Nat.{add-zero, le_antisymm, lt_of_lt_of_le, pow-le-pow_right}
-use native.Mathlib.Numerals.{add-one}
+use mathlib.Core.Path.{◌≡◌, refl, sym, subst}
+use native.Mathlib.Nat.{add-zero, lt_of_lt_of_le, pow-le-pow_right}
 use native.Mathlib.Omega.{arith}
-use lib.Dec.{eqb, lit<}
+use lib.Dec.{lit<}
 use lib.ListN.{length, get_or}
-use borrow.Author.Count.{below_none, below_more}
-use borrow.Author.Tests.{eq-eqb, ne_eqb}
-use Rattle.lattice.specs.Range.{in_range}
-use Rattle.lattice.proofs.theory.Bools.{and_false_right}
 use Rattle.lattice.proofs.theory.Limits.{range_low, range_high}
-use Rattle.card.specs.declared.line.Line.{Line}
-use Rattle.card.specs.declared.line.Line.TheVariants as line
-use Rattle.card.specs.Parse.{is_digit, digit_run, digits_value, number_ends, number_at, key_at, line_at}
+use Rattle.std.specs.Prelude.{Option, None}
+use Rattle.card.specs.declared.scan.Found.{Found}
+use Rattle.card.specs.Parse.{read, is_digit, digit_run, digits_value, number_ends, number_at, key_at, line_at}
 use Rattle.card.proofs.theory.StandsAt.{byte_inside}
 use Rattle.card.proofs.theory.NumberText.{test_ends}
 use Rattle.card.proofs.theory.Digits.{DigitsAt, digits_run, run_digits, value_below}
 
 module _ (s : List ℕ) (at : ℕ) where
-  abbrev is_digit_at : ℕ → Type 0
-  is_digit_at j = is_digit (get_or s (at + j) 0) ≡ true
-
   -- the digits passed
   pub record DigitsRead (k : ℕ) : Type 0 where
     pub each : DigitsAt s at k
-
-  pub run_none : DigitsRead 0
-  run_none = record { each = below_none is_digit_at }
-
-  pub run_more : (k b : ℕ) → DigitsRead k → b ≡ get_or s (at + k) 0 → is_digit b ≡ true → DigitsRead (k + 1)
-  run_more k b p e d = record { each = below_more is_digit_at k p.each (rw e at d) }
 
   pub run_ends : (k b : ℕ) → DigitsRead k → k < 6 → b ≡ get_or s (at + k) 0 → is_digit b ≡ false → k ≡ digit_run s at 6
   run_ends k b p l e d = sym (digits_run s at k 6 p.each (rw e at d) (omega arith))
@@ -46,10 +32,8 @@ full s at (suc k) p =
     rw first (omega arith)
 
 module _ (s : List ℕ) (at : ℕ) where
-  pub run_full : (k : ℕ) → DigitsRead s at k → k ≤ 6 → 6 ≤ k → k ≡ digit_run s at 6
-  run_full k p l q =
-      let e : k ≡ 6 = le_antisymm l q in
-      e ∙ sym (full s at 6 (subst (λ (n : ℕ). DigitsAt s at n) e p.each))
+  pub run_full : (k : ℕ) → DigitsRead s at k → k ≡ 6 → 6 ≡ digit_run s at 6
+  run_full k p e = sym (full s at 6 (subst (λ (n : ℕ). DigitsAt s at n) e p.each))
 
   -- the digits of a number of at most five
   module _ (k : ℕ) (counted : k ≡ digit_run s at 6) (most : k ≤ 5) (i : ℕ) (l : i < k) where
@@ -71,44 +55,9 @@ module _ (s : List ℕ) (at : ℕ) where
         (lt_of_lt_of_le (value_below s at i (λ j m. each j (omega arith)))
         (pow-le-pow_right (lit< tt) {i = i} {j = 4} (omega arith)))
 
-  pub value_more : (i v b : ℕ) → v ≡ digits_value s at i → b ≡ get_or s (at + i) 0 → v * 10 + (b - 48) ≡ digits_value s at (i + 1)
-  value_more i v b p e = rw (add-one i, p, e)
-
-  pub value_all : (i k v : ℕ) → i ≤ k → k ≤ i → v ≡ digits_value s at i → v ≡ digits_value s at k
-  value_all i k v l q p = p ∙ ap (digits_value s at) (le_antisymm l q)
-
--- the end of a number
-module _ (s : List ℕ) (at k : ℕ) where
-  -- the test of the digits alone
-  abbrev digits_end : Bool
-  digits_end = in_range 1 5 k && (eqb k 1 || not (eqb (get_or s at 0) 48))
-
-  pub ends_range : in_range 1 5 k ≡ false → false ≡ number_ends s at k
-  unfolding number_ends
-  ends_range p = rw p
-
-  pub ends_other : (b : ℕ) → b ≡ get_or s (at + k) 0 → (b ≡ 10 → ⊥) → false ≡ number_ends s at k
-  unfolding number_ends
-  ends_other b e p = sym (and_false_right digits_end _ (ne_eqb _ _ (λ q. p (e ∙ q))))
-
-  module _ (range : in_range 1 5 k ≡ true) (b : ℕ) (here : b ≡ get_or s (at + k) 0) (feeds : b ≡ 10) where
-    pub ends_one : k ≡ 1 → true ≡ number_ends s at k
-    unfolding number_ends
-    ends_one e = rw (range, eq-eqb k 1 e, eq-eqb (get_or s (at + k) 0) 10 (sym here ∙ feeds))
-
-    pub ends_more : (k ≡ 1 → ⊥) → (d : ℕ) → d ≡ get_or s (at + 0) 0 → not (eqb d 48) ≡ number_ends s at k
-    unfolding number_ends
-    ends_more p d e =
-        rw (range, ne_eqb k 1 p, eq-eqb (get_or s (at + k) 0) 10 (sym here ∙ feeds), e, add-zero at)
-        (last (not (eqb (get_or s at 0) 48)))
-      where
-        last : (t : Bool) → t ≡ (t && true)
-        last true = refl
-        last false = refl
-
 -- a number at a position
 module _ (s : List ℕ) (at k : ℕ) (counted : k ≡ digit_run s at 6) where
-  pub number_faults : number_ends s at k ≡ false → line.Fault ≡ number_at s at
+  pub number_faults : number_ends s at k ≡ false → None ≡ number_at s at
   unfolding number_at
   number_faults p = rw (← counted, p)
 
@@ -119,16 +68,16 @@ module _ (s : List ℕ) (at k : ℕ) (counted : k ≡ digit_run s at 6) where
     pub number_inside : at + k < length s
     number_inside = byte_inside s (at + k) (λ e. omega (arith, (test_ends s at k ends).ended))
 
-    pub number_found : (v : ℕ) → v ≡ digits_value s at k → line.Number v (at + k + 1) ≡ number_at s at
+    pub number_found : (v : ℕ) → v ≡ digits_value s at k → read v (at + k + 1) ≡ number_at s at
     unfolding number_at
     number_found v e = rw (← counted, ends, e)
 
 -- a line key=number
 module _ (key s : List ℕ) (at : ℕ) where
-  pub line_faults : key_at key s at ≡ false → line.Fault ≡ line_at key s at
+  pub line_faults : key_at key s at ≡ false → None ≡ line_at key s at
   unfolding line_at
   line_faults p = rw p
 
-  pub line_found : key_at key s at ≡ true → (r : Line) → r ≡ number_at s (at + length key) → r ≡ line_at key s at
+  pub line_found : key_at key s at ≡ true → (r : Option (Found ℕ)) → r ≡ number_at s (at + length key) → r ≡ line_at key s at
   unfolding line_at
   line_found p r e = rw p e

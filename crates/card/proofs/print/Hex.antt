@@ -2,13 +2,13 @@
 use Prim.Native.Nat.{ℕ, ◌+◌, ◌*◌, ◌/◌, ◌%◌, ◌<◌, ◌≤◌}
 use mathlib.Core.List.{List}
 use mathlib.Core.Path.{◌≡◌, sym, ap, subst, ◌∙◌}
-use native.Mathlib.Nat.{add-zero, add_assoc}
+use native.Mathlib.Nat.{add_assoc}
 use native.Mathlib.Omega.{arith}
 use lib.ListN.{length, get_or, set, take}
 use Rattle.card.specs.Text.{hex_digit, hex_text}
 use Rattle.card.specs.Working.{HasRoom, Printed}
 use Rattle.card.proofs.theory.HexText.{length_hex, hex_high, hex_low}
-use Rattle.card.proofs.theory.Printed.{prefix_none, prefix_more, prefix_long, prefix_all}
+use Rattle.card.proofs.theory.Printed.{prefix_more, prefix_long, prefix_all}
 
 -- the first j bytes are written, and the position behind them is `next`
 pub record HexPrinted (xs ys : List ℕ) (at : ℕ) (p : List ℕ) (j next : ℕ) : Type 0 where
@@ -16,9 +16,6 @@ pub record HexPrinted (xs ys : List ℕ) (at : ℕ) (p : List ℕ) (j next : ℕ
   pub behind : next ≡ at + 2 * j
 
 module _ {xs : List ℕ} {at : ℕ} {p : List ℕ} (room : HasRoom xs at (hex_text p)) where
-  pub hex_none : HexPrinted xs xs at p 0 at
-  hex_none = record { printed = prefix_none room; behind = sym (add-zero at) }
-
   module _ {ys : List ℕ} {j next : ℕ} (h : HexPrinted xs ys at p j next) where
     pub hex_long : j ≤ length p → length ys ≡ length xs
     hex_long l = prefix_long room (2 * j) (omega (arith, length_hex p)) h.printed

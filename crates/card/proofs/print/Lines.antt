@@ -2,7 +2,7 @@
 use Prim.Native.Nat.{ℕ, ◌+◌, ◌-◌, ◌*◌, ◌<◌, ◌≤◌}
 use mathlib.Core.List.{List, [], ◌∷◌, ◌++◌}
 use mathlib.Core.Path.{◌≡◌, refl, sym, ap, subst, ◌∙◌}
-use native.Mathlib.Nat.{mul-le-mul_right, le_antisymm}
+use native.Mathlib.Nat.{mul-le-mul_right}
 use native.Mathlib.Omega.{arith}
 use lib.ListN.{length, take, drop, length-drop}
 use lib.Seq.{get_or-take, get_or-drop, length-take-le}
@@ -11,7 +11,7 @@ use Rattle.card.specs.Text.{digits, digit_count, decimal, number_line, payload_k
 use Rattle.card.specs.Text.{feed, cells_text, row_text}
 use Rattle.card.specs.Working.{HasRoom, Printed}
 use Rattle.card.proofs.theory.RowText.{length_rows}
-use Rattle.card.proofs.theory.Printed.{printed_none, printed_then, printed_long, room_first, room_next}
+use Rattle.card.proofs.theory.Printed.{printed_then, printed_long, room_first, room_next}
 use Rattle.card.proofs.print.Text.{rows_more}
 
 -- a line of three parts
@@ -54,9 +54,6 @@ row_parts cells = refl
 -- rows of w cells: r of them are written
 module _ {xs : List ℕ} {at : ℕ} (w k : ℕ) (cells : List ℕ)
     (long : length cells ≡ k * w) (room : HasRoom xs at (rows_text w k cells)) where
-  pub rows_none : Printed xs xs at (rows_text w 0 cells) at
-  rows_none = printed_none xs at (omega (arith, room.fits))
-
   before : (r : ℕ) → r ≤ k → HasRoom xs at (rows_text w r cells)
   before r l =
       let less = mul-le-mul_right w l in
@@ -91,10 +88,6 @@ module _ {xs : List ℕ} {at : ℕ} (w k : ℕ) (cells : List ℕ)
           (λ (t : List ℕ). Printed xs zs at t behind)
           (ap (λ (c : List ℕ). rows_text w r cells ++ row_text c) lent ∙ sym (rows_more w r cells))
           (printed_then one_more p q)
-
-  pub rows_all : (r : ℕ) → r ≤ k → k ≤ r → {ys : List ℕ} {next : ℕ} → Printed xs ys at (rows_text w r cells) next
-      → Printed xs ys at (rows_text w k cells) next
-  rows_all r l q {ys} {next} p = subst (λ (n : ℕ). Printed xs ys at (rows_text w n cells) next) (le_antisymm l q) p
 
 -- the cells of a part are cells
 pub part_cells : (cells : List ℕ) → Received (field_of cells) (length cells) → (first n : ℕ) → first + n ≤ length cells

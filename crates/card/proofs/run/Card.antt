@@ -4,9 +4,8 @@ use mathlib.Core.Bool.{Bool}
 use mathlib.Core.List.{List, ◌++◌, append_assoc}
 use mathlib.Core.Path.{◌≡◌, sym, ap, ap₂, ◌∙◌}
 use lib.ListN.{length}
+use Rattle.std.specs.Prelude.{Result, Ok}
 use Rattle.lattice.specs.declared.shape.Shape.{Shape}
-use Rattle.lattice.specs.declared.shape.NewShape.{NewShape}
-use Rattle.lattice.specs.declared.shape.NewShape.TheVariants as new
 use Rattle.lattice.specs.declared.refusal.Refusal.{Refusal}
 use Rattle.lattice.specs.Refusal.{refusal_number, figure}
 use Rattle.lattice.specs.Answer.{IsNewShape}
@@ -34,8 +33,8 @@ use Rattle.card.proofs.theory.ProgramParts.{blank_field_lem, blank_payload_lem}
 use Rattle.card.proofs.theory.ProgramTests.{encoded_long}
 
 -- the constructor's answer to a header
-module _ (h : Header) (r : NewShape) (x : IsNewShape (shape_numbers h) r) where
-  module _ (s : Shape) (e : r ≡ new.Accepted s) where
+module _ (h : Header) (r : Result Shape Refusal) (x : IsNewShape (shape_numbers h) r) where
+  module _ (s : Shape) (e : r ≡ Ok s) where
     cells_given : (n : ℕ) → n ≡ figure (shape_number s) (cells_of s) → n ≡ cells_of (shape_of h)
     cells_given n p =
         at_cells (shape_of h) (new_accepted _ _ x s e) n
@@ -44,13 +43,6 @@ module _ (h : Header) (r : NewShape) (x : IsNewShape (shape_numbers h) r) where
     pub new_many : (n : ℕ) → n ≡ figure (shape_number s) (cells_of s) → max_card_cells < n → max_card_cells
         < cells_of (shape_of h)
     new_many n p l = rw (cells_given n p) at l
-
-    pub new_card : (n : ℕ) → n ≡ figure (shape_number s) (cells_of s) → n ≤ max_card_cells → CardShape h s
-    new_card n p l =
-        record {
-          card = record { accepted = new_accepted _ _ x s e; cells = rw (cells_given n p) at l };
-          shape = new_shape_lem _ _ x s e;
-        }
 
 -- the figures of a card's shape
 module _ (h : Header) (s : Shape) (x : CardShape h s) where

@@ -12,11 +12,11 @@ use Rattle.lattice.specs.Shape.{Accepted, cells_of, after_shape}
 use Rattle.lattice.proofs.theory.Answers.{some_number}
 use Rattle.codec.specs.Plan.{plan_bytes}
 use Rattle.codec.specs.Encode.{encode_number}
+use Rattle.std.specs.Prelude.{None}
 use Rattle.card.specs.declared.header.Header.{Header}
-use Rattle.card.specs.declared.header.HeaderAnswer.TheVariants as head
 use Rattle.card.specs.Text.{refusal_text}
 use Rattle.card.specs.Card.{max_input, max_card_cells, shape_of, CardHeader}
-use Rattle.card.specs.Parse.{header_of, payload_ok, payload_of}
+use Rattle.card.specs.Parse.{read, header_of, payload_ok, payload_of}
 use Rattle.card.specs.Program.{is_payload, rows_fit, cells_in, body_ok, number_after, program_number, answer}
 use Rattle.card.specs.Working.{HeaderRead, encoded_text, decoded_text}
 use Rattle.card.proofs.theory.ProgramParts.{body_payload, operation_payload, success_payload, body_rows, operation_rows}
@@ -30,12 +30,12 @@ pub too_long : (s : List ℕ) → max_input < length s → refusal_text 8 ≡ an
 unfolding program_number
 too_long s l = refused s why.BadForm (rw (lt-leb (length s) max_input l))
 
-pub no_header : (s : List ℕ) → length s ≤ max_input → header_of s ≡ head.Fault → refusal_text 8 ≡ answer s
+pub no_header : (s : List ℕ) → length s ≤ max_input → header_of s ≡ None → refusal_text 8 ≡ answer s
 unfolding program_number number_after
 no_header s l e = refused s why.BadForm (rw (le-leb (length s) max_input l, e))
 
 module _ (s : List ℕ) (h : Header) (next : ℕ) (x : HeaderRead s h next) where
-  number_after_lem : program_number s ≡ number_after s (head.Found h next)
+  number_after_lem : program_number s ≡ number_after s (read h next)
   unfolding program_number
   number_after_lem = rw (le-leb (length s) max_input x.short, x.found)
 

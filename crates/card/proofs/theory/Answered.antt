@@ -5,7 +5,7 @@ use mathlib.Core.List.{List, ◌∷◌, ◌++◌}
 use mathlib.Core.Path.{◌≡◌, refl, sym, ap, ◌∙◌}
 use native.Mathlib.Nat.{not-suc-le-zero, le_of_suc-le-suc}
 use native.Mathlib.Omega.{arith}
-use lib.ListN.{length, take, replicate, length-append, length-replicate}
+use lib.ListN.{length, take, replicate, length-replicate}
 use lib.Seq.{take_at}
 use Rattle.codec.specs.Payload.{Bytes}
 use Rattle.card.specs.Card.{max_answer}
@@ -33,12 +33,6 @@ zeros_count n m l = sym (ap length (zeros_take n m l) ∙ length-replicate n 0)
 module _ (n : ℕ) (last rest : List ℕ) (long : length last ≡ n) where
   pub part_again : take n (last ++ rest) ≡ last
   part_again = take_at last rest n long
-
-  pub part_within : n ≤ length (last ++ rest)
-  part_within = omega (arith, length-append last rest)
-
-  pub part_count : n ≡ length (take n (last ++ rest))
-  part_count = sym (ap length part_again ∙ long)
 
 -- the payload read
 pub bytes_read : (s : List ℕ) (at : ℕ) → payload_ok s at ≡ true → Bytes (payload_of s at)

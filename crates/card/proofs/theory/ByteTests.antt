@@ -1,60 +1,55 @@
--- What stands at a position of a text, byte by byte.
-use Prim.Native.Nat.{ℕ, ◌+◌, ◌<◌, ◌≤◌, zero-le}
-use mathlib.Core.Bool.{Bool, true, false}
-use mathlib.Core.List.{List}
-use mathlib.Core.Path.{◌≡◌, sym, ap, ◌∙◌}
+-- Tests of bytes one after the other, as a chain of an iterator makes them: each is the test of all places below a bound.
+use Prim.Native.Nat.{ℕ, zero, suc, ◌+◌}
+use mathlib.Core.Bool.{Bool, true, false, ◌&&◌}
+use mathlib.Core.List.{List, [], ◌∷◌}
+use mathlib.Core.Path.{◌≡◌, refl, sym, ap, ap₂, ◌∙◌}
+use native.Mathlib.Nat.{add-zero}
 use native.Mathlib.Omega.{arith}
 use lib.Dec.{eqb}
-use lib.ListN.{length, get_or, get_or-eq_default}
-use borrow.Author.Tests.{eq-eqb, ne_eqb}
+use lib.ListN.{length, get_or}
+use Rattle.std.specs.List.{list_all, enumerate_from, range_with_len}
 use Rattle.lattice.specs.Counting.{all_below}
-use Rattle.lattice.proofs.theory.Bools.{failed, passed}
-use Rattle.codec.proofs.theory.OneByOne.{PassedTo, passed_none, passed_more, passed_all, failed_at}
+use Rattle.codec.proofs.theory.AllBelow.{all_same}
 use Rattle.card.specs.Parse.{key_at}
 
--- past the end stands 0
-pub byte_behind : (s : List ℕ) (i : ℕ) → length s ≤ i → 0 ≡ get_or s i 0
-byte_behind s i l = sym (get_or-eq_default s 0 l)
+and_swap : (a b c : Bool) → (a && (b && c)) ≡ (b && (a && c))
+and_swap true b c = refl
+and_swap false true c = refl
+and_swap false false c = refl
+
+-- the test of the first place, then of those behind it
+all_first : (f : ℕ → Bool) (n : ℕ) → (f 0 && all_below (λ j. f (suc j)) n) ≡ all_below f (suc n)
+all_first f zero = refl
+all_first f (suc n) =
+    and_swap (f 0) (f (suc n)) (all_below (λ j. f (suc j)) n)
+    ∙ ap (λ b. f (suc n) && b) (all_first f n)
+
+-- of each number of a range
+all_from : (f : ℕ → Bool) (a n : ℕ) → list_all f (range_with_len a n) ≡ all_below (λ j. f (a + j)) n
+all_from f a zero = refl
+all_from f a (suc n) =
+    ap₂ ◌&&◌ (ap f (sym (add-zero a)))
+    (all_from f (a + 1) n ∙ all_same _ _ n (λ i l. let e : a + 1 + i ≡ a + suc i = omega arith in ap f e))
+    ∙ all_first (λ j. f (a + j)) n
+
+pub all_range : (f : ℕ → Bool) (n : ℕ) → list_all f (range_with_len 0 n) ≡ all_below f n
+all_range f n = all_from f 0 n ∙ all_same _ _ n (λ i l. let e : 0 + i ≡ i = omega arith in ap f e)
+
+-- of each byte of a text, by its place
+all_places : (f : ℕ → ℕ → Bool) (xs : List ℕ) (a : ℕ)
+    → list_all (λ p. f p.0 p.1) (enumerate_from a xs) ≡ all_below (λ j. f (a + j) (get_or xs j 0)) (length xs)
+all_places f [] a = refl
+all_places f (x ∷ xs) a =
+    ap₂ ◌&&◌ (ap (λ i. f i x) (sym (add-zero a)))
+    (all_places f xs (a + 1)
+    ∙ all_same _ _ (length xs) (λ i l. let e : a + 1 + i ≡ a + suc i = omega arith in ap (λ j. f j (get_or xs i 0)) e))
+    ∙ all_first (λ j. f (a + j) (get_or (x ∷ xs) j 0)) (length xs)
 
 -- a key, byte by byte
-module _ (key s : List ℕ) (at : ℕ) where
-  unfoldable pub key_byte : ℕ → Bool
-  key_byte j = eqb (get_or s (at + j) 0) (get_or key j 0)
-
-  pub key_passes : (j b : ℕ) → b ≡ get_or s (at + j) 0 → b ≡ get_or key j 0 → key_byte j ≡ true
-  unfolding key_byte
-  key_passes j b e h = eq-eqb _ _ (sym e ∙ h)
-
-  pub key_fails : (j b : ℕ) → j < length key → b ≡ get_or s (at + j) 0 → (b ≡ get_or key j 0 → ⊥) → false ≡ key_at key s at
-  unfolding key_at key_byte
-  key_fails j b l e h = failed_at key_byte j (length key) l (ne_eqb _ _ (λ q. h (e ∙ q)))
-
-  pub key_all : (j : ℕ) → PassedTo key_byte j → j ≤ length key → length key ≤ j → true ≡ key_at key s at
-  unfolding key_at key_byte
-  key_all j p l q = passed_all key_byte j (length key) p l q
-
--- a test of each of n bytes from a position: the first j have passed it
-module _ (P : ℕ → Bool) (s : List ℕ) (start n : ℕ) where
-  abbrev test_at : ℕ → Bool
-  test_at j = P (get_or s (start + j) 0)
-
-  pub record TestedTo (j : ℕ) : Type 0 where
-    pub some : j ≤ n
-    pub each : PassedTo test_at j
-
-  pub tested_none : TestedTo 0
-  tested_none = record { some = zero-le; each = passed_none test_at }
-
-  -- the byte that is next, and what the code's test says of it
-  module _ (j b : ℕ) (t : Bool) (l : j < n) (byte : b ≡ get_or s (start + j) 0) (says : t ≡ P b) where
-    next : P b ≡ test_at j
-    next = ap P byte
-
-    pub tested_more : TestedTo j → t ≡ true → TestedTo (j + 1)
-    tested_more x p = record { some = omega arith; each = passed_more test_at j x.each (sym next ∙ passed t (P b) p says) }
-
-    pub tested_fails : t ≡ false → false ≡ all_below test_at n
-    tested_fails p = failed_at test_at j n l (sym next ∙ failed t (P b) p says)
-
-  pub tested_all : (j : ℕ) → TestedTo j → n ≤ j → true ≡ all_below test_at n
-  tested_all j x l = passed_all test_at j n x.each x.some l
+pub key_bytes : (key s : List ℕ) (at : ℕ)
+    → list_all (λ p. eqb (get_or s (at + p.0) 0) p.1) (enumerate_from 0 key) ≡ key_at key s at
+unfolding key_at
+key_bytes key s at =
+    all_places (λ i b. eqb (get_or s (at + i) 0) b) key 0
+    ∙ all_same _ _ (length key)
+    (λ i l. let e : 0 + i ≡ i = omega arith in ap (λ j. eqb (get_or s (at + j) 0) (get_or key i 0)) e)

@@ -11,9 +11,9 @@ use Rattle.lattice.proofs.theory.Limits.{Legal, legal, strength_most}
 use Rattle.codec.specs.Payload.{payload_bytes}
 use Rattle.codec.specs.Plan.{plan_bytes}
 use Rattle.codec.proofs.theory.Accepted.{plan_bytes_lem}
+use Rattle.std.specs.Prelude.{Option, Some, None}
+use Rattle.lattice.specs.declared.shape.Window.{Window}
 use Rattle.card.specs.declared.header.Header.{Header}
-use Rattle.card.specs.declared.header.WindowLines.{WindowLines}
-use Rattle.card.specs.declared.header.WindowLines.TheVariants as sides
 use Rattle.card.specs.Text.{window_lines}
 use Rattle.card.specs.Card.{max_card_bytes, window_of, shape_of, FewDigitsEach, FewDigits, CardHeader}
 use Rattle.card.proofs.theory.LinesText.{lines_length}
@@ -21,14 +21,14 @@ use Rattle.card.proofs.theory.DecimalText.{digit_count_one}
 use Rattle.card.proofs.theory.WindowLimits.{stack_none, sides_most}
 
 -- the lines of a window: of sides of few digits, and how long they are where both sides are 0
-sides_small : (l : WindowLines) → ((window_of l).rows ≤ max_classes) × ((window_of l).columns ≤ max_classes)
+sides_small : (l : Option Window) → ((window_of l).rows ≤ max_classes) × ((window_of l).columns ≤ max_classes)
     → FewDigitsEach (window_lines l)
-sides_small sides.Absent most = tt
-sides_small (sides.Given w) most = omega arith
+sides_small None most = tt
+sides_small (Some w) most = omega arith
 
-sides_none : (l : WindowLines) → BothZero (window_of l) → lines_length (window_lines l) ≤ 31
-sides_none sides.Absent none = omega arith
-sides_none (sides.Given w) none =
+sides_none : (l : Option Window) → BothZero (window_of l) → lines_length (window_lines l) ≤ 31
+sides_none None none = omega arith
+sides_none (Some w) none =
     omega (arith, digit_count_one w.rows (omega arith), digit_count_one w.columns (omega arith))
 
 -- a card's header is within the limits

@@ -5,9 +5,8 @@ use mathlib.Core.List.{List}
 use mathlib.Core.Path.{◌≡◌, refl, sym, ◌∙◌}
 use Rattle.codec.specs.Payload.{Bytes}
 use Rattle.card.specs.declared.header.Header.{Header}
-use Rattle.card.specs.declared.header.HeaderAnswer.TheVariants as head
 use Rattle.card.specs.Card.{FieldCells, payload_card, field_card}
-use Rattle.card.specs.Parse.{header_of, payload_of}
+use Rattle.card.specs.Parse.{read, header_of, payload_of}
 use Rattle.card.specs.Program.{is_payload, cells_in, body_ok}
 use Rattle.card.proofs.theorems.Parsing.{parsed_is_text}
 use Rattle.card.proofs.theory.ProgramParts.{body_payload, body_rows}
@@ -18,7 +17,7 @@ pub data CardRead (s : List ℕ) (h : Header) (next : ℕ) : Type 0 where
   of_field : is_payload s next ≡ false → FieldCells h (cells_in s h next) → s ≡ field_card h (cells_in s h next)
       → CardRead s h next
 
-pub card_read : (s : List ℕ) (h : Header) (next : ℕ) → header_of s ≡ head.Found h next → body_ok s h next ≡ true
+pub card_read : (s : List ℕ) (h : Header) (next : ℕ) → header_of s ≡ read h next → body_ok s h next ≡ true
     → CardRead s h next
 card_read s h next found right = go (is_payload s next) refl
   where

@@ -1,26 +1,17 @@
 -- The digits of cells.
 use Prim.Native.Nat.{ℕ, zero, suc, ◌+◌, ◌-◌, ◌<◌, ◌≤◌}
-use mathlib.Core.Bool.{Bool, true, false}
+use mathlib.Core.Bool.{true}
 use mathlib.Core.List.{List, [], ◌∷◌}
 use mathlib.Core.Path.{◌≡◌, refl, sym, ap, ◌∙◌}
 use native.Mathlib.Nat.{not-suc-le-zero, le_of_suc-le-suc}
 use native.Mathlib.Omega.{arith}
 use lib.Dec.{leb}
 use lib.ListN.{length, get_or, length-map}
-use borrow.Author.Tests.{le-leb, lt-leb, leb-true}
+use borrow.Author.Tests.{le-leb, leb-true}
 use Rattle.lattice.proofs.theory.Bools.{and_true, and_left, and_right}
 use Rattle.codec.specs.Field.{is_received}
 use Rattle.card.specs.Text.{cells_text}
 use Rattle.card.specs.Parse.{is_cell_digit}
-
--- the test of a byte: from the digit 0 on it is that of the cell
-pub low_digit : (b : ℕ) → b < 48 → false ≡ is_cell_digit b
-unfolding is_cell_digit
-low_digit b l = rw (lt-leb 48 b l)
-
-pub high_digit : (b : ℕ) → 48 ≤ b → (t : Bool) → t ≡ is_received (b - 48) → t ≡ is_cell_digit b
-unfolding is_cell_digit
-high_digit b l t e = rw (le-leb 48 b l) e
 
 -- the text of cells has a byte for each, its digit
 pub length_cells : (cells : List ℕ) → length cells ≡ length (cells_text cells)

@@ -11,14 +11,13 @@ use lib.Dec.{leb}
 use lib.ListN.{length, drop, length-append}
 use Rattle.lattice.specs.Shape.{no_window, shape_number, cells_of}
 use Rattle.lattice.specs.Refusal.{unless}
+use Rattle.std.specs.Prelude.{Option, Some, None}
+use Rattle.lattice.specs.declared.shape.Window.{Window}
+use Rattle.card.specs.declared.scan.Found.{Found}
 use Rattle.card.specs.declared.header.Header.{Header}
-use Rattle.card.specs.declared.header.HeaderAnswer.{HeaderAnswer}
-use Rattle.card.specs.declared.header.HeaderAnswer.TheVariants as head
-use Rattle.card.specs.declared.header.WindowLines.{WindowLines}
-use Rattle.card.specs.declared.header.WindowLines.TheVariants as sides
 use Rattle.card.specs.Text.{header_text, payload_text, field_text}
 use Rattle.card.specs.Card.{max_input, max_card_cells, window_of, shape_of, CardHeader}
-use Rattle.card.specs.Parse.{header_of}
+use Rattle.card.specs.Parse.{read, header_of}
 use Rattle.card.specs.Program.{body_ok, number_after, program_number}
 use Rattle.card.specs.Form.{NoWindowLine, HeaderFirst, Body, CardText}
 use Rattle.card.proofs.theory.Feeds.{after_payload}
@@ -53,7 +52,7 @@ bodies h card r cut (Body.rows a x e) (Body.payload q _ f) =
     absurd (omega (arith, same, first_payload q cut, first_rows h a [] (rows_some h card)))
 
 -- what a part of an input begins with, the whole begins with too, where the cut makes no line of a window
-longer : (s cut : List ℕ) (part : HeaderFirst s) → (part.header.window ≡ sides.Absent → NoWindowLine (part.rest ++ cut))
+longer : (s cut : List ℕ) (part : HeaderFirst s) → (part.header.window ≡ None → NoWindowLine (part.rest ++ cut))
     → HeaderFirst (s ++ cut)
 longer s cut part other =
     record {
@@ -77,9 +76,9 @@ cut_card s cut other whole part =
 
 -- an input that is a part of a card text and has a header: it is the card's, or the card's without its window
 module _ (s cut : List ℕ) (other : cut ≢ []) (whole : CardText (s ++ cut)) (h : Header) (next : ℕ)
-    (found : header_of s ≡ head.Found h next) where
-  read : ReadFrom s h next
-  read = header_found s h next found
+    (found : header_of s ≡ read h next) where
+  from : ReadFrom s h next
+  from = header_found s h next found
 
   abbrev card : Header
   card = whole.first.header
@@ -88,12 +87,12 @@ module _ (s cut : List ℕ) (other : cut ≢ []) (whole : CardText (s ++ cut)) (
   numbers_kept =
       numbers_same h card (drop next s ++ cut) whole.first.rest
       (sym (append_assoc (header_text h) (drop next s) cut)
-      ∙ ap (λ (l : List ℕ). l ++ cut) (sym read.text)
+      ∙ ap (λ (l : List ℕ). l ++ cut) (sym from.text)
       ∙ whole.first.text)
-      read.small whole.first.small
+      from.small whole.first.small
 
   -- without the lines of the window the shape is the card's without its window
-  shape_kept : h.window ≡ sides.Absent → shape_of h ≡ bare (shape_of card)
+  shape_kept : h.window ≡ None → shape_of h ≡ bare (shape_of card)
   shape_kept e =
       let w : h.columns ≡ card.columns = cc numbers_kept in
       let r : h.rows ≡ card.rows = cc numbers_kept in
@@ -106,7 +105,7 @@ module _ (s cut : List ℕ) (other : cut ≢ []) (whole : CardText (s ++ cut)) (
   unfolding longer start
   kept = go h.window refl
     where
-      without : h.window ≡ sides.Absent → Dec (card.strength ≡ 0)
+      without : h.window ≡ None → Dec (card.strength ≡ 0)
           → CardHeader h ⊎ ((card.strength ≡ 0) × (shape_number (shape_of h) ≡ 2))
       without e (yes t) = inr (t, ap shape_number (shape_kept e) ∙ bare_refused (shape_of card) whole.card.accepted t)
       without e (no t) =
@@ -116,33 +115,33 @@ module _ (s cut : List ℕ) (other : cut ≢ []) (whole : CardText (s ++ cut)) (
             cells = rw (ap cells_of (shape_kept e)) whole.card.cells;
           })
 
-      go : (l : WindowLines) → h.window ≡ l → CardHeader h ⊎ ((card.strength ≡ 0) × (shape_number (shape_of h) ≡ 2))
-      go (sides.Given w) e =
-          let given : h.window ≡ sides.Absent → NoWindowLine (drop next s ++ cut) =
-          λ a. let z : ◌≡◌ {A = ℕ} 0 1 = cc in absurd (omega arith) in
+      go : (l : Option Window) → h.window ≡ l → CardHeader h ⊎ ((card.strength ≡ 0) × (shape_number (shape_of h) ≡ 2))
+      go (Some w) e =
+          let given : h.window ≡ None → NoWindowLine (drop next s ++ cut) =
+          λ a. absurd (cc) in
           let same = (header_same (s ++ cut) whole.first (longer s cut (start s h next found) given)).0 in
           inl (subst (λ (k : Header). CardHeader k) same whole.card)
-      go sides.Absent e = without e (ℕ_discrete card.strength 0)
+      go None e = without e (ℕ_discrete card.strength 0)
 
   -- what follows it is of no form
   formless : CardHeader h → (b : Bool) → body_ok s h next ≡ b → body_ok s h next ≡ false
   unfolding start
-  formless kept true e =
+  formless x true e =
       absurd
       (cut_card s cut other whole
       (record {
         first = start s h next found;
-        card = kept;
+        card = x;
         body =
             ok_body (header_text h) h (drop next s)
-            (ap (λ (l : List ℕ). body_ok l h (length (header_text h))) (sym read.text)
-            ∙ ap (body_ok s h) (sym read.next_line)
+            (ap (λ (l : List ℕ). body_ok l h (length (header_text h))) (sym from.text)
+            ∙ ap (body_ok s h) (sym from.next_line)
             ∙ e);
       }))
-  formless kept false e = e
+  formless x false e = e
 
-  after_header : (number_after s (head.Found h next) ≡ 8)
-      ⊎ ((card.strength ≡ 0) × (number_after s (head.Found h next) ≡ 2))
+  after_header : (number_after s (read h next) ≡ 8)
+      ⊎ ((card.strength ≡ 0) × (number_after s (read h next) ≡ 2))
   unfolding number_after
   after_header =
       ⊎_elim
@@ -157,8 +156,8 @@ pub cut_refused : (s cut : List ℕ) → cut ≢ [] → (whole : CardText (s ++ 
 unfolding program_number number_after
 cut_refused s cut other whole = go (leb (length s) max_input) (header_of s) refl
   where
-    go : (b : Bool) (a : HeaderAnswer) → header_of s ≡ a
+    go : (b : Bool) (a : Option (Found Header)) → header_of s ≡ a
         → (unless b 8 (number_after s a) ≡ 8) ⊎ ((whole.first.header.strength ≡ 0) × (unless b 8 (number_after s a) ≡ 2))
     go false a e = inl refl
-    go true head.Fault e = inl refl
-    go true (head.Found h next) e = after_header s cut other whole h next e
+    go true None e = inl refl
+    go true (Some r) e = after_header s cut other whole r.value r.next e

@@ -4,9 +4,8 @@ use mathlib.Core.List.{List}
 use mathlib.Core.Path.{◌≡◌, refl, sym, ◌∙◌, ap}
 use native.Mathlib.Omega.{arith}
 use lib.ListN.{length}
-use Rattle.card.specs.declared.header.HeaderAnswer.TheVariants as head
 use Rattle.card.specs.Card.{max_answer}
-use Rattle.card.specs.Parse.{payload_of}
+use Rattle.card.specs.Parse.{read, payload_of}
 use Rattle.card.specs.Program.{cells_in, program_number, success_text, answer}
 use Rattle.card.specs.Form.{OneOfThree}
 use Rattle.card.proofs.theory.ProgramParts.{operation_payload, success_payload, success_rows, answer_success}
@@ -21,7 +20,7 @@ form s = go (program_number s) refl
   where
     success : program_number s ≡ 0
         → (x : TakenInput s)
-        → answer s ≡ success_text s (head.Found x.header x.next)
+        → answer s ≡ success_text s (read x.header x.next)
         → CardRead s x.header x.next
         → OneOfThree s
     success z x e (of_payload is bytes text) =

@@ -7,13 +7,13 @@ use native.Mathlib.Nat.{zero-add}
 use native.Mathlib.Omega.{arith}
 use lib.ListN.{length, take, drop, length-append}
 use lib.Seq.{drop-append_seam}
+use Rattle.std.specs.Prelude.{Some, None}
+use Rattle.card.proofs.theory.Found.{same_value, same_next}
 use Rattle.card.specs.declared.header.Header.{Header}
-use Rattle.card.specs.declared.header.HeaderAnswer.TheVariants as head
-use Rattle.card.specs.declared.header.WindowLines.TheVariants as sides
 use Rattle.card.specs.Text.{header_keys, window_keys, NumberLine, lines_text, lines_of, window_lines, window_from, header_from}
 use Rattle.card.specs.Text.{header_lines, header_text}
 use Rattle.card.specs.Card.{FewDigits}
-use Rattle.card.specs.Parse.{LinesRead, read, fault, before, lines_at, optional_at, after_lines, header_read, header_of}
+use Rattle.card.specs.Parse.{LinesRead, read, before, lines_at, optional_at, after_lines, header_read, header_of}
 use Rattle.card.specs.Form.{NoWindowLine, HeaderFirst}
 use Rattle.card.proofs.theory.LinesText.{lines_append, few_first, few_rest, few_both, text_lines, LinesStand}
 use Rattle.card.proofs.theory.LinesText.{lines_text_lem}
@@ -49,8 +49,8 @@ module _ (h : Header) (rest : List ℕ) (small : FewDigits h) where
       ∙ ap (read (numbers h)) (zero-add (length (lines_text (lines h))))
 
   -- so is the whole header, where no line of the window follows that it leaves out
-  pub header_back : (h.window ≡ sides.Absent → NoWindowLine rest)
-      → header_of (header_text h ++ rest) ≡ head.Found h (length (header_text h))
+  pub header_back : (h.window ≡ None → NoWindowLine rest)
+      → header_of (header_text h ++ rest) ≡ read h (length (header_text h))
   unfolding header_of header_text
   header_back whole =
       let s = lines_text (header_lines h) ++ rest in
@@ -62,7 +62,7 @@ module _ (h : Header) (rest : List ℕ) (small : FewDigits h) where
       sym (ap length (lines_append (lines h) others) ∙ length-append (lines_text (lines h)) (lines_text others)) in
       ap (λ (r : LinesRead). header_read (after_lines (optional_at window_keys s) r)) lines_back
       ∙ ap (λ (r : LinesRead). header_read (before (numbers h) r)) last
-      ∙ ap₂ head.Found (from_numbers h) long
+      ∙ ap₂ read (from_numbers h) long
 
 -- two headers' texts with anything behind them are the same only where these numbers are
 pub numbers_same : (h k : Header) (r q : List ℕ) → header_text h ++ r ≡ header_text k ++ q → FewDigits h → FewDigits k
@@ -70,22 +70,22 @@ pub numbers_same : (h k : Header) (r q : List ℕ) → header_text h ++ r ≡ he
 numbers_same h k r q e sh sk =
     let here = lines_back h r sh in
     let there = ap (λ (t : List ℕ). lines_at header_keys t 0) e ∙ lines_back k q sk in
-    cc
+    same_value (sym here ∙ there)
 
 -- what a header is read from is its text, followed by the rest
 pub record ReadFrom (s : List ℕ) (h : Header) (next : ℕ) : Type 0 where
   pub small : FewDigits h
   pub text : s ≡ header_text h ++ drop next s
-  pub whole : h.window ≡ sides.Absent → NoWindowLine (drop next s)
+  pub whole : h.window ≡ None → NoWindowLine (drop next s)
   pub next_line : next ≡ length (header_text h)
   pub inside : next ≤ length s
 
-pub header_found : (s : List ℕ) (h : Header) (next : ℕ) → header_of s ≡ head.Found h next → ReadFrom s h next
+pub header_found : (s : List ℕ) (h : Header) (next : ℕ) → header_of s ≡ read h next → ReadFrom s h next
 unfolding header_of header_text
 header_found s h next p = first (lines_at header_keys s 0) refl p
   where
-    never : head.Fault ≡ head.Found h next → ReadFrom s h next
-    never q = let z : ◌≡◌ {A = ℕ} 0 1 = cc in absurd (omega arith)
+    never : None ≡ read h next → ReadFrom s h next
+    never q = absurd (cc)
 
     made : (ns ms : List ℕ) (m : ℕ) → LinesStand header_keys s 0 ns m → WindowStands s m (window_from ms) next
         → ReadFrom s (header_from (ns ++ ms)) next
@@ -112,21 +112,20 @@ header_found s h next p = first (lines_at header_keys s 0) refl p
     made (a ∷ b ∷ c ∷ d ∷ e ∷ ns) ms m x y = absurd (omega (arith, x.count))
 
     second : (ns : List ℕ) (m : ℕ) → LinesStand header_keys s 0 ns m → (r : LinesRead) → optional_at window_keys s m ≡ r
-        → header_read (before ns r) ≡ head.Found h next → ReadFrom s h next
-    second ns m x (read ms end) e q =
-        let same : header_from (ns ++ ms) ≡ h = cc in
-        let ends : end ≡ next = cc in
-        subst (λ (k : Header). ReadFrom s k next) same
-        (made ns ms m x (window_text s m ms next x.inside (e ∙ ap (read ms) ends)))
-    second ns m x fault e q = never q
+        → header_read (before ns r) ≡ read h next → ReadFrom s h next
+    second ns m x (Some r) e q =
+        subst (λ (k : Header). ReadFrom s k next) (same_value q)
+        (made ns r.value m x (window_text s m r.value next x.inside (e ∙ ap (read r.value) (same_next q))))
+    second ns m x None e q = never q
 
     first : (r : LinesRead) → lines_at header_keys s 0 ≡ r
-        → header_read (after_lines (optional_at window_keys s) r) ≡ head.Found h next → ReadFrom s h next
-    first (read ns m) e q = second ns m (lines_text_lem header_keys s 0 ns m zero-le e) (optional_at window_keys s m) refl q
-    first fault e q = never q
+        → header_read (after_lines (optional_at window_keys s) r) ≡ read h next → ReadFrom s h next
+    first (Some r) e q =
+        second r.value r.next (lines_text_lem header_keys s 0 r.value r.next zero-le e) (optional_at window_keys s r.next) refl q
+    first None e q = never q
 
 -- an input that starts with a header's text is read so
-pub first_found : (s : List ℕ) (x : HeaderFirst s) → header_of s ≡ head.Found x.header (length (header_text x.header))
+pub first_found : (s : List ℕ) (x : HeaderFirst s) → header_of s ≡ read x.header (length (header_text x.header))
 first_found s x = ap header_of x.text ∙ header_back x.header x.rest x.small x.whole
 
 -- it starts with the text of one header, and one rest is behind it
@@ -134,7 +133,7 @@ pub header_same : (s : List ℕ) (x y : HeaderFirst s) → (x.header ≡ y.heade
 header_same s x y =
     let e = first_found s x in
     let f = first_found s y in
-    let same : x.header ≡ y.header = cc in (
+    let same = same_value (sym e ∙ f) in (
       same,
       sym (drop-append_seam (header_text x.header) x.rest)
           ∙ ap₂ (λ (h : Header) (t : List ℕ). drop (length (header_text h)) t) same (sym x.text ∙ y.text)

@@ -5,9 +5,9 @@ use mathlib.Core.List.{List, [], ◌∷◌, ◌++◌}
 use mathlib.Core.Path.{◌≡◌, refl, ◌∙◌}
 use native.Mathlib.Omega.{arith}
 use lib.ListN.{length, length-append}
-use Rattle.card.specs.declared.line.Line.TheVariants as line
+use Rattle.std.specs.Prelude.{None}
 use Rattle.card.specs.Text.{digit_count, decimal, number_line, feed}
-use Rattle.card.specs.Parse.{key_at, number_at, line_at}
+use Rattle.card.specs.Parse.{read, key_at, number_at, line_at}
 use Rattle.card.proofs.theory.StandsAt.{StandsAt, stands_left, stands_right, stands_both, one_stands, byte_inside, key_at_lem}
 use Rattle.card.proofs.theory.StandsAt.{at_key}
 use Rattle.card.proofs.theory.DecimalText.{length_decimal}
@@ -27,7 +27,7 @@ pub record LineStands (key s : List ℕ) (at n next : ℕ) : Type 0 where
   pub next_line : next ≡ at + length (number_line key n)
 
 -- the line that stands at `at` is read
-pub line_at_lem : (key s : List ℕ) (at n next : ℕ) → LineStands key s at n next → line_at key s at ≡ line.Number n next
+pub line_at_lem : (key s : List ℕ) (at n next : ℕ) → LineStands key s at n next → line_at key s at ≡ read n next
 unfolding line_at number_line
 line_at_lem key s at n next x =
     rw (key_at_lem key s at (stands_left key (decimal n ++ (feed ∷ [])) s at x.stands))
@@ -39,13 +39,13 @@ line_at_lem key s at n next x =
     }))
 
 -- the line that is read stands at `at`
-pub at_line : (key s : List ℕ) (at n next : ℕ) → line_at key s at ≡ line.Number n next → LineStands key s at n next
+pub at_line : (key s : List ℕ) (at n next : ℕ) → line_at key s at ≡ read n next → LineStands key s at n next
 unfolding line_at number_line
 at_line key s at n next p = go (key_at key s at) refl p
   where
     go : (b : Bool)
         → key_at key s at ≡ b
-        → cond b (number_at s (at + length key)) line.Fault ≡ line.Number n next
+        → cond b (number_at s (at + length key)) None ≡ read n next
         → LineStands key s at n next
     go true e q =
         let x = at_number s (at + length key) n next q in
@@ -54,7 +54,7 @@ at_line key s at n next p = go (key_at key s at) refl p
           stands = stands_both key (decimal n ++ (feed ∷ [])) s at (at_key key s at e) x.stands;
           next_line = omega (arith, x.next_line, length_line key n);
         }
-    go false e q = let z : ◌≡◌ {A = ℕ} 0 1 = cc in absurd (omega arith)
+    go false e q = absurd (cc)
 
 -- a line that stands in the input ends in it
 pub line_inside : (key s : List ℕ) (at n next : ℕ) → LineStands key s at n next → next ≤ length s

@@ -6,11 +6,12 @@ use native.Mathlib.Nat.{add-zero}
 use native.Mathlib.Omega.{arith}
 use lib.ListN.{length, get_or, drop, length-append, get_or-append}
 use lib.Seq.{get_or-drop, drop-drop, drop-append_seam}
-use Rattle.card.specs.declared.line.Line.{Line}
-use Rattle.card.specs.declared.line.Line.TheVariants as line
+use Rattle.std.specs.Prelude.{Option, Some, None}
+use Rattle.card.specs.declared.scan.Found.{Found}
+use Rattle.card.proofs.theory.Found.{same_value, same_next}
 use Rattle.card.specs.Text.{digit_count, number_line, NumberLine, lines_text, lines_of}
 use Rattle.card.specs.Card.{FewDigitsEach}
-use Rattle.card.specs.Parse.{line_at, LinesRead, read, fault, before, after_line, lines_at}
+use Rattle.card.specs.Parse.{line_at, LinesRead, read, before, after_line, lines_at}
 use Rattle.card.proofs.theory.StandsAt.{StandsAt, stands_drop}
 use Rattle.card.proofs.theory.DecimalText.{digit_count_range}
 use Rattle.card.proofs.theory.LineText.{LineStands, length_line, line_at_lem, at_line, line_inside}
@@ -102,16 +103,16 @@ lines_text_lem [] s at ns next l e = go ns e
   where
     go : (ms : List ℕ) → read [] at ≡ read ms next → LinesStand [] s at ms next
     go [] q =
-        let same : at ≡ next = cc in
+        let same : at ≡ next = same_next q in
         record { count = refl; small = tt; next_line = omega arith; text = ap (λ (i : ℕ). drop i s) same; inside = omega arith }
-    go (m ∷ ms) q = let z : ◌≡◌ {A = ℕ} 0 1 = cc in absurd (omega arith)
+    go (m ∷ ms) q = let none : [] ≡ m ∷ ms = same_value q in absurd (cc)
 lines_text_lem (key ∷ keys) s at ns next l e = first (line_at key s at) refl e (λ m ms k. lines_text_lem keys s m ms next k)
   where
     Others : Type 0
     Others = (m : ℕ) (ms : List ℕ) → m ≤ length s → lines_at keys s m ≡ read ms next → LinesStand keys s m ms next
 
-    never : fault ≡ read ns next → LinesStand (key ∷ keys) s at ns next
-    never q = let z : ◌≡◌ {A = ℕ} 0 1 = cc in absurd (omega arith)
+    never : None ≡ read ns next → LinesStand (key ∷ keys) s at ns next
+    never q = absurd (cc)
 
     whole : (n m : ℕ) (ms : List ℕ) → LineStands key s at n m → m ≤ length s → LinesStand keys s m ms next
         → LinesStand (key ∷ keys) s at (n ∷ ms) next
@@ -133,15 +134,15 @@ lines_text_lem (key ∷ keys) s at ns next l e = first (line_at key s at) refl e
 
     second : (n m : ℕ) → LineStands key s at n m → (r : LinesRead) → lines_at keys s m ≡ r → before (n ∷ []) r ≡ read ns next
         → Others → LinesStand (key ∷ keys) s at ns next
-    second n m x (read ms end) er q others =
+    second n m x (Some r) er q others =
         let k = line_inside key s at n m x in
-        let ends : end ≡ next = cc in
-        let numbers : n ∷ ms ≡ ns = cc in
+        let ends : r.next ≡ next = same_next q in
+        let numbers : n ∷ r.value ≡ ns = same_value q in
         subst (λ (l : List ℕ). LinesStand (key ∷ keys) s at l next) numbers
-        (whole n m ms x k (others m ms k (er ∙ ap (read ms) ends)))
-    second n m x fault er q others = never q
+        (whole n m r.value x k (others m r.value k (er ∙ ap (read r.value) ends)))
+    second n m x None er q others = never q
 
-    first : (r : Line) → line_at key s at ≡ r → after_line (lines_at keys s) r ≡ read ns next
+    first : (r : Option (Found ℕ)) → line_at key s at ≡ r → after_line (lines_at keys s) r ≡ read ns next
         → Others → LinesStand (key ∷ keys) s at ns next
-    first (line.Number n m) er q others = second n m (at_line key s at n m er) (lines_at keys s m) refl q others
-    first line.Fault er q others = never q
+    first (Some r) er q others = second r.value r.next (at_line key s at r.value r.next er) (lines_at keys s r.next) refl q others
+    first None er q others = never q

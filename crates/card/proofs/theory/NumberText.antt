@@ -12,10 +12,11 @@ use lib.ListN.{length, get_or}
 use Rattle.lattice.specs.Range.{in_range}
 use Rattle.lattice.proofs.theory.Bools.{and_true, and_left, and_right, or_true_left, or_true_right, or_cases}
 use Rattle.lattice.proofs.theory.Limits.{in_range_lem, range_low, range_high, range_below}
-use Rattle.card.specs.declared.line.Line.{Line}
-use Rattle.card.specs.declared.line.Line.TheVariants as line
+use Rattle.std.specs.Prelude.{Option, None}
+use Rattle.card.specs.declared.scan.Found.{Found}
+use Rattle.card.proofs.theory.Found.{same_value, same_next}
 use Rattle.card.specs.Text.{digits, digit_count, decimal, feed}
-use Rattle.card.specs.Parse.{is_digit, digit_run, digits_value, number_ends, number_at}
+use Rattle.card.specs.Parse.{read, is_digit, digit_run, digits_value, number_ends, number_at}
 use Rattle.card.proofs.theory.StandsAt.{StandsAt, stands_left, stands_right, stands_both, stands_one, one_stands}
 use Rattle.card.proofs.theory.Digits.{DigitsAt, digits_at, value_digits, value_below, digits_value_lem, leading_zero}
 use Rattle.card.proofs.theory.Digits.{leading_other, run_digits, digits_run}
@@ -56,14 +57,14 @@ test_ends s at k p =
     }
 
 -- what is read of a run of k digits
-abbrev run_read : List ℕ → ℕ → ℕ → Line
-run_read s at k = cond (number_ends s at k) (line.Number (digits_value s at k) (at + k + 1)) line.Fault
+abbrev run_read : List ℕ → ℕ → ℕ → Option (Found ℕ)
+run_read s at k = cond (number_ends s at k) (read (digits_value s at k) (at + k + 1)) None
 
 number_run : (s : List ℕ) (at : ℕ) → number_at s at ≡ run_read s at (digit_run s at 6)
 unfolding number_at
 number_run s at = refl
 
-read_run : (s : List ℕ) (at k : ℕ) → DigitsAt s at k → Ends s at k → number_at s at ≡ line.Number (digits_value s at k) (at + k
+read_run : (s : List ℕ) (at k : ℕ) → DigitsAt s at k → Ends s at k → number_at s at ≡ read (digits_value s at k) (at + k
     + 1)
 read_run s at k p x =
     let feed-no : is_digit (get_or s (at + k) 0) ≡ false = range_below 48 57 (get_or s (at + k) 0) (omega arith) in
@@ -78,14 +79,14 @@ pub record NumberStands (s : List ℕ) (at n next : ℕ) : Type 0 where
   pub next_line : next ≡ at + digit_count n + 1
 
 -- the number that stands at `at` is read
-pub number_at_lem : (s : List ℕ) (at n next : ℕ) → NumberStands s at n next → number_at s at ≡ line.Number n next
+pub number_at_lem : (s : List ℕ) (at n next : ℕ) → NumberStands s at n next → number_at s at ≡ read n next
 unfolding decimal
 number_at_lem s at n next x = go (wide n x.small)
   where
-    go : (k : ℕ) × Wide n k → number_at s at ≡ line.Number n next
+    go : (k : ℕ) × Wide n k → number_at s at ≡ read n next
     go (k, w) =
         read_run s at (suc k) run (record { low = omega arith; high = omega arith; leading = first w.least; ended = ended })
-        ∙ ap₂ line.Number value ends
+        ∙ ap₂ read value ends
       where
         chars : digit_count n ≡ suc k
         chars = wide_width n k w
@@ -140,18 +141,18 @@ stands_run s at (suc k) p x =
         let low = range_low 48 57 (get_or s (at + 0) 0) (p 0 (omega arith)) in
         inr (leading_other s at k (omega (arith, rw (add-zero at) at low)))
 
-pub at_number : (s : List ℕ) (at n next : ℕ) → number_at s at ≡ line.Number n next → NumberStands s at n next
-at_number s at n next p = read (digit_run s at 6) (run_digits s at 6) (sym (number_run s at) ∙ p)
+pub at_number : (s : List ℕ) (at n next : ℕ) → number_at s at ≡ read n next → NumberStands s at n next
+at_number s at n next p = go_run (digit_run s at 6) (run_digits s at 6) (sym (number_run s at) ∙ p)
   where
-    read : (k : ℕ) → DigitsAt s at k → run_read s at k ≡ line.Number n next → NumberStands s at n next
-    read k d q = go (number_ends s at k) refl q
+    go_run : (k : ℕ) → DigitsAt s at k → run_read s at k ≡ read n next → NumberStands s at n next
+    go_run k d q = go (number_ends s at k) refl q
       where
         go : (b : Bool)
             → number_ends s at k ≡ b
-            → cond b (line.Number (digits_value s at k) (at + k + 1)) line.Fault ≡ line.Number n next
+            → cond b (read (digits_value s at k) (at + k + 1)) None ≡ read n next
             → NumberStands s at n next
         go true e r =
-            let same : digits_value s at k ≡ n = cc in
-            let ends : at + k + 1 ≡ next = cc in
+            let same : digits_value s at k ≡ n = same_value r in
+            let ends : at + k + 1 ≡ next = same_next r in
             rw (same, ends) at (stands_run s at k d (test_ends s at k e))
-        go false e r = let z : ◌≡◌ {A = ℕ} 0 1 = cc in absurd (omega arith)
+        go false e r = absurd (cc)

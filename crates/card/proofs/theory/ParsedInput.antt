@@ -9,11 +9,11 @@ use lib.ListN.{length, drop}
 use lib.Seq.{drop-append_seam}
 use Rattle.lattice.specs.Shape.{Accepted, cells_of}
 use Rattle.codec.specs.Payload.{Bytes}
+use Rattle.card.proofs.theory.Found.{same_value}
 use Rattle.card.specs.declared.header.Header.{Header}
-use Rattle.card.specs.declared.header.HeaderAnswer.TheVariants as head
 use Rattle.card.specs.Text.{header_text, field_text}
 use Rattle.card.specs.Card.{max_card_cells, shape_of, FieldCells, CardHeader, payload_card, field_card}
-use Rattle.card.specs.Parse.{header_of, payload_ok, payload_of}
+use Rattle.card.specs.Parse.{read, header_of, payload_ok, payload_of}
 use Rattle.card.specs.Program.{is_payload, rows_fit, cells_in}
 use Rattle.card.specs.Form.{HeaderFirst}
 use Rattle.card.proofs.theory.HeaderRest.{first_found, header_found}
@@ -23,7 +23,7 @@ use Rattle.card.proofs.theorems.Parsing.{text_parses}
 pub card_header : (h : Header) → Accepted (shape_of h) → leb (cells_of (shape_of h)) max_card_cells ≡ true → CardHeader h
 card_header h accepted few = record { accepted = accepted; cells = leb-true (cells_of (shape_of h)) max_card_cells few }
 
-module _ (s : List ℕ) (h : Header) (next : ℕ) (found : header_of s ≡ head.Found h next) where
+module _ (s : List ℕ) (h : Header) (next : ℕ) (found : header_of s ≡ read h next) where
   -- the input starts with the text of the header that was found
   unfoldable pub first : HeaderFirst s
   first =
@@ -32,7 +32,7 @@ module _ (s : List ℕ) (h : Header) (next : ℕ) (found : header_of s ≡ head.
 
   -- no other header's text starts it
   pub same_header : (x : HeaderFirst s) → x.header ≡ h
-  same_header x = let e = first_found s x in cc
+  same_header x = same_value (sym (first_found s x) ∙ found)
 
   next_is : next ≡ length (header_text h)
   next_is = (header_found s h next found).next_line

@@ -12,6 +12,7 @@ use Rattle.lattice.specs.Range.{in_range}
 use Rattle.lattice.specs.Counting.{all_below}
 use Rattle.lattice.proofs.theory.Bools.{or_cases}
 use Rattle.lattice.proofs.theory.Limits.{range_low, range_high}
+use Rattle.codec.specs.Field.{list_of}
 use Rattle.card.specs.Text.{payload_key}
 use Rattle.card.specs.Parse.{key_at, is_hex, hex_value, hex_count, payload_ok, payload_of}
 use Rattle.card.proofs.theory.StandsAt.{at_key, byte_inside}
@@ -21,14 +22,6 @@ use Rattle.card.proofs.theory.StoredFront.{StoredTo, stored_all}
 
 -- a hexadecimal digit
 module _ (b : ℕ) where
-  pub hex_first : in_range 48 57 b ≡ true → true ≡ is_hex b
-  unfolding is_hex
-  hex_first p = rw p
-
-  pub hex_second : in_range 48 57 b ≡ false → (t : Bool) → t ≡ in_range 97 102 b → t ≡ is_hex b
-  unfolding is_hex
-  hex_second p t e = rw p e
-
   pub hex_least : is_hex b ≡ true → 48 ≤ b
   unfolding is_hex
   hex_least p =
@@ -111,11 +104,10 @@ module _ (s : List ℕ) (at : ℕ) where
   pub payload_stored : (xs ys : List ℕ) (n : ℕ)
       → length xs ≡ hex_count s at / 2
       → StoredTo (payload_byte s at) xs ys n
-      → n ≤ length ys
-      → length ys ≤ n
+      → n ≡ length xs
       → ys ≡ payload_of s at
   unfolding payload_of payload_byte
-  payload_stored xs ys n long p l q = stored_all (payload_byte s at) xs ys n p (hex_count s at / 2) (sym long) l q
+  payload_stored xs ys n long p e = stored_all (payload_byte s at) xs ys n p e ∙ ap (list_of (payload_byte s at)) long
 
 pub value_below : (b : ℕ) → is_hex b ≡ true → (v : ℕ) → v ≡ hex_value b → v < 16
 value_below b p v e = rw e (hex_range b p).0

@@ -2,7 +2,7 @@
 use Prim.Native.Nat.{ℕ, suc, ◌+◌, ◌<◌, ◌≤◌}
 use mathlib.Core.List.{List, [], ◌∷◌, ◌++◌, append_assoc}
 use mathlib.Core.Path.{◌≡◌, refl, sym, ap, ap₂, subst, ◌∙◌}
-use native.Mathlib.Nat.{add-zero, zero-add, add_assoc, le_antisymm}
+use native.Mathlib.Nat.{zero-add, add_assoc, le_antisymm}
 use native.Mathlib.Numerals.{add-one}
 use native.Mathlib.Omega.{arith}
 use lib.ListN.{length, get_or, set, take, drop, length-append, length-drop, take-append-drop}
@@ -28,14 +28,6 @@ printed_long {xs} {at = at} {text = text} r p =
     ap length (parts p)
     ∙ length-append (take at xs ++ text) (drop (at + length text) xs)
     ∙ omega (arith, front_long xs at text r, length-drop (at + length text) xs, r.fits)
-
--- the empty text
-pub printed_none : (xs : List ℕ) (at : ℕ) → at ≤ length xs → Printed xs xs at [] at
-printed_none xs at l =
-    record {
-      bytes = sym (take-append-drop at xs) ∙ ap (λ (n : ℕ). take at xs ++ drop n xs) (sym (add-zero at));
-      behind = sym (add-zero at);
-    }
 
 -- the room of a text is that of its parts
 pub room_first : {xs : List ℕ} {at : ℕ} {a : List ℕ} (b : List ℕ) → HasRoom xs at (a ++ b) → HasRoom xs at a
@@ -94,10 +86,6 @@ printed_one xs at v r =
 
 -- a text written byte by byte: the first i bytes
 module _ {xs : List ℕ} {at : ℕ} {text : List ℕ} (room : HasRoom xs at text) where
-  pub prefix_none : Printed xs xs at (take 0 text) (at + 0)
-  prefix_none =
-      subst (λ (n : ℕ). Printed xs xs at (take 0 text) n) (sym (add-zero at)) (printed_none xs at (omega (arith, room.fits)))
-
   pub prefix_more : {ys : List ℕ} (i v : ℕ) → i < length text → v ≡ get_or text i 0 → Printed xs ys at (take i text) (at + i)
       → Printed xs (set ys (at + i) v) at (take (i + 1) text) (at + (i + 1))
   prefix_more {ys} i v l e p =

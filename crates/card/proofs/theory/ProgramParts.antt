@@ -12,10 +12,9 @@ use Rattle.codec.specs.Plan.{plan_bytes}
 use Rattle.codec.specs.Encode.{encode_number}
 use Rattle.codec.specs.Decode.{decode_number}
 use Rattle.card.specs.declared.header.Header.{Header}
-use Rattle.card.specs.declared.header.HeaderAnswer.TheVariants as head
 use Rattle.card.specs.Text.{refusal_text}
 use Rattle.card.specs.Card.{max_input, max_card_cells, shape_of, CardHeader}
-use Rattle.card.specs.Parse.{header_of, payload_ok, payload_of}
+use Rattle.card.specs.Parse.{read, header_of, payload_ok, payload_of}
 use Rattle.card.specs.Program.{blank_field, blank_payload, is_payload, rows_fit, cells_in, body_ok, operation_number}
 use Rattle.card.specs.Program.{number_after}
 use Rattle.card.specs.Program.{program_number, written_text, read_text, success_text, answer}
@@ -38,7 +37,7 @@ module _ (s : List ℕ) (h : Header) (next : ℕ) where
     unfolding operation_number
     operation_payload = rw payload
 
-    pub success_payload : success_text s (head.Found h next) ≡ written_text h (payload_of s next)
+    pub success_payload : success_text s (read h next) ≡ written_text h (payload_of s next)
     unfolding success_text
     success_payload = rw payload
 
@@ -52,7 +51,7 @@ module _ (s : List ℕ) (h : Header) (next : ℕ) where
     unfolding operation_number
     operation_rows = rw rows
 
-    pub success_rows : success_text s (head.Found h next) ≡ read_text h (cells_in s h next)
+    pub success_rows : success_text s (read h next) ≡ read_text h (cells_in s h next)
     unfolding success_text
     success_rows = rw rows
 
@@ -66,7 +65,7 @@ unfolding answer
 answer_refused s other = beside_other (program_number s) _ _ other
 
 -- an input that passes every test but the operation's own has the operation's number
-pub number_operation : (s : List ℕ) (h : Header) (next : ℕ) → length s ≤ max_input → header_of s ≡ head.Found h next
+pub number_operation : (s : List ℕ) (h : Header) (next : ℕ) → length s ≤ max_input → header_of s ≡ read h next
     → CardHeader h
     → body_ok s h next ≡ true → program_number s ≡ operation_number s h next
 unfolding program_number number_after
@@ -80,7 +79,7 @@ number_operation s h next short found card right =
     )
 
 -- and where that is 0, the answer is what is printed of a success
-pub answer_found : (s : List ℕ) (h : Header) (next : ℕ) → length s ≤ max_input → header_of s ≡ head.Found h next → CardHeader h
-    → body_ok s h next ≡ true → operation_number s h next ≡ 0 → answer s ≡ success_text s (head.Found h next)
+pub answer_found : (s : List ℕ) (h : Header) (next : ℕ) → length s ≤ max_input → header_of s ≡ read h next → CardHeader h
+    → body_ok s h next ≡ true → operation_number s h next ≡ 0 → answer s ≡ success_text s (read h next)
 answer_found s h next short found card right success =
     answer_success s (number_operation s h next short found card right ∙ success) ∙ ap (success_text s) found

@@ -3,7 +3,6 @@ use Prim.Native.Nat.{ℕ}
 use mathlib.Core.List.{List, ◌∷◌}
 use mathlib.Core.Logic.{inl}
 use mathlib.Core.Path.{◌≡◌, refl, sym, ◌∙◌, subst}
-use native.Mathlib.Omega.{arith}
 use borrow.Author.Tests.{eq-eqb, eqb-true}
 use lib.Dec.{eqb}
 use lib.ListN.{length}
@@ -23,11 +22,11 @@ use Rattle.codec.specs.Conditions.{ManyErasures, NoneInReach}
 use Rattle.codec.specs.Reach.{WrongInReach}
 use Rattle.codec.proofs.theory.Accepted.{plan_cells_lem, decode_number_lem}
 use Rattle.codec.proofs.theory.FieldLists.{received_ok}
+use Rattle.std.specs.Prelude.{Option, Some, None}
+use Rattle.card.specs.declared.scan.Found.{Found}
 use Rattle.card.specs.declared.header.Header.{Header}
-use Rattle.card.specs.declared.header.HeaderAnswer.{HeaderAnswer}
-use Rattle.card.specs.declared.header.HeaderAnswer.TheVariants as head
 use Rattle.card.specs.Card.{shape_of, FieldCells, CardHeader}
-use Rattle.card.specs.Parse.{header_of, payload_of}
+use Rattle.card.specs.Parse.{read, header_of, payload_of}
 use Rattle.card.specs.Program.{blank_field, blank_payload, cells_in, operation_number, number_after}
 use Rattle.card.specs.Form.{NoHeader, header_refusals, operation_refusals, later_refusals}
 use Rattle.card.proofs.theory.ProgramParts.{blank_field_lem, blank_payload_lem, operation_payload, operation_rows}
@@ -69,7 +68,7 @@ decode_cells h card cells each =
     decode_number_lem (shape_of h) card.accepted (blank_payload h) cells (blank_payload_lem h) each.long
     ∙ rw (received_ok (field_of cells) (cells_of (shape_of h)) each.each)
 
-module _ (s : List ℕ) (h : Header) (next : ℕ) (found : header_of s ≡ head.Found h next) where
+module _ (s : List ℕ) (h : Header) (next : ℕ) (found : header_of s ≡ read h next) where
   -- the operation's own number
   operation_due : CardHeader h → CardRead s h next → Due (operation_refusals s) (operation_number s h next)
   operation_due card (of_payload e bytes text) =
@@ -90,7 +89,7 @@ module _ (s : List ℕ) (h : Header) (next : ℕ) (found : header_of s ≡ head.
       (λ reach. due_test 6 _ (padding_condition s h next found card cells each text few reach) (λ _. due_none)))))
 
   -- the number after the header
-  later_due : Due (later_refusals s) (number_after s (head.Found h next))
+  later_due : Due (later_refusals s) (number_after s (read h next))
   unfolding number_after
   later_due =
       due_append (header_refusals shape_conditions s) _ _ _ (header_due s h next found shape_conditions (shape_due (shape_of h)))
@@ -101,12 +100,12 @@ module _ (s : List ℕ) (h : Header) (next : ℕ) (found : header_of s ≡ head.
       (λ right. operation_due card (card_read s h next found right))))
 
 -- the number after the input's length
-pub after_due : (s : List ℕ) (a : HeaderAnswer) → header_of s ≡ a → Due (listed 8 (NoHeader s)
+pub after_due : (s : List ℕ) (a : Option (Found Header)) → header_of s ≡ a → Due (listed 8 (NoHeader s)
     ∷ later_refusals s) (number_after s a)
 unfolding number_after
-after_due s (head.Found h next) found =
-    due_skip (λ none. none (first s h next found)) (later_due s h next found)
-after_due s head.Fault fault = first_due 7 refl (inl (none, refl))
+after_due s (Some r) found =
+    due_skip (λ none. none (first s r.value r.next found)) (later_due s r.value r.next found)
+after_due s None found = first_due 7 refl (inl (none, refl))
   where
     none : NoHeader s
-    none x = let e = first_found s x in let z : ◌≡◌ {A = ℕ} 0 1 = cc in omega arith
+    none x = let e = first_found s x in cc

@@ -22,10 +22,9 @@ use Rattle.codec.specs.Conditions.{WrongPayloadLength, ManyErasures, NoneInReach
 use Rattle.codec.specs.Reach.{WrongInReach}
 use Rattle.codec.proofs.theory.FieldTests.{equal_decides, few_decides, reach_decides, padding_decides, tested_few}
 use Rattle.card.specs.declared.header.Header.{Header}
-use Rattle.card.specs.declared.header.HeaderAnswer.TheVariants as head
 use Rattle.card.specs.Text.{header_text, payload_text, field_text}
 use Rattle.card.specs.Card.{max_card_cells, shape_of, FieldCells, CardHeader, payload_card, field_card}
-use Rattle.card.specs.Parse.{header_of}
+use Rattle.card.specs.Parse.{read, header_of}
 use Rattle.card.specs.Program.{body_ok}
 use Rattle.card.specs.Form.{HeaderFirst, Body, header_refusals, TooManyCells, NoBody, PayloadRefused, FieldRefused}
 use Rattle.card.specs.Form.{ErasuresRefused, ReachRefused, PaddingRefused}
@@ -35,7 +34,7 @@ use Rattle.card.proofs.theory.CardLimits.{rows_some}
 use Rattle.card.proofs.theory.ParsedInput.{first, same_header, text_of, rest_of, rows_of, payload_is, payload_read}
 use Rattle.card.proofs.theory.ParsedInput.{field_is, field_read}
 
-module _ (s : List ℕ) (h : Header) (next : ℕ) (found : header_of s ≡ head.Found h next) where
+module _ (s : List ℕ) (h : Header) (next : ℕ) (found : header_of s ≡ read h next) where
   -- a condition on what the input starts with is one on the header found and the rest
   start_condition : (C : Header → List ℕ → Type 0) → C h (drop next s) ↔ ((x : HeaderFirst s) × C x.header x.rest)
   unfolding first

@@ -2,14 +2,12 @@
 use Prim.Native.Nat.{ℕ, ◌+◌, ◌-◌, ◌*◌, ◌/◌, ◌%◌, ◌<◌, ◌≤◌}
 use mathlib.Core.Bool.{Bool, true, false, ◌&&◌}
 use mathlib.Core.List.{List}
-use mathlib.Core.Path.{◌≡◌, refl, sym, ap, ◌∙◌}
-use native.Mathlib.Nat.{mul-le-mul, mul-le-mul_right, div-le_self, le_of_lt}
+use mathlib.Core.Path.{◌≡◌, sym, ap, ◌∙◌}
 use native.Mathlib.Omega.{arith}
 use lib.Dec.{eqb}
 use lib.ListN.{length, get_or}
 use borrow.Author.Tests.{eq-eqb, ne_eqb}
 use Rattle.lattice.specs.Counting.{all_below}
-use Rattle.lattice.specs.Shape.{max_side, max_cells}
 use Rattle.codec.proofs.theory.OneByOne.{PassedTo, passed_all, failed_at}
 use Rattle.card.specs.Text.{row_key, feed}
 use Rattle.card.specs.Parse.{key_at, is_cell_digit, row_start, row_ok, rows_ok, cells_of_rows}
@@ -47,10 +45,6 @@ module _ (s : List ℕ) (start w : ℕ) where
 pub row_moved : (s : List ℕ) (at w r : ℕ) (t : Bool) → t ≡ row_ok s (at + r * (w + 5)) w 0 → t ≡ row_ok s at w r
 row_moved s at w r t e = e ∙ here s (at + r * (w + 5)) w ∙ sym (row_test_lem s at w r (at + r * (w + 5)) (omega arith))
 
--- the rows, one after the other
-pub rows_product : (w k : ℕ) → k < 4294967296 → w < 65536 → k * (w + 5) ≤ 281496451547136
-rows_product w k p q = let wide : w + 5 ≤ 65541 = omega arith in mul-le-mul (le_of_lt p) wide
-
 module _ (s : List ℕ) (at w k : ℕ) where
   pub rows_behind : length s < at → false ≡ rows_ok s at w k
   unfolding rows_ok
@@ -63,9 +57,6 @@ module _ (s : List ℕ) (at w k : ℕ) where
   module _ (inside : at ≤ length s) (long : length s - at ≡ k * (w + 5)) where
     same : length s ≡ row_start at w k
     same = omega arith
-
-    pub row_inside : (r : ℕ) → r < k → at + r * (w + 5) ≤ length s
-    row_inside r l = omega (arith, mul-le-mul_right (w + 5) (le_of_lt l))
 
     pub rows_fail : (r : ℕ) → r < k → row_ok s at w r ≡ false → false ≡ rows_ok s at w k
     unfolding rows_ok
@@ -83,17 +74,9 @@ module _ (s : List ℕ) (at w : ℕ) where
       let wide : w + 5 ≡ 4 + w + 1 = omega arith in
       p ∙ ap (λ (x : ℕ). x - 48) (e ∙ ap (λ (x : ℕ). get_or s (at + i / w * x + 4 + i % w) 0) wide)
 
-  -- no place is far behind
-  pub cell_far : w ≤ max_side → (i n : ℕ) → i < n → n ≤ max_cells → i / w * (w + 5) ≤ 17104896
-  cell_far narrow i n l m =
-      let far : i / w ≤ max_cells = omega (arith, div-le_self i w) in
-      let wide : w + 5 ≤ 261 = omega arith in
-      mul-le-mul far wide
-
   pub cells_stored : (xs ys : List ℕ) (n : ℕ)
       → StoredTo (cell_byte s at w) xs ys n
-      → n ≤ length ys
-      → length ys ≤ n
+      → n ≡ length xs
       → ys ≡ cells_of_rows s at w (length xs)
   unfolding cells_of_rows cell_byte
-  cells_stored xs ys n p l q = stored_all (cell_byte s at w) xs ys n p (length xs) refl l q
+  cells_stored xs ys n p e = stored_all (cell_byte s at w) xs ys n p e

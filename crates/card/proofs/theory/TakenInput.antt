@@ -8,11 +8,11 @@ use lib.Dec.{leb}
 use lib.ListN.{length}
 use Rattle.lattice.specs.Shape.{shape_number, cells_of}
 use Rattle.lattice.proofs.theory.Answers.{unless_zero, or_else_zero}
+use Rattle.std.specs.Prelude.{Option, Some, None}
+use Rattle.card.specs.declared.scan.Found.{Found}
 use Rattle.card.specs.declared.header.Header.{Header}
-use Rattle.card.specs.declared.header.HeaderAnswer.{HeaderAnswer}
-use Rattle.card.specs.declared.header.HeaderAnswer.TheVariants as head
 use Rattle.card.specs.Card.{max_input, max_card_cells, shape_of, CardHeader}
-use Rattle.card.specs.Parse.{header_of}
+use Rattle.card.specs.Parse.{read, header_of}
 use Rattle.card.specs.Program.{body_ok, operation_number, number_after, program_number}
 use Rattle.card.proofs.theory.ParsedInput.{card_header}
 
@@ -20,14 +20,16 @@ use Rattle.card.proofs.theory.ParsedInput.{card_header}
 pub record TakenInput (s : List ℕ) : Type 0 where
   pub header : Header
   pub next : ℕ
-  pub found : header_of s ≡ head.Found header next
+  pub found : header_of s ≡ read header next
   pub card : CardHeader header
   pub right : body_ok s header next ≡ true
   pub success : operation_number s header next ≡ 0
 
-after_taken : (s : List ℕ) (a : HeaderAnswer) → header_of s ≡ a → number_after s a ≡ 0 → TakenInput s
+after_taken : (s : List ℕ) (a : Option (Found Header)) → header_of s ≡ a → number_after s a ≡ 0 → TakenInput s
 unfolding number_after
-after_taken s (head.Found h next) found e =
+after_taken s (Some r) found e =
+    let h = r.value in
+    let next = r.next in
     let shape = or_else_zero (shape_number (shape_of h)) _ e in
     let few = unless_zero (leb (cells_of (shape_of h)) max_card_cells) 7 _ shape.1 in
     let body = unless_zero (body_ok s h next) 7 _ few.1 in
@@ -39,7 +41,7 @@ after_taken s (head.Found h next) found e =
       right = body.0;
       success = body.1;
     }
-after_taken s head.Fault found e = absurd (omega arith)
+after_taken s None found e = absurd (omega arith)
 
 -- the number 0 says that every test has passed
 pub input_taken : (s : List ℕ) → program_number s ≡ 0 → TakenInput s

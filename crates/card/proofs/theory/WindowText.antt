@@ -8,8 +8,9 @@ use native.Mathlib.Nat.{add-zero}
 use native.Mathlib.Omega.{arith}
 use lib.ListN.{length, get_or, drop}
 use Rattle.lattice.proofs.theory.Bools.{or_true_left, or_true_right, or_cases, not_true}
-use Rattle.card.specs.declared.header.WindowLines.{WindowLines}
-use Rattle.card.specs.declared.header.WindowLines.TheVariants as sides
+use Rattle.std.specs.Prelude.{Option, Some, None}
+use Rattle.lattice.specs.declared.shape.Window.{Window}
+use Rattle.card.proofs.theory.Found.{same_value, same_next}
 use Rattle.card.specs.Text.{window_rows_key, window_columns_key, window_keys, number_line, lines_text, window_lines, window_from}
 use Rattle.card.specs.Card.{FewDigitsEach}
 use Rattle.card.specs.Parse.{key_at, read, lines_at, any_key_at, optional_at}
@@ -58,35 +59,35 @@ other_byte s other = (
 )
 
 -- the numbers of the lines, and the lines of these numbers
-abbrev pub window_numbers : WindowLines → List ℕ
+abbrev pub window_numbers : Option Window → List ℕ
 window_numbers l = map (λ k. k.number) (window_lines l)
 
-pub numbers_window : (l : WindowLines) → window_from (window_numbers l) ≡ l
-numbers_window sides.Absent = refl
-numbers_window (sides.Given w) = refl
+pub numbers_window : (l : Option Window) → window_from (window_numbers l) ≡ l
+numbers_window None = refl
+numbers_window (Some w) = refl
 
 -- the most that they take
-pub window_lines_most : (l : WindowLines) → lines_length (window_lines l) ≤ lines_most window_keys
-window_lines_most sides.Absent = omega arith
-window_lines_most (sides.Given w) = lines_most_lem (window_lines (sides.Given w))
+pub window_lines_most : (l : Option Window) → lines_length (window_lines l) ≤ lines_most window_keys
+window_lines_most None = omega arith
+window_lines_most (Some w) = lines_most_lem (window_lines (Some w))
 
 -- their text is read back, and where they are left out nothing is read
-pub window_back : (l : WindowLines) (s : List ℕ) (at : ℕ) (rest : List ℕ) → FewDigitsEach (window_lines l)
-    → (l ≡ sides.Absent → NoWindowLine rest) → drop at s ≡ lines_text (window_lines l) ++ rest
+pub window_back : (l : Option Window) (s : List ℕ) (at : ℕ) (rest : List ℕ) → FewDigitsEach (window_lines l)
+    → (l ≡ None → NoWindowLine rest) → drop at s ≡ lines_text (window_lines l) ++ rest
     → optional_at window_keys s at ≡ read (window_numbers l) (at + length (lines_text (window_lines l)))
 unfolding optional_at number_line
-window_back sides.Absent s at rest small whole e =
+window_back None s at rest small whole e =
     rw (no_key s at (subst NoWindowLine (sym e) (whole refl))) (ap (read []) (sym (add-zero at)))
-window_back (sides.Given w) s at rest small whole e =
+window_back (Some w) s at rest small whole e =
     rw (or_true_left (key_at window_rows_key s at) _ (begins_key window_rows_key s at (_, e)))
-    (text_lines (window_lines (sides.Given w)) s at rest small e)
+    (text_lines (window_lines (Some w)) s at rest small e)
 
 -- what they are read from is their text, and where none is read none follows
-pub record WindowStands (s : List ℕ) (at : ℕ) (l : WindowLines) (next : ℕ) : Type 0 where
+pub record WindowStands (s : List ℕ) (at : ℕ) (l : Option Window) (next : ℕ) : Type 0 where
   pub small : FewDigitsEach (window_lines l)
   pub next_line : next ≡ at + length (lines_text (window_lines l))
   pub text : drop at s ≡ lines_text (window_lines l) ++ drop next s
-  pub whole : l ≡ sides.Absent → NoWindowLine (drop next s)
+  pub whole : l ≡ None → NoWindowLine (drop next s)
   pub inside : next ≤ length s
 
 pub window_text : (s : List ℕ) (at : ℕ) (ns : List ℕ) (next : ℕ) → at ≤ length s → optional_at window_keys s at ≡ read ns next
@@ -102,7 +103,7 @@ window_text s at ns next l e = go (any_key_at window_keys s at) refl e
           small = x.small;
           next_line = x.next_line;
           text = x.text;
-          whole = λ none. let z : ◌≡◌ {A = ℕ} 0 1 = cc in absurd (omega arith);
+          whole = λ none. absurd (cc);
           inside = x.inside;
         }
     given (p ∷ q ∷ r ∷ ms) x = absurd (omega (arith, x.count))
@@ -111,8 +112,8 @@ window_text s at ns next l e = go (any_key_at window_keys s at) refl e
         → WindowStands s at (window_from ns) next
     go true some q = given ns (lines_text_lem window_keys s at ns next l q)
     go false none q =
-        let empty : [] ≡ ns = cc in
-        let ends : at ≡ next = cc in
+        let empty : [] ≡ ns = same_value q in
+        let ends : at ≡ next = same_next q in
         subst (λ (ms : List ℕ). WindowStands s at (window_from ms) next) empty
         (record {
           small = tt;

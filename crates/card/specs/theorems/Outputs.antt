@@ -1,18 +1,17 @@
 -- The theorem on the form and the length of the output.
-use Rattle.std.specs.Prelude.{ℕ, ◌<◌, ◌≤◌, List, ◌≡◌, length, take, drop}
+use Rattle.std.specs.Prelude.{ℕ, ◌<◌, ◌≤◌, List, ◌≡◌, length, take, drop, Some}
 use Rattle.lattice.specs.Shape.{no_window}
 use Rattle.codec.specs.Payload.{Bytes}
 use Rattle.codec.specs.Plan.{plan_classes, plan_bytes}
 use Rattle.codec.specs.Decode.{decode_count}
 use Rattle.card.specs.declared.header.Header.{Header}
-use Rattle.card.specs.declared.header.WindowLines.TheVariants as sides
 use Rattle.card.specs.Card.{max_answer, shape_of, CardHeader, payload_card}
 use Rattle.card.specs.Program.{blank_payload, answer, output_leaves}
 use Rattle.card.specs.Form.{OneOfThree}
 
 -- the header of the longest answer: 4 columns, 256 rows and 16 planes at strength 8, with the lines of a window
 abbrev pub longest_header : Header
-longest_header = record { columns = 4; rows = 256; planes = 16; strength = 8; window = sides.Given no_window }
+longest_header = record { columns = 4; rows = 256; planes = 16; strength = 8; window = Some no_window }
 
 -- Theorem. The output is one of the three forms and never longer than 36,946 bytes, which some are, and the numbers in it have
 -- at most five digits.

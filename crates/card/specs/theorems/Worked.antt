@@ -1,9 +1,8 @@
 -- Our own examples of the program, worked by hand: a card that is not square and has two planes, with a payload that reads
 -- differently from both ends; the limits; and every digit.
-use Rattle.std.specs.Prelude.{ℕ, List, [], ◌∷◌, ◌≡◌, length}
+use Rattle.std.specs.Prelude.{ℕ, List, [], ◌∷◌, ◌≡◌, length, None}
 use Prim.Native.String.{String, ◌++◌}
 use Rattle.card.specs.declared.header.Header.{Header}
-use Rattle.card.specs.declared.header.WindowLines.TheVariants as sides
 use Rattle.card.specs.Text.{ascii, decimal, hex_text}
 use Rattle.card.specs.Card.{max_input, max_card_cells, max_answer, CardHeader}
 use Rattle.card.specs.Parse.{header_of}
@@ -20,7 +19,7 @@ windowed = "columns=7\nrows=5\nplanes=1\nstrength=0\nwindow_rows=2\nwindow_colum
 
 -- a header of w columns and h rows in one plane, of strength 3
 abbrev pub flat : ℕ → ℕ → Header
-flat w h = record { columns = w; rows = h; planes = 1; strength = 3; window = sides.Absent }
+flat w h = record { columns = w; rows = h; planes = 1; strength = 3; window = None }
 
 -- Theorem. The examples hold.
 pub record ProgramExamples : Type 0 where

@@ -2,9 +2,8 @@
 use Prim.Native.Nat.{ℕ, ◌+◌, ◌<◌, ◌≤◌}
 use mathlib.Core.Bool.{cond}
 use mathlib.Core.List.{List}
-use mathlib.Core.Path.{◌≡◌, refl, sym, ap, ◌∙◌}
+use mathlib.Core.Path.{◌≡◌, sym, ap, ◌∙◌}
 use native.Mathlib.Decide.{ℕ_discrete}
-use native.Mathlib.Nat.{not-suc-le-zero}
 use native.Mathlib.Omega.{arith}
 use lib.Dec.{eqb}
 use lib.ListN.{length, get_or, set}
@@ -20,9 +19,6 @@ use Rattle.codec.proofs.theory.CellValues.{having_read}
 pub record ClearedTo (before now : List ℕ) (i : ℕ) : Type 0 where
   pub own : (j : ℕ) → j < i → get_or now j 0 ≡ having 1 (field_of before) j
   pub others : (j : ℕ) → i ≤ j → get_or now j 0 ≡ get_or before j 0
-
-pub cleared_none : (l : List ℕ) → ClearedTo l l 0
-cleared_none l = record { own = λ j k. absurd (not-suc-le-zero k); others = λ j k. refl }
 
 pub cleared_more : (before now : List ℕ) (i v : ℕ) → i < length now → v ≡ having 1 (field_of now) i → ClearedTo before now i
     → ClearedTo before (set now i v) (i + 1)

@@ -3,7 +3,7 @@ use Prim.Native.Nat.{ℕ, ◌+◌, ◌<◌, ◌≤◌, max}
 use mathlib.Core.Bool.{Bool, true, false, ◌&&◌}
 use mathlib.Core.Path.{◌≡◌, refl, sym, ap, ap₂, ◌∙◌}
 use native.Mathlib.Decide.{ℕ_discrete, dec_le}
-use native.Mathlib.Nat.{le_antisymm, not-suc-le-zero}
+use native.Mathlib.Nat.{not-suc-le-zero}
 use native.Mathlib.Omega.{arith}
 use Rattle.codec.specs.Field.{Field, is_received, cells_ok}
 use Rattle.codec.proofs.theory.AllBelow.{all_step}
@@ -49,7 +49,3 @@ module _ (f : Field) where
       greatest : (j : ℕ) → j < i + 1 → Dec (j ≡ i) → f j ≤ x
       greatest j l (yes d) = omega (arith, ap f d, e, g)
       greatest j l (no d) = omega (arith, t.most j (omega (arith, l, d)), g)
-
-  pub tells_all : (m i n : ℕ) → Tells f m i → i ≤ n → n ≤ i
-      → (is_received m ≡ cells_ok f n) × ((j : ℕ) → j < n → f j ≤ m)
-  tells_all m i n t l q = (t.all ∙ ap (cells_ok f) (le_antisymm l q), λ j k. t.most j (omega arith))

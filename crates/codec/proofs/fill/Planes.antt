@@ -2,16 +2,15 @@
 use Prim.Native.Nat.{ℕ, ◌+◌, ◌-◌, ◌*◌, ◌<◌, ◌≤◌}
 use mathlib.Core.List.{List, ◌++◌, append-nil}
 use mathlib.Core.Path.{◌≡◌, refl, sym, ap, ap₂, subst, ◌∙◌}
-use native.Mathlib.Nat.{zero-add, mul-le-mul_right, le_antisymm, le_of_lt, le_of_eq, le_trans}
+use native.Mathlib.Nat.{zero-add, mul-le-mul_right, le_antisymm, le_of_lt, le_of_eq}
 use native.Mathlib.Omega.{arith}
 use lib.ListN.{length, take, drop, length-drop, drop_of_length-le}
 use borrow.Author.Rules.{part_to_end}
 use borrow.Rule.Slice.PartMut.{put_mid}
 use Rattle.lattice.specs.declared.shape.Shape.{Shape}
-use Rattle.lattice.specs.Shape.{max_cells, Accepted, cells_of}
+use Rattle.lattice.specs.Shape.{cells_of}
 use Rattle.lattice.specs.Class.{layout_of}
 use Rattle.lattice.specs.Listing.{checks_to}
-use Rattle.lattice.proofs.theory.Limits.{legal}
 use Rattle.lattice.proofs.theory.Runs.{checks_none}
 use Rattle.codec.specs.Field.{list_of}
 use Rattle.codec.specs.Payload.{padding, data_field}
@@ -29,9 +28,6 @@ module _ (s : Shape) (m : ℕ) (e : m ≡ plane_cells s) where
 
   plane_within : (z : ℕ) → z < s.planes → z * m + m ≤ cells_of s
   plane_within z l = omega (arith, mul-le-mul_right m l, planes_cells)
-
-  pub plane_start : Accepted s → (z : ℕ) → z < s.planes → z * m ≤ max_cells
-  plane_start a z l = le_trans (planes_within z (le_of_lt l)) (legal _ a).product
 
 module _ (s : Shape) (payload xs : List ℕ) (long : length xs ≡ cells_of s) (m : ℕ) (e : m ≡ plane_cells s) where
   pub planes_none : Filled s payload xs xs 0 0 (0 * m)

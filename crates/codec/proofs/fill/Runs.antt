@@ -3,7 +3,7 @@ use Prim.Native.Nat.{ℕ, ◌+◌, ◌-◌, ◌*◌, ◌<◌, ◌≤◌}
 use mathlib.Core.Bool.{true, false, cond}
 use mathlib.Core.List.{List}
 use mathlib.Core.Logic.{inl, inr}
-use mathlib.Core.Path.{◌≡◌, refl, sym, ap, ap₂, subst, ◌∙◌}
+use mathlib.Core.Path.{◌≡◌, sym, ap, ap₂, subst, ◌∙◌}
 use native.Mathlib.Decide.{dec_lt}
 use native.Mathlib.Nat.{le_refl, le_trans}
 use native.Mathlib.Omega.{arith}
@@ -91,9 +91,6 @@ module _ (L : Layout) (p : List ℕ) where
             ap (λ (y : ℕ). get_or (set ys (i - at) 0) (y - at) 0) e
             ∙ get_or-set_same ys (i - at) 0 0 room
             ∙ sym (ap (data_field L padding p) e ∙ data_zero i held)
-
-pub data_none : (L : Layout) (p xs : List ℕ) (at : ℕ) → DataPut L p xs xs at at
-data_none L p xs at = record { own = λ x a b. absurd (omega arith); others = λ y o. refl }
 
 -- the run that is next, and what stands behind it
 module _ (L : Layout) (p xs ys : List ℕ) (at k i end e : ℕ) (next : AtRun L p xs ys at k i end e) where

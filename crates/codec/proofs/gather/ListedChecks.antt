@@ -2,14 +2,12 @@
 use Prim.Native.Nat.{ℕ, ◌<◌, ◌≤◌}
 use mathlib.Core.List.{List}
 use mathlib.Core.Path.{◌≡◌, sym, subst}
-use native.Mathlib.Nat.{lt_of_lt_of_le}
 use native.Mathlib.Omega.{arith}
 use lib.ListN.{get_or}
 use Rattle.lattice.specs.declared.shape.Shape.{Shape}
-use Rattle.lattice.specs.Shape.{max_cells, Accepted, cells_of}
+use Rattle.lattice.specs.Shape.{cells_of}
 use Rattle.lattice.specs.Class.{layout_of}
 use Rattle.lattice.specs.Listing.{checks_to, ListsChecks}
-use Rattle.lattice.proofs.theory.Limits.{legal}
 use Rattle.lattice.proofs.theory.Runs.{checks_most}
 
 module _ (s : Shape) (checks : List ℕ) (amount cells : ℕ) (own : cells ≡ cells_of s)
@@ -21,9 +19,6 @@ module _ (s : Shape) (checks : List ℕ) (amount cells : ℕ) (own : cells ≡ c
   -- a listed cell is one of them, and its number is small
   pub listed_inside : (k : ℕ) → k < amount → get_or checks k 0 < cells
   listed_inside k l = (lists_cells.at k l).below
-
-  pub listed_limit : Accepted s → (k : ℕ) → k < amount → get_or checks k 0 < max_cells
-  listed_limit accepted k l = lt_of_lt_of_le (lists.at k l).below (legal s accepted).product
 
 -- the checks before a cell are no more than the cells
 pub checks_before : (s : Shape) (i k : ℕ) → checks_to (layout_of s) i ≡ k → k ≤ i

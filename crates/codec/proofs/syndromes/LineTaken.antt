@@ -184,34 +184,6 @@ module _ (s : Shape) (ok : Accepted s) (l : ℕ) (line : Line) (e : List ℕ) (a
       ∙ ap₂ bit_xor (p a r) (sym (xor_same _ _ s.columns (same a)))
       ∙ sym (syndrome_from (layout_of s) (tags_of (layout_of s)) f (j * m + a) (l * s.columns) s.columns)
 
--- one cell more of a line
-pub line_none : (f : Field) (start n : ℕ) (e t : List ℕ) → LineTaken f start n 0 e t t
-line_none f start n e t = record { own = λ x l. absurd (omega arith); below = λ y l. refl; above = λ y l. refl }
-
-pub line_more : (f : Field) (start n x : ℕ) (e before t : List ℕ) (v : ℕ)
-    → LineTaken f start n x e before t → start + x < length t
-    → v ≡ bit_xor (get_or t (start + x) 0) (get_or e (start + x) 0 * f (n + x))
-    → LineTaken f start n (x + 1) e before (set t (start + x) v)
-line_more f start n x e before t v p h q =
-    record {
-      own = λ k l. own k l (ℕ_discrete k x);
-      below = λ y l. other y (λ (z : y ≡ start + x). omega arith) ∙ p.below y l;
-      above = λ y l. other y (λ (z : y ≡ start + x). omega arith) ∙ p.above y (omega arith);
-    }
-  where
-    other : (y : ℕ) → (y ≡ start + x → ⊥) → get_or (set t (start + x) v) y 0 ≡ get_or t y 0
-    other y d = get_or-set_other t (start + x) y v 0 d
-
-    own : (k : ℕ) → k < x + 1 → Dec (k ≡ x)
-        → get_or (set t (start + x) v) (start + k) 0 ≡ bit_xor (get_or before (start + k) 0) (get_or e (start + k) 0 * f (n + k))
-    own k l (yes d) =
-        ap (λ (z : ℕ). get_or (set t (start + x) v) (start + z) 0) d
-        ∙ get_or-set_same t (start + x) v 0 h
-        ∙ q
-        ∙ ap (λ (z : ℕ). bit_xor z (get_or e (start + x) 0 * f (n + x))) (p.above (start + x) (le_refl _))
-        ∙ ap (λ (z : ℕ). bit_xor (get_or before (start + z) 0) (get_or e (start + z) 0 * f (n + z))) (sym d)
-    own k l (no d) = other (start + k) (λ (z : start + k ≡ start + x). d (omega arith)) ∙ p.own k (omega arith)
-
 -- one entry more of a fold
 pub fold_none : (m a : ℕ) (t : List ℕ) → folded m a 0 t ≡ 0
 unfolding folded

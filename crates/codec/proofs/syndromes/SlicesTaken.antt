@@ -13,7 +13,6 @@ use Rattle.lattice.specs.Shape.{max_classes, Accepted, cells_of}
 use Rattle.lattice.specs.Cell.{cell_at}
 use Rattle.lattice.specs.Class.{class_at, layout_of}
 use Rattle.lattice.specs.Lines.{table_of, pass_of}
-use Rattle.lattice.specs.Sizes.{HoldsZeros}
 use Rattle.lattice.proofs.theory.ClassBelow.{class_below}
 use Rattle.lattice.proofs.theory.SizesByLines.{classes_are, slices_are, period_is, lines_are, most, all_slices, slice_room}
 use Rattle.lattice.proofs.theory.Slices.{skipped_all}
@@ -44,9 +43,6 @@ pub slice_most : (s : Shape) → Accepted s → (pass : Pass) → pass ≡ pass_
 slice_most s ok pass same j slice = omega (arith, most s ok pass same, slice_room s ok pass same j slice)
 
 module _ (s : Shape) (ok : Accepted s) (pass : Pass) (same : pass ≡ pass_of s) (f : Field) where
-  pub slices_none : (l : List ℕ) → HoldsZeros l → SlicesTaken s pass f 0 l
-  slices_none l zeros = record { own = λ a p. absurd (omega arith); none = λ a p high. zeros.at a high }
-
   module _ (j : ℕ) (l : List ℕ) (before : SlicesTaken s pass f j l) (slice : j < pass.slices) where
     pub slice_zeros : (a : ℕ) → a < pass.period → get_or l (j * pass.period + a) 0 ≡ 0
     slice_zeros a p = before.none (j * pass.period + a) (omega arith) (omega (arith, slice_most s ok pass same j slice))

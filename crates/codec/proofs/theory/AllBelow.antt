@@ -1,5 +1,5 @@
 -- Laws of tests that all the numbers below a bound pass.
-use Prim.Native.Nat.{ℕ, zero, suc, ◌+◌, ◌-◌, ◌<◌, ◌≤◌}
+use Prim.Native.Nat.{ℕ, zero, suc, ◌+◌, ◌-◌, ◌<◌}
 use mathlib.Core.Bool.{Bool, true, false, ◌&&◌, true≢false}
 use mathlib.Core.Logic.{⊎_elim}
 use mathlib.Core.Path.{◌≡◌, refl, sym, ap, ap₂, ◌∙◌}
@@ -68,7 +68,3 @@ module _ (f : ℕ → Bool) (m : ℕ) where
   last_passes (suc k) e some h =
       let here : f k ≡ true = ap f (before k) ∙ h in
       e ∙ ap (λ (b : Bool). b && all_below f k) here ∙ ap (all_below f) (before k)
-
-  pub none_left : (left : ℕ) → all_below f m ≡ all_below f left → left ≤ 0 → true ≡ all_below f m
-  none_left zero e none = sym e
-  none_left (suc k) e none = absurd (not-suc-le-zero none)

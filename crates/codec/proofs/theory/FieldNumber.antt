@@ -1,9 +1,12 @@
 -- The number that the field's own tests give in their order.
 use mathlib.Core.Bool.{Bool, true, false}
-use mathlib.Core.Path.{◌≡◌}
+use Prim.Native.Nat.{ℕ}
+use mathlib.Core.Path.{◌≡◌, sym, ap, ◌∙◌}
+use Rattle.std.specs.Prelude.{Result}
 use native.Mathlib.Omega.{arith}
 use Rattle.lattice.specs.declared.shape.Shape.{Shape}
-use Rattle.lattice.specs.Refusal.{unless}
+use Rattle.lattice.specs.declared.refusal.Refusal.{Refusal}
+use Rattle.lattice.specs.Refusal.{number_of, NoOutside, unless}
 use Rattle.lattice.specs.Shape.{cells_of}
 use Rattle.lattice.specs.Class.{layout_of}
 use Rattle.lattice.proofs.theory.Answers.{unless_zero}
@@ -49,6 +52,10 @@ field_other s f e =
     go true true false d p = omega arith
     go true false c d p = omega arith
     go false b c d p = omega arith
+
+-- so the field's own tests do not give a cell that lies outside the shape
+pub field_inside : (s : Shape) (f : Field) {x : Result ℕ Refusal} → number_of x ≡ field_number s f → NoOutside x
+field_inside s f e p = field_other s f (sym e ∙ ap number_of p)
 
 -- beside 0 the field has nothing but cells and erasures
 pub zero_cells : (s : Shape) (f : Field) → field_number s f ≡ 0 → Received f (cells_of s)

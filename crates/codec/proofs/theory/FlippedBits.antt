@@ -70,9 +70,6 @@ module _ (l : List ℕ) (k : ℕ) where
       go j p (no d) (no q) =
           ap (λ (x : ℕ). x / 2 ^ (7 - j % 8) % 2) (get_or-set_other l (k / 8) (j / 8) _ 0 q) ∙ rw (ne_eqb j k d)
 
-  pub bit_kept : length l ≤ k / 8 → BitFlipped l l k
-  bit_kept h = record { at = λ j p. rw (ne_eqb j k (λ (e : j ≡ k). omega arith)) }
-
 module _ (L : Layout) where
   -- the bits of fields that are the same
   pub bits_same : (f g : Field) (l : List ℕ) → Same f g L.cells → HoldsBits L f l → HoldsBits L g l

@@ -69,25 +69,6 @@ four_most f n i c l =
 pub fours_most : (f : Field) (n i : ℕ) → Cells f n → i + 8 ≤ n → (four_at f i ≤ 15) × (four_at f (i + 4) ≤ 15)
 fours_most f n i c l = (four_most f n i c (omega arith), four_most f n (i + 4) c (omega arith))
 
--- a bit is stored in its byte, or behind the payload's end
-module _ (l : List ℕ) (k v : ℕ) where
-  pub stored_inside : k / 8 < length l → BitStored l (set l (k / 8) ((get_or l (k / 8) 0 * 2 + v) % 256)) k v
-  stored_inside h = record { at = λ j _. go j (ℕ_discrete (k / 8) j) }
-    where
-      go : (j : ℕ) → Dec (k / 8 ≡ j)
-          → get_or (set l (k / 8) ((get_or l (k / 8) 0 * 2 + v) % 256)) j 0
-          ≡ cond (eqb (k / 8) j) ((get_or l j 0 * 2 + v) % 256) (get_or l j 0)
-      go j (yes q) =
-          ap (λ (x : ℕ). get_or (set l (k / 8) ((get_or l (k / 8) 0 * 2 + v) % 256)) x 0) (sym q)
-          ∙ get_or-set_same l (k / 8) _ 0 h
-          ∙ ap (λ (x : ℕ). (get_or l x 0 * 2 + v) % 256) q
-          ∙ rw (eq-eqb (k / 8) j q)
-      go j (no q) =
-          get_or-set_other l (k / 8) j _ 0 (λ z. q (sym z)) ∙ rw (ne_eqb (k / 8) j q)
-
-  pub stored_behind : length l ≤ k / 8 → BitStored l l k v
-  stored_behind h = record { at = λ j r. rw (ne_eqb (k / 8) j (λ (q : k / 8 ≡ j). omega arith)) }
-
 pub gathered_none : (L : Layout) (f : Field) (l : List ℕ) → ((j : ℕ) → get_or l j 0 ≡ 0) → HoldsBytes L f l 0
 gathered_none L f l p = record { at = λ j h. p j }
 

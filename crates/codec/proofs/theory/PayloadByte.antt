@@ -1,19 +1,16 @@
 -- A bit of the payload, as the code takes it out of its byte.
-use Prim.Native.Nat.{ℕ, ◌*◌, ◌-◌, ◌/◌, ◌%◌, ◌^◌, ◌<◌, ◌≤◌}
+use Prim.Native.Nat.{ℕ, ◌*◌, ◌-◌, ◌/◌, ◌%◌, ◌^◌, ◌≤◌}
 use mathlib.Core.List.{List}
 use mathlib.Core.Path.{◌≡◌, ap}
 use native.Mathlib.Nat.{one-mul, mod-eq_of_lt}
 use native.Mathlib.Omega.{arith}
 use lib.ListN.{get_or}
-use lib.Pow.{pow_mono, pow_pos}
+use lib.Pow.{pow_mono}
 use Rattle.codec.specs.Payload.{payload_bit}
 
 -- a power of two below 256 fits a byte
 pub byte_power : (k : ℕ) → 1 * 2 ^ (7 - k % 8) % 256 ≡ 2 ^ (7 - k % 8)
 byte_power k = rw one-mul (mod-eq_of_lt (let h : 7 - k % 8 ≤ 7 = omega arith in omega (arith, pow_mono h)))
-
-pub byte_power_some : (k : ℕ) → 0 < 1 * 2 ^ (7 - k % 8) % 256
-byte_power_some k = rw (byte_power k) (pow_pos (7 - k % 8))
 
 pub payload_bit_is : (p : List ℕ) (k : ℕ) → get_or p (k / 8) 0 / (1 * 2 ^ (7 - k % 8) % 256) % 2 ≡ payload_bit p k
 unfolding payload_bit

@@ -1,7 +1,9 @@
 // Fields with erased cells.
 ghost use Rattle.std.specs.Prelude.{◌<◌, ◌≤◌};
 
-use crate::cases::{damage, random};
+use crate::cases::damage::{SIDES, Stroke};
+use crate::cases::random;
+use crate::cases::sizes::Sizes;
 use lattice::shape::Shape;
 use second::answer::Buffer;
 
@@ -9,164 +11,120 @@ use second::answer::Buffer;
 fn class(shape: Shape, i: usize) -> usize {
     let columns = shape.columns as usize;
     let rows = shape.rows as usize;
-    if columns == 0 {
-        return 0;
-    }
-    if rows == 0 {
+    if columns == 0 || rows == 0 {
         return 0;
     }
     let found = second::placing::class(shape, i / columns % rows, i / columns / rows, i % columns);
     found.figures[0]
 }
 
-// The cell with number i, counted round and round.
-fn around(i: usize, cells: usize) -> usize
-    requires { 0 < cells }
-    ensures { result < cells }
-{
-    i % cells
-}
-
-// Cell i, the n-th of its class: of each `every`-th the first ones are erased, so many as `erasures` says, and the next one is
-// turned over where `beside` says so.
-fn marked(before: Buffer, i: usize, n: usize, every: usize, erasures: usize, beside: bool) -> Buffer
-    requires { (i < 512) × (0 < every) }
-{
-    if n % every != 0 {
-        return before;
-    }
-    if n / every < erasures {
-        return damage::erased(before, i);
-    }
-    if beside {
-        if n / every == erasures {
-            return damage::turned(before, i);
-        }
-    }
-    before
-}
-
-// Marks so the cells of the class of cell `first`, from that cell on.
-fn mark_class(
-    shape: Shape,
-    cells: usize,
-    first: usize,
+// What is done to a class: of each `every`-th of its cells the first ones are erased, so many as `erasures` says, and the next
+// one is turned over where `beside` says so.
+#[derive(Clone, Copy)]
+struct Marks {
     every: usize,
     erasures: usize,
     beside: bool,
-    before: Buffer,
-) -> Buffer
-    requires { (first < cells) × (cells ≤ 512) × (0 < every) }
-{
-    let a = class(shape, first);
-    let mut field = before;
-    let mut n = 0;
-    let mut step = 0;
-    while step < cells {
-        let i = around(first + step, cells);
-        if class(shape, i) == a {
-            let other = marked(field, i, n, every, erasures, beside);
-            field = other;
-            n += 1;
+    ghost some: { 0 < every },
+}
+
+impl Marks {
+    // What is done to the n-th cell of the class.
+    fn of(self, n: usize) -> Option<Stroke> {
+        if n % self.every != 0 {
+            return None;
         }
-        step += 1;
-    }
-    field
-}
-
-// Erases so many cells of the class of some cell, and turns one over beside them where `beside` says so.
-fn in_class(
-    shape: Shape,
-    cells: usize,
-    erasures: usize,
-    beside: bool,
-    x: u64,
-    before: Buffer,
-) -> Buffer
-    requires { (0 < cells) × (cells ≤ 512) }
-{
-    let first = random::below(x, cells);
-    let every = 1 + random::below(random::next(x), 3);
-    mark_class(shape, cells, first, every, erasures, beside, before)
-}
-
-// Erases two holes that are each undone, one with cell i or near it, the other with cell j.
-fn two_clusters(shape: Shape, cells: usize, i: usize, j: usize, x: u64, before: Buffer) -> Buffer
-    requires { (i < cells) × (j < cells) × (cells ≤ 512) }
-{
-    let one = damage::within(shape, cells, i, true, x, before);
-    damage::within(shape, cells, j, true, random::next(x), one)
-}
-
-// Two clusters: mostly apart, by joined cells, or over one another.
-fn clusters(shape: Shape, cells: usize, way: usize, x: u64, before: Buffer) -> Buffer
-    requires { (0 < cells) × (cells ≤ 512) }
-{
-    let i = random::below(x, cells);
-    let y = random::next(x);
-    match way {
-        0 => two_clusters(shape, cells, i, random::below(y, cells), x, before),
-        1 => two_clusters(
-            shape,
-            cells,
-            i,
-            damage::joined(shape, cells, i, random::below(y, 6)),
-            x,
-            before,
-        ),
-        _ => two_clusters(shape, cells, i, i, x, before),
-    }
-}
-
-// Erases the last cell, and perhaps the one before: padding, where they hold no check and there is any.
-fn at_the_end(cells: usize, x: u64, before: Buffer) -> Buffer
-    requires { (0 < cells) × (cells ≤ 512) }
-{
-    let last = damage::erased(before, cells - 1);
-    if 1 < cells {
-        if random::below(x, 2) == 0 {
-            return damage::erased(last, cells - 2);
+        let step = n / self.every;
+        if step < self.erasures {
+            Some(Stroke::Erase)
+        } else if self.beside && step == self.erasures {
+            Some(Stroke::TurnOver)
+        } else {
+            None
         }
     }
-    last
 }
 
-// A hole erased and another turned over, each of which would be undone.
-fn both(shape: Shape, cells: usize, x: u64, before: Buffer) -> Buffer
-    requires { (0 < cells) × (cells ≤ 512) }
-{
-    let y = random::next(x);
-    let turned = damage::hole(shape, cells, x, before);
-    damage::within(shape, cells, random::below(y, cells), true, y, turned)
-}
+impl Sizes {
+    // Marks so the cells of the class of cell `first`, from that cell on, round the end of the field.
+    fn mark_class(self, first: usize, marks: Marks, field: &mut Buffer)
+        requires { first < self.cells }
+    {
+        let a = class(self.shape, first);
+        let mut n = 0;
+        for step in 0..self.cells {
+            let i = (first + step) % self.cells;
+            if class(self.shape, i) == a {
+                if let Some(stroke) = marks.of(n) {
+                    field[i] = stroke.on(field[i]);
+                }
+                n += 1;
+            }
+        }
+    }
 
-// The erasures of a way: one or two in a class, or three for any way that is not listed; two clusters; the end of the field; one
-// beside a cell turned over in its class or anywhere; a cluster beside one turned over; three in a class together with what is
-// refused before or after them; and cells of all three values by chance.
-pub(crate) fn erase(shape: Shape, cells: usize, way: usize, x: u64, before: Buffer) -> Buffer
-    requires { (0 < cells) × (cells ≤ 512) }
-{
-    match way {
-        0 => in_class(shape, cells, 1, false, x, before),
-        1 => in_class(shape, cells, 2, false, x, before),
-        3 => clusters(shape, cells, 0, x, before),
-        4 => clusters(shape, cells, 1, x, before),
-        5 => clusters(shape, cells, 2, x, before),
-        6 => at_the_end(cells, x, before),
-        7 => at_the_end(cells, x, before),
-        8 => in_class(shape, cells, 1, true, x, before),
-        9 => in_class(
-            shape,
-            cells,
-            1,
-            false,
-            x,
-            damage::scatter(cells, 1, x, before),
-        ),
-        10 => both(shape, cells, x, before),
-        11 => damage::soil(cells, x, in_class(shape, cells, 3, false, x, before)),
-        12 => in_class(shape, cells, 3, false, x, random::buffer(x, 2)),
-        13 => random::buffer(x, 3),
-        _ => in_class(shape, cells, 3, false, x, before),
+    // Erases so many cells of the class of some cell, and turns one over beside them where `beside` says so.
+    fn erase_in_class(self, erasures: usize, beside: bool, x: u64, field: &mut Buffer) {
+        let every = 1 + random::below(random::next(x), 3);
+        let marks = Marks {
+            every,
+            erasures,
+            beside,
+        };
+        self.mark_class(random::below(x, self.cells), marks, field);
+    }
+
+    // Erases two holes that are each undone, one with cell i or near it, the other with cell j.
+    fn erase_two(self, i: usize, j: usize, x: u64, field: &mut Buffer)
+        requires { (i < self.cells) × (j < self.cells) }
+    {
+        self.strike(i, Stroke::Erase, x, field);
+        self.strike(j, Stroke::Erase, random::next(x), field);
+    }
+
+    // Erases the last cell, and perhaps the one before: padding, where they hold no check and there is any.
+    fn erase_end(self, x: u64, field: &mut Buffer) {
+        field[self.cells - 1] = Stroke::Erase.on(field[self.cells - 1]);
+        if 1 < self.cells && random::below(x, 2) == 0 {
+            field[self.cells - 2] = Stroke::Erase.on(field[self.cells - 2]);
+        }
+    }
+
+    // The damage of case `number` of those with erased cells: one or two erased in a class, or three for any case that is not
+    // listed; two clusters, mostly apart, by joined cells, or over one another; the end of the field; one beside a cell turned
+    // over in its class or anywhere; a hole beside one turned over, each of which would be undone; three in a class together
+    // with what is refused before or after them; and cells of all three values by chance.
+    pub(crate) fn erase(self, number: usize, x: u64, field: &mut Buffer) {
+        let i = random::below(x, self.cells);
+        let y = random::next(x);
+        let j = random::below(y, self.cells);
+        // The number counts the cases, and names none.
+        match number {
+            0 => self.erase_in_class(1, false, x, field),
+            1 => self.erase_in_class(2, false, x, field),
+            3 => self.erase_two(i, j, x, field),
+            4 => self.erase_two(i, self.joined(i, random::pick(y, &SIDES)), x, field),
+            5 => self.erase_two(i, i, x, field),
+            6 | 7 => self.erase_end(x, field),
+            8 => self.erase_in_class(1, true, x, field),
+            9 => {
+                self.scatter(1, x, field);
+                self.erase_in_class(1, false, x, field);
+            }
+            10 => {
+                self.punch(x, field);
+                self.strike(j, Stroke::Erase, y, field);
+            }
+            11 => {
+                self.erase_in_class(3, false, x, field);
+                self.soil(x, field);
+            }
+            12 => {
+                *field = random::buffer(x, 2);
+                self.erase_in_class(3, false, x, field);
+            }
+            13 => *field = random::buffer(x, 3),
+            _ => self.erase_in_class(3, false, x, field),
+        }
     }
 }

@@ -2,138 +2,137 @@
 ghost use Rattle.std.specs.Prelude.{◌<◌, ◌≤◌};
 
 use crate::cases::random;
-use lattice::shape::Shape;
+use crate::cases::random::After;
+use crate::cases::sizes::Sizes;
 use second::answer::{Buffer, CELLS};
 use second::shaded::shaded_write;
 
-// How a cell is changed: to the shade below, to the first, second and third shade above, and to 0, 24, 25 and 255. The first four
-// are the faults.
-pub(crate) const FAULTS: usize = 4;
-
-pub(crate) const TO_25: usize = 6;
-
-const TO_255: usize = 7;
-
-pub(crate) const WAYS: usize = 8;
-
-// Behind these ways the four faults once more, where 0 follows 24. So the word has the remainder of the fault, also where the
-// cell comes from no shade.
-pub(crate) const ROUND: usize = WAYS;
-
-// A shade that is changed in a way. But for those that go round it stays where it has none below or none so far above.
-fn changed_shade(shade: u8, way: usize) -> u8 {
-    match way {
-        0 => if 0 < shade { shade - 1 } else { shade },
-        1 => if shade < 24 { shade + 1 } else { shade },
-        2 => if shade < 23 { shade + 2 } else { shade },
-        3 => if shade < 22 { shade + 3 } else { shade },
-        4 => 0,
-        5 => 24,
-        TO_25 => 25,
-        TO_255 => 255,
-        ROUND => ((shade as u32 + 24) % 25) as u8,
-        9 => ((shade as u32 + 1) % 25) as u8,
-        10 => ((shade as u32 + 2) % 25) as u8,
-        _ => ((shade as u32 + 3) % 25) as u8,
-    }
+// How a cell is changed: to the shade below or so many above, where there is one; to so many above, where 0 follows 24, so that
+// the word has the remainder of that fault also where the cell comes from no shade; and to a number.
+#[derive(Clone, Copy, PartialEq, Eq, Debug)]
+pub(crate) enum Change {
+    Below,
+    Above(u8),
+    Round(u8),
+    To(u8),
 }
 
-// A field with cell i changed.
-pub(crate) fn changed(before: Buffer, i: usize, way: usize) -> Buffer
-    requires { i < 512 }
-{
-    let mut field = before;
-    field[i] = changed_shade(field[i], way);
-    field
+// The faults: the shade below, and the first, second and third above.
+pub(crate) const FAULTS: [Change; 4] = [
+    Change::Below,
+    Change::Above(1),
+    Change::Above(2),
+    Change::Above(3),
+];
+
+// The same, round the end of the shades.
+pub(crate) const ROUND: [Change; 4] = [
+    Change::Round(24),
+    Change::Round(1),
+    Change::Round(2),
+    Change::Round(3),
+];
+
+// The changes that each cell of a small field has: the faults, and to the ends of the shades and of what is none.
+pub(crate) const CHANGES: [Change; 8] = [
+    Change::Below,
+    Change::Above(1),
+    Change::Above(2),
+    Change::Above(3),
+    Change::To(0),
+    Change::To(24),
+    Change::To(25),
+    Change::To(255),
+];
+
+impl Change {
+    // A cell after it.
+    pub(crate) fn on(self, cell: u8) -> u8 {
+        match self {
+            Change::Below => cell.saturating_sub(1),
+            Change::Above(by) => match cell.checked_add(by) {
+                Some(shade) if shade < 25 => shade,
+                _ => cell,
+            },
+            Change::Round(by) => ((u16::from(cell) + u16::from(by)) % 25) as u8,
+            Change::To(number) => number,
+        }
+    }
 }
 
 // Digits such that, where all digits of a field are one of these, each in turn, every cell of a word comes to 0, 1, 21, 22, 23
 // and 24: the ends of the shades, and the shades from which a fault leads to an end. The check is 16 times the digit, modulo 25.
 pub(crate) const ENDS: [u8; 11] = [0, 1, 3, 6, 11, 14, 17, 21, 22, 23, 24];
 
-// A field with a fault in `count` cells, wherever they lie.
-fn scattered(cells: usize, count: usize, x: u64, before: Buffer) -> Buffer
-    requires { (0 < cells) × (cells ≤ 512) }
-{
-    let mut field = before;
-    let mut state = x;
-    let mut n = 0;
-    while n < count {
-        state = random::next(state);
-        let other = changed(
-            field,
-            random::below(state, cells),
-            random::below(random::later(state), FAULTS),
-        );
-        field = other;
-        n += 1;
-    }
-    field
-}
-
-// A field with any shades in the cells that belong to no word. Those are 0 in the field of the digit 24 alone, and no others are:
-// the check of such a word is 9.
-fn strewn(shape: Shape, digits: usize, cells: usize, x: u64, before: Buffer) -> Buffer {
-    let of_24 = shaded_write(shape, [24; CELLS], digits, [1; CELLS], cells).buffer;
-    let mut field = before;
-    let mut state = x;
-    let mut i = 0;
-    while i < CELLS {
-        state = random::next(state);
-        if of_24[i] == 0 {
-            field[i] = random::below(state, 25) as u8;
+impl Sizes {
+    // Puts a fault into `count` cells, wherever they lie.
+    fn scatter_faults(self, count: usize, x: u64, field: &mut Buffer) {
+        for state in After(x).take(count) {
+            let i = random::below(state, self.cells);
+            let fault = random::pick(random::later(state), &FAULTS);
+            field[i] = fault.on(field[i]);
         }
-        i += 1;
     }
-    field
-}
 
-// The damage of a case: none, one fault, two, more, shades in the cells that belong to no word, alone and with two faults, a cell
-// of 25 or 255, all cells by chance, also with a cell of 25, and any bytes.
-pub(crate) fn damaged(
-    shape: Shape,
-    digits: usize,
-    cells: usize,
-    case: usize,
-    x: u64,
-    before: Buffer,
-) -> Buffer
-    requires { (0 < cells) × (cells ≤ 512) }
-{
-    let i = random::below(x, cells);
-    match case {
-        4 | 5 => scattered(cells, 1, x, before),
-        6 => scattered(cells, 2, x, before),
-        7 => scattered(cells, 3 + random::below(x, 5), x, before),
-        8 => strewn(shape, digits, cells, x, before),
-        9 => strewn(shape, digits, cells, x, scattered(cells, 2, x, before)),
-        10 | 23 | 24 => changed(before, i, TO_25),
-        11 => changed(before, i, TO_255),
-        12 => random::buffer(x, 25),
-        13 => changed(random::buffer(x, 25), i, TO_25),
-        14 => random::buffer(x, 256),
-        _ => before,
+    // Puts any shades into the cells that belong to no word. Those are 0 in the field of the digit 24 alone, and no others are:
+    // the check of such a word is 9.
+    fn strew(self, x: u64, field: &mut Buffer) {
+        let of_24 = shaded_write(
+            self.shape,
+            [24; CELLS],
+            self.payload,
+            [1; CELLS],
+            self.cells,
+        )
+        .buffer;
+        for ((cell, other), state) in field.iter_mut().zip(of_24.iter()).zip(After(x)) {
+            if *other == 0 {
+                *cell = random::below(state, 25) as u8;
+            }
+        }
+    }
+
+    // The damage of a case: none, one fault, two, more, shades in the cells that belong to no word, alone and with two faults, a
+    // cell of 25 or 255, all cells by chance, also with a cell of 25, and any bytes.
+    pub(crate) fn damage_shades(self, case: usize, x: u64, field: &mut Buffer) {
+        let i = random::below(x, self.cells);
+        // The number counts the cases, and names none.
+        match case {
+            4 | 5 => self.scatter_faults(1, x, field),
+            6 => self.scatter_faults(2, x, field),
+            7 => self.scatter_faults(3 + random::below(x, 5), x, field),
+            8 => self.strew(x, field),
+            9 => {
+                self.scatter_faults(2, x, field);
+                self.strew(x, field);
+            }
+            10 | 23 | 24 => field[i] = 25,
+            11 => field[i] = 255,
+            12 => *field = random::buffer(x, 25),
+            13 => {
+                *field = random::buffer(x, 25);
+                field[i] = 25;
+            }
+            14 => *field = random::buffer(x, 256),
+            _ => {}
+        }
     }
 }
 
 // Digits of which about two thirds are 0 or 24.
 fn at_ends(x: u64) -> Buffer {
     let mut digits = random::buffer(x, 75);
-    let mut i = 0;
-    while i < CELLS {
-        if digits[i] < 25 {
-            digits[i] = 0;
-        }
-        if 49 < digits[i] {
-            digits[i] = 24;
-        }
-        digits[i] = digits[i] % 25;
-        i += 1;
+    for digit in &mut digits {
+        *digit = match *digit {
+            0..25 => 0,
+            50.. => 24,
+            other => other % 25,
+        };
     }
     digits
 }
 
-// The digits of a case: any ones, zeros, all 24, most 0 or 24.
+// The digits of a case: any ones, zeros, all 24, most 0 or 24. The number counts the cases.
 pub(crate) fn digits(case: usize, x: u64) -> Buffer {
     match case {
         1 => [0; CELLS],
@@ -143,17 +142,16 @@ pub(crate) fn digits(case: usize, x: u64) -> Buffer {
     }
 }
 
-// The digits that are written in a case: in some, one is 25 or 255.
-pub(crate) fn soiled(case: usize, digits: usize, x: u64, payload: Buffer) -> Buffer
+// Makes the digits those that are written in a case: in some, one is 25 or 255. The number counts the cases.
+pub(crate) fn soil(case: usize, digits: usize, x: u64, payload: &mut Buffer)
     requires { digits ≤ 512 }
 {
-    if digits == 0 {
-        return payload;
-    }
-    let i = random::below(x, digits);
-    match case {
-        21 | 23 | 24 => changed(payload, i, TO_25),
-        22 => changed(payload, i, TO_255),
-        _ => payload,
+    if digits != 0 {
+        let i = random::below(x, digits);
+        match case {
+            21 | 23 | 24 => payload[i] = 25,
+            22 => payload[i] = 255,
+            _ => {}
+        }
     }
 }

@@ -1,10 +1,11 @@
 // Cases for making a shape, with a window and without, the class of a cell far outside, and the gauge.
 ghost use Rattle.std.specs.Prelude.{◌<◌};
 
-use crate::cases::shapes::shape_of;
+use crate::cases::random::Case;
+use crate::cases::shapes::{NO_WINDOW, shape_of};
 use crate::cases::{fields, random, windows};
-use crate::tally::Tally;
-use crate::{given, tally};
+use crate::given;
+use crate::tally::{Operation, Tally};
 use lattice::shape::{Shape, ShapeNumbers, Window};
 use second::answer;
 use second::answer::Answer;
@@ -30,23 +31,22 @@ const EDGES: [usize; 16] = [
 ];
 
 fn edge(x: u64) -> usize {
-    EDGES[random::below(x, 16)]
+    random::pick(x, &EDGES)
 }
 
 // A number of 16 bits; 65,535, which is outside every limit, stands for the larger ones.
 fn narrow(x: usize) -> u16 {
-    if x < 65535 { x as u16 } else { 65535 }
+    u16::try_from(x).unwrap_or(u16::MAX)
 }
 
 // The shape with the numbers that it is made of.
 fn expected(n: ShapeNumbers) -> Answer {
-    let window = n.window;
     let number = second::placing::shape(Shape {
         columns: narrow(n.columns),
         rows: narrow(n.rows),
         planes: narrow(n.planes),
         strength: narrow(n.strength),
-        window,
+        window: n.window,
     });
     if number != 0 {
         return answer::of(number, [0; 6]);
@@ -63,17 +63,19 @@ fn numbers(x: u64) -> ShapeNumbers {
         rows: edge(y),
         planes: edge(z),
         strength: edge(random::next(z)),
-        window: Window {
-            rows: 0,
-            columns: 0,
-        },
+        window: NO_WINDOW,
     }
 }
 
+// Making a shape of some numbers.
+fn make(tally: &mut Tally, case: Case, n: ShapeNumbers) {
+    tally.compare(Operation::Shape, case, &given::shape(n), &expected(n));
+}
+
 // Making a shape.
-fn shape(tally: Tally, k: usize) -> Tally {
-    let n = numbers(random::seed(k, 300));
-    tally::compare(tally, tally::SHAPE, given::shape(n), expected(n), k, 300)
+fn shape(tally: &mut Tally, k: usize) {
+    let case = Case::new(k, 300);
+    make(tally, case, numbers(case.seed()));
 }
 
 // Sides of a window near the limits.
@@ -97,7 +99,8 @@ const SIDES: [usize; 16] = [
 ];
 
 // Making a shape with window k of 256, each side one of these.
-fn window(tally: Tally, planes: usize, strength: usize, k: usize) -> Tally {
+fn window(tally: &mut Tally, k: usize, planes: usize, strength: usize) {
+    let case = Case::new(k, 600);
     let n = ShapeNumbers {
         columns: 5,
         rows: 9,
@@ -108,84 +111,74 @@ fn window(tally: Tally, planes: usize, strength: usize, k: usize) -> Tally {
             columns: SIDES[k / 16 % 16],
         },
     };
-    tally::compare(tally, tally::SHAPE, given::shape(n), expected(n), k, 600)
+    make(tally, case, n);
 }
 
 // Every such window at strength 0, in one plane and in two, and at strengths that have none or are outside the limits; and every
 // cell of a field that a window rules.
-pub(crate) fn with_windows(before: Tally) -> Tally {
-    let mut tally = before;
-    let mut k = 0;
-    while k < 256 {
-        let ruled = window(window(tally, 1, 0, k), 2, 0, k);
-        let refused = window(window(ruled, 1, 3, k), 1, 33, k);
-        let shape = windows::ruled(16, 16, 3, 5);
-        let placed = fields::class(refused, shape, k / 16, 0, k % 16, k);
-        tally = placed;
-        k += 1;
+pub(crate) fn with_windows(tally: &mut Tally) {
+    for k in 0..256 {
+        window(tally, k, 1, 0);
+        window(tally, k, 2, 0);
+        window(tally, k, 1, 3);
+        window(tally, k, 1, 33);
+        fields::class(tally, k, windows::ruled(16, 16, 3, 5), k / 16, 0, k % 16);
     }
-    tally
 }
 
 // A cell far outside a shape.
-fn class(tally: Tally, k: usize) -> Tally {
-    let n = numbers(random::seed(k, 400));
-    fields::class(tally, shape_of(16, 9, 2, 5), n.columns, n.rows, n.planes, k)
+fn class(tally: &mut Tally, k: usize) {
+    let n = numbers(Case::new(k, 400).seed());
+    fields::class(tally, k, shape_of(16, 9, 2, 5), n.columns, n.rows, n.planes);
 }
 
-// The kinds of settings: of the stack's table, near the limits, and with few or many classes. Of each kind the least m, b, c and
-// t, and how far each goes beyond it; of the kind 3 the numbers are near a limit.
-const LEAST: [u16; 28] = [
-    7, 38, 92, 0, 4090, 0, 100, 2, 7, 9, 0, 0, 0, 0, 3, 11, 39, 0, 0, 0, 0, 0, 0, 0, 0, 0, 0, 0,
+// The least of a number of the settings, and how far it goes beyond it.
+type Spread = (u16, u16);
+
+// The kinds of settings: of the stack's table, near the limits, and with few or many classes. Of each kind m, b, c and t; where
+// there is none, each is near a limit.
+const KINDS: [Option<[Spread; 4]>; 7] = [
+    Some([(7, 0), (2, 0), (3, 0), (0, 19)]),
+    Some([(38, 0), (7, 0), (11, 0), (0, 19)]),
+    Some([(92, 0), (9, 0), (39, 0), (0, 19)]),
+    None,
+    Some([(4090, 9), (0, 4099), (0, 4099), (0, 19)]),
+    Some([(0, 29), (0, 29), (0, 29), (0, 19)]),
+    Some([(100, 899), (0, 29), (0, 29), (0, 19)]),
 ];
 
-const BEYOND: [u16; 28] = [
-    0, 0, 0, 0, 9, 29, 899, 0, 0, 0, 0, 4099, 29, 29, 0, 0, 0, 0, 4099, 29, 29, 19, 19, 19, 19, 19,
-    19, 19,
-];
-
-fn wide(x: u16) -> usize
-    ensures { result < 65536 }
-{
-    x as usize
+// Some number of a spread.
+fn within((least, beyond): Spread, x: u64) -> usize {
+    usize::from(least) + random::below(x, usize::from(beyond) + 1)
 }
 
-// Number i of the settings of case k.
-fn setting(k: usize, i: usize) -> usize {
-    let x = random::seed(k, 500 + i % 4);
-    if k % 7 == 3 {
-        return edge(x);
+// The settings m, b, c and t of case k.
+fn settings(k: usize) -> [usize; 4] {
+    let [x, y, z, u] = [500, 501, 502, 503].map(|part| Case::new(k, part).seed());
+    match KINDS[k % 7] {
+        None => [edge(x), edge(y), edge(z), edge(u)],
+        Some(kind) => {
+            let [m, b, c, t] = kind;
+            [within(m, x), within(b, y), within(c, z), within(t, u)]
+        }
     }
-    let at = i % 4 * 7 + k % 7;
-    wide(LEAST[at]) + random::below(x, wide(BEYOND[at]) + 1)
 }
 
-fn gauge(tally: Tally, k: usize) -> Tally {
-    let m = setting(k, 0);
-    let b = setting(k, 1);
-    let c = setting(k, 2);
-    let t = setting(k, 3);
+fn gauge(tally: &mut Tally, k: usize) {
+    let [m, b, c, t] = settings(k);
+    let given = given::gauge(m, b, c, t);
     let expected = second::gauge::gauge(m, b, c, t);
-    tally::compare(
-        tally,
-        tally::GAUGE,
-        given::gauge(m, b, c, t),
-        expected,
-        k,
-        500,
-    )
+    tally.compare(Operation::Gauge, Case::new(k, 500), &given, &expected);
 }
 
 // In 200 rounds 3 shapes are made, a cell is looked up and 2 settings are gauged.
-pub(crate) fn all(before: Tally) -> Tally {
-    let mut tally = before;
-    let mut k = 0;
-    while k < 200 {
-        let made = shape(shape(shape(tally, k), k + 200), k + 400);
-        let gauged = gauge(gauge(made, k), k + 200);
-        let placed = class(gauged, k);
-        tally = placed;
-        k += 1;
+pub(crate) fn all(tally: &mut Tally) {
+    for k in 0..200 {
+        shape(tally, k);
+        shape(tally, k + 200);
+        shape(tally, k + 400);
+        gauge(tally, k);
+        gauge(tally, k + 200);
+        class(tally, k);
     }
-    tally
 }

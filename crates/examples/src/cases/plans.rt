@@ -1,9 +1,10 @@
 // Shapes whose plans alone are compared: every flat shape up to 12 by 12 at every strength, stacks, and windows larger and
 // smaller than their fields.
+use crate::cases::random::Case;
 use crate::cases::shapes::shape_of;
 use crate::cases::windows::ruled;
-use crate::tally::Tally;
-use crate::{given, tally};
+use crate::given;
+use crate::tally::{Operation, Tally};
 use lattice::shape::Shape;
 
 // How many shapes of each kind there are: 12 × 12 × 32, 6 × 5 × 4 × 8 and 5 × 4 × 7 × 8.
@@ -34,22 +35,11 @@ fn shape(k: u16) -> Shape {
     )
 }
 
-pub(crate) fn all(before: Tally) -> Tally {
-    let mut tally = before;
-    let mut k = 0;
-    while k < SHAPES {
-        let s = shape(k);
-        let expected = second::placing::plan(s);
-        let compared = tally::compare(
-            tally,
-            tally::PLAN,
-            given::plan(s),
-            expected,
-            k as usize,
-            700,
-        );
-        tally = compared;
-        k += 1;
+pub(crate) fn all(tally: &mut Tally) {
+    for k in 0..SHAPES {
+        let shape = shape(k);
+        let case = Case::new(k as usize, 700);
+        let expected = second::placing::plan(shape);
+        tally.compare(Operation::Plan, case, &given::plan(shape), &expected);
     }
-    tally
 }

@@ -1,9 +1,15 @@
 // Flat shapes, stacks, refused shapes and, from their own modules, shapes with a window and for each number of padding cells.
 ghost use Rattle.std.specs.Prelude.{◌<◌, ◌≤◌};
 
-use crate::cases::fields::length;
+use crate::cases::random::Case;
 use crate::cases::{padding, random, windows};
 use lattice::shape::{Shape, Window};
+use second::answer::CELLS;
+
+pub(crate) const NO_WINDOW: Window = Window {
+    rows: 0,
+    columns: 0,
+};
 
 pub(crate) fn shape_of(columns: u16, rows: u16, planes: u16, strength: u16) -> Shape {
     Shape {
@@ -11,9 +17,23 @@ pub(crate) fn shape_of(columns: u16, rows: u16, planes: u16, strength: u16) -> S
         rows,
         planes,
         strength,
+        window: NO_WINDOW,
+    }
+}
+
+// A shape of a list: the columns, rows and planes and the strength, and the sides of the window, both 0 where it has none.
+pub(crate) type Listed = ([u16; 4], [usize; 2]);
+
+pub(crate) fn listed((sizes, window): Listed) -> Shape {
+    let [columns, rows, planes, strength] = sizes;
+    Shape {
+        columns,
+        rows,
+        planes,
+        strength,
         window: Window {
-            rows: 0,
-            columns: 0,
+            rows: window[0],
+            columns: window[1],
         },
     }
 }
@@ -23,18 +43,16 @@ const FLAT: u16 = 96;
 
 const STACKS: u16 = 64;
 
-const ODD: u16 = 20;
-
 const FLAT_EDGES: u16 = 192;
 
 const STACK_EDGES: u16 = 48;
 
 // How many have no window, how many come before those for every padding, and how many there are.
-const PLAIN: u16 = FLAT + STACKS + ODD + FLAT_EDGES + STACK_EDGES;
+const PLAIN: u16 = FLAT + STACKS + ODD.len() as u16 + FLAT_EDGES + STACK_EDGES;
 
 pub(crate) const FOR_PADDING: u16 = PLAIN + windows::SHAPES;
 
-pub(crate) const SHAPES: u16 = FOR_PADDING + padding::SHAPES;
+pub(crate) const SHAPES: u16 = FOR_PADDING + padding::SHAPES.len() as u16;
 
 // A flat shape of some sides from `low` on.
 fn small(low: u16, columns: usize, rows: usize, x: u64, t: u16) -> Shape
@@ -48,85 +66,75 @@ fn small(low: u16, columns: usize, rows: usize, x: u64, t: u16) -> Shape
     )
 }
 
+// Columns and rows of large flat fields.
+const LARGE: [(u16, u16); 6] = [(22, 23), (256, 2), (31, 16), (2, 256), (13, 39), (17, 29)];
+
 // Case k of the flat shapes: each strength from 1 to 32, each with a small, a middling and a large field.
 fn flat(k: u16) -> Shape {
     let t = k / 3 + 1;
-    let x = random::seed(k as usize, 100);
+    let x = Case::new(k as usize, 100).seed();
     match k % 3 {
         0 => small(1, 9, 9, x, t),
         1 => small(3, 12, 10, x, t),
-        _ => large(k / 3, t),
+        _ => {
+            let (columns, rows) = LARGE[(k / 3 % 6) as usize];
+            shape_of(columns, rows, 1, t)
+        }
     }
 }
 
-fn large(k: u16, t: u16) -> Shape {
-    match k % 6 {
-        0 => shape_of(22, 23, 1, t),
-        1 => shape_of(256, 2, 1, t),
-        2 => shape_of(31, 16, 1, t),
-        3 => shape_of(2, 256, 1, t),
-        4 => shape_of(13, 39, 1, t),
-        _ => shape_of(17, 29, 1, t),
-    }
-}
+// Columns, rows and planes of stacks, which all differ.
+const STACKED: [(u16, u16, u16); 8] = [
+    (5, 4, 3),
+    (3, 7, 5),
+    (1, 6, 2),
+    (10, 3, 7),
+    (4, 2, 16),
+    (9, 11, 5),
+    (2, 9, 4),
+    (7, 13, 2),
+];
 
-// Case k of the stacks: each strength from 1 to 8, with rows, planes and columns that all differ.
+// Case k of the stacks: each strength from 1 to 8, with each of these.
 fn stack(k: u16) -> Shape {
-    let t = k / 8 + 1;
-    match k % 8 {
-        0 => shape_of(5, 4, 3, t),
-        1 => shape_of(3, 7, 5, t),
-        2 => shape_of(1, 6, 2, t),
-        3 => shape_of(10, 3, 7, t),
-        4 => shape_of(4, 2, 16, t),
-        5 => shape_of(9, 11, 5, t),
-        6 => shape_of(2, 9, 4, t),
-        _ => shape_of(7, 13, 2, t),
-    }
+    let (columns, rows, planes) = STACKED[(k % 8) as usize];
+    shape_of(columns, rows, planes, k / 8 + 1)
 }
 
 // Shapes that plan declines, and large ones whose buffers are not of the plan's length.
-fn odd(k: u16) -> Shape {
-    match k {
-        0 => shape_of(0, 5, 1, 3),
-        1 => shape_of(5, 0, 1, 3),
-        2 => shape_of(5, 5, 0, 3),
-        3 => shape_of(257, 1, 1, 1),
-        4 => shape_of(1, 257, 1, 1),
-        5 => shape_of(2, 2, 17, 1),
-        6 => shape_of(256, 256, 2, 1),
-        7 => shape_of(256, 17, 16, 8),
-        8 => shape_of(65535, 65535, 65535, 65535),
-        9 => shape_of(0, 0, 0, 0),
-        10 => shape_of(257, 1, 1, 33),
-        11 => shape_of(5, 5, 1, 0),
-        12 => shape_of(5, 5, 1, 33),
-        13 => shape_of(5, 5, 1, 65535),
-        14 => shape_of(5, 4, 3, 0),
-        15 => shape_of(5, 4, 3, 9),
-        16 => shape_of(5, 4, 3, 32),
-        17 => shape_of(256, 256, 1, 1),
-        18 => shape_of(16, 256, 16, 2),
-        _ => shape_of(1, 1, 1, 32),
-    }
-}
+const ODD: [[u16; 4]; 20] = [
+    [0, 5, 1, 3],
+    [5, 0, 1, 3],
+    [5, 5, 0, 3],
+    [257, 1, 1, 1],
+    [1, 257, 1, 1],
+    [2, 2, 17, 1],
+    [256, 256, 2, 1],
+    [256, 17, 16, 8],
+    [65535, 65535, 65535, 65535],
+    [0, 0, 0, 0],
+    [257, 1, 1, 33],
+    [5, 5, 1, 0],
+    [5, 5, 1, 33],
+    [5, 5, 1, 65535],
+    [5, 4, 3, 0],
+    [5, 4, 3, 9],
+    [5, 4, 3, 32],
+    [256, 256, 1, 1],
+    [16, 256, 16, 2],
+    [1, 1, 1, 32],
+];
 
 // A side of about x cells.
-pub(crate) fn side(x: u16) -> u16
+pub(crate) fn side(x: usize) -> u16
     ensures { (0 < result) × (result ≤ 256) }
 {
-    if x == 0 {
-        1
-    } else if x <= 256 {
-        x
-    } else {
-        256
-    }
+    x.clamp(1, 256) as u16
 }
 
-// Shape `kind` at the edges of m classes: one column, one row, and one column less than classes, as many, and one above a
-// multiple of them.
-fn columns_at(kind: u16, m: u16) -> u16
+// Shape `kind` at the edges of m classes: one column, one row, and one column less than classes, as many, one more, and one above
+// a multiple of them. The number counts the kinds.
+fn columns_at(kind: u16, m: usize) -> u16
     requires { m ≤ 512 }
     ensures { (0 < result) × (result ≤ 256) }
 {
@@ -143,12 +151,12 @@ fn columns_at(kind: u16, m: u16) -> u16
 fn edge(kind: u16, planes: u16, strength: u16) -> Shape
     requires { (0 < planes) × (planes ≤ 3) }
 {
-    let plan = second::placing::plan(shape_of(1, 1, planes, strength));
-    let columns = columns_at(kind, length(plan, 0) as u16);
+    let [classes, ..] = second::placing::plan(shape_of(1, 1, planes, strength)).figures;
+    let columns = columns_at(kind, classes.min(CELLS));
     let rows = if kind == 1 {
         1
     } else {
-        side(512 / columns / planes)
+        side(CELLS / columns as usize / planes as usize)
     };
     shape_of(columns, rows, planes, strength)
 }
@@ -163,7 +171,7 @@ fn edge_case(k: u16) -> Shape {
 }
 
 // Shape k: the flat ones, the stacks, the odd ones, those at the edges of the classes, those with a window, and those for
-// every padding.
+// every padding, which are counted round.
 pub(crate) fn shape(k: u16) -> Shape {
     if k < FLAT {
         return flat(k);
@@ -171,14 +179,15 @@ pub(crate) fn shape(k: u16) -> Shape {
     if k < FLAT + STACKS {
         return stack(k - FLAT);
     }
-    if k < FLAT + STACKS + ODD {
-        return odd(k - FLAT - STACKS);
+    let odd = (k - FLAT - STACKS) as usize;
+    if odd < ODD.len() {
+        return listed((ODD[odd], [0, 0]));
     }
     if k < PLAIN {
-        return edge_case(k - FLAT - STACKS - ODD);
+        return edge_case(k - FLAT - STACKS - ODD.len() as u16);
     }
     if k < FOR_PADDING {
         return windows::shape(k - PLAIN);
     }
-    padding::shape(k - FOR_PADDING)
+    listed(padding::SHAPES[(k - FOR_PADDING) as usize % padding::SHAPES.len()])
 }

@@ -1,8 +1,10 @@
 // Damage in one window, wherever it lies: it may hang over each edge of the field.
 ghost use Rattle.std.specs.Prelude.{◌<◌, ◌≤◌};
 
-use crate::cases::damage::struck;
+use crate::cases::damage::Stroke;
 use crate::cases::random;
+use crate::cases::random::After;
+use crate::cases::sizes::Sizes;
 use lattice::shape::Window;
 use second::answer::Buffer;
 
@@ -10,22 +12,13 @@ use second::answer::Buffer;
 pub(crate) fn span(side: usize) -> usize
     ensures { (0 < result) × (result ≤ 512) }
 {
-    if side == 0 {
-        1
-    } else if side < 512 {
-        side
-    } else {
-        512
-    }
+    side.clamp(1, 512)
 }
 
 // Whether x is one of the numbers, as many as `span` says, that start so many before `first`.
 fn covers(first: usize, before: usize, span: usize, x: usize) -> bool {
-    let shifted = std::num::wrapping_add_usize(x, before);
-    if shifted < first {
-        return false;
-    }
-    shifted - first < span
+    let shifted = x.wrapping_add(before);
+    first <= shifted && shifted - first < span
 }
 
 // Whether cell i lies in a window with cell `start`, which has a row and a column there by chance.
@@ -36,38 +29,28 @@ fn lies_in(columns: u16, window: Window, start: usize, x: u64, i: usize) -> bool
     }
     let p = span(window.rows);
     let q = span(window.columns);
-    if !covers(start / w, random::below(x, p), p, i / w) {
-        return false;
-    }
-    covers(start % w, random::below(random::next(x), q), q, i % w)
+    covers(start / w, random::below(x, p), p, i / w)
+        && covers(start % w, random::below(random::next(x), q), q, i % w)
 }
 
-// Erases or turns over the cells of such a window: all of them, or each by chance.
-pub(crate) fn tear(
-    columns: u16,
-    window: Window,
-    cells: usize,
-    start: usize,
-    erase: bool,
-    x: u64,
-    before: Buffer,
-) -> Buffer
-    requires { cells ≤ 512 }
-{
-    let y = random::later(x);
-    let mut state = random::later(y);
-    let some = random::below(state, 2);
-    let mut field = before;
-    let mut i = 0;
-    while i < cells {
-        state = random::next(state);
-        if lies_in(columns, window, start, y, i) {
-            if some <= random::below(state, 2) {
-                let other = struck(field, i, erase);
-                field = other;
+impl Sizes {
+    // Erases or turns over the cells of such a window: all of them, or each by chance.
+    pub(crate) fn tear(
+        self,
+        window: Window,
+        start: usize,
+        stroke: Stroke,
+        x: u64,
+        field: &mut Buffer,
+    ) {
+        let y = random::later(x);
+        let z = random::later(y);
+        let some = random::below(z, 2);
+        let cells = field[..self.cells].iter_mut().enumerate();
+        for ((i, cell), state) in cells.zip(After(z)) {
+            if lies_in(self.shape.columns, window, start, y, i) && some <= random::below(state, 2) {
+                *cell = stroke.on(*cell);
             }
         }
-        i += 1;
     }
-    field
 }

@@ -2,11 +2,10 @@
 use Prim.Native.Nat.{ℕ}
 use mathlib.Core.Bool.{true, false}
 use mathlib.Core.Path.{◌≡◌, sym, ap, ◌∙◌}
-use native.Mathlib.Omega.{arith}
+use Rattle.std.specs.Prelude.{Ok}
 use Rattle.lattice.specs.declared.refusal.Refusal.{Refusal}
 use Rattle.lattice.specs.declared.shape.Shape.{Shape}
 use Rattle.lattice.specs.declared.class.Placement.{Placement}
-use Rattle.lattice.specs.declared.class.CellClass.TheVariants as cls
 use Rattle.lattice.specs.Refusal.{refusal_number}
 use Rattle.lattice.specs.Shape.{shape_number, Accepted}
 use Rattle.lattice.specs.Cell.{Cell, InField}
@@ -44,11 +43,11 @@ module _ (s : Shape) (x : Cell) where
 
   -- the class by the shape's placement is the cell's
   pub class_given_lem : (k : Placement) (a : ℕ) → Classed → k ≡ placement_given s → a ≡ class_by k x
-      → IsCellClass s x (cls.Class a)
+      → IsCellClass s x (Ok a)
   unfolding class_given
   class_given_lem k a c g e =
       record {
         number = sym c.none;
         class = done _ _ _ _ c.none (e ∙ ap (λ (j : Placement). class_by j x) g ∙ placed s c.accepted x);
-        reason = λ z. let n : ◌≡◌ {A = ℕ} 0 1 = cc in omega arith;
+        reason = λ z. cc;
       }

@@ -2,12 +2,11 @@
 use Prim.Native.Nat.{ℕ, zero, suc}
 use mathlib.Core.Bool.{Bool, true, false}
 use mathlib.Core.Path.{◌≡◌, refl, sym, ap, ◌∙◌}
+use Rattle.std.specs.Prelude.{Result, Ok, Err, IsErrAnd}
 use native.Mathlib.Omega.{arith}
 use Rattle.lattice.specs.declared.refusal.Refusal.{Refusal}
 use Rattle.lattice.specs.declared.refusal.Refusal.TheVariants as why
-use Rattle.lattice.specs.declared.refusal.Tested.{Tested}
-use Rattle.lattice.specs.declared.refusal.Tested.TheVariants as test
-use Rattle.lattice.specs.Refusal.{refusal_number, tested_number, unless, or_else, beside}
+use Rattle.lattice.specs.Refusal.{refusal_number, number_of, unless, or_else, beside}
 
 -- no refusal has the number 0
 pub some_number : (r : Refusal) → refusal_number r ≡ 0 → ⊥
@@ -41,29 +40,20 @@ refused r n x y e = sym (beside_other n x y (λ z. some_number r (e ∙ z)))
 pub done : {A : Type 0} (n : ℕ) (x y made : A) → n ≡ 0 → made ≡ x → made ≡ beside n x y
 done n x y made e p = p ∙ sym (beside_zero n x y e)
 
--- what tests that give n tell: a refusal has the number n, and where they pass n is 0
-pub told : {t : Tested} {r : Refusal} {n : ℕ} → tested_number t ≡ n → t ≡ test.Refused r → refusal_number r ≡ n
-told e p = sym (ap tested_number p) ∙ e
+-- what `?` hands on is the refusal itself
+pub handed_on : {A : Type 0} {r : Result A Refusal} {q : Refusal} → IsErrAnd r (λ p. p ≡ q) → r ≡ Err q
+handed_on {r = Ok x} e = absurd e
+handed_on {r = Err p} e = ap Err e
 
-pub told_none : {t : Tested} {n : ℕ} → tested_number t ≡ n → t ≡ test.Passed → n ≡ 0
-told_none e p = sym e ∙ ap tested_number p
+-- and a reason that it is not in one answer it is not in another
+pub kept_reason : {A B : Type 0} {q p : Refusal} → (◌≡◌ {A = Result A Refusal} (Err q) (Err p) → ⊥)
+    → ◌≡◌ {A = Result B Refusal} (Err q) (Err p) → ⊥
+kept_reason {q = q} {p = p} other e = let same : q ≡ p = cc in other (ap Err same)
 
 -- tests whose number is not a reason's do not give that reason
-pub other_reason : {t : Tested} {n : ℕ} → tested_number t ≡ n → (q : Refusal) → (n ≡ refusal_number q → ⊥) → t ≡ test.Refused q
-    → ⊥
-other_reason e q other p = other (sym e ∙ ap tested_number p)
-
-pub passed_reason : (q : Refusal) → test.Passed ≡ test.Refused q → ⊥
-passed_reason q e = let z : ◌≡◌ {A = ℕ} 0 1 = cc in omega arith
-
-pub length_outside : test.Refused why.FieldLength ≡ test.Refused why.OutsideShape → ⊥
-length_outside e = let z : ◌≡◌ {A = ℕ} 0 1 = cc in omega arith
-
-pub outside_length : test.Refused why.OutsideShape ≡ test.Refused why.FieldLength → ⊥
-outside_length e = length_outside (sym e)
-
-pub kept_reason : {t : Tested} {r : Refusal} (q : Refusal) → t ≡ test.Refused r → (t ≡ test.Refused q → ⊥) → r ≡ q → ⊥
-kept_reason q p other e = other (p ∙ ap test.Refused e)
+pub other_reason : {A : Type 0} {t : Result A Refusal} {n : ℕ} → number_of t ≡ n → (q : Refusal) → (n ≡ refusal_number q → ⊥)
+    → t ≡ Err q → ⊥
+other_reason e q other p = other (sym e ∙ ap number_of p)
 
 -- an earlier refusal stands, and where there is none the later tests give the number
 earlier : (n later : ℕ) → (n ≡ 0 → ⊥) → or_else n later ≡ n

@@ -1,7 +1,7 @@
 -- The digits of a field of levels, counted from a table of the sizes of its classes.
 use Prim.Native.Nat.{ℕ, ◌*◌, ◌<◌}
 use mathlib.Core.List.{List}
-use mathlib.Core.Path.{◌≡◌, refl, ap, ◌∙◌}
+use mathlib.Core.Path.{◌≡◌, refl, ap}
 use lib.ListN.{get_or}
 use Rattle.lattice.specs.declared.shape.Shape.{Shape}
 use Rattle.lattice.specs.Refusal.{figure}
@@ -12,7 +12,6 @@ use Rattle.lattice.specs.Sizes.{HoldsSizes}
 use Rattle.lattice.specs.Digits.{words_in, words_below, digits_below, digits_of, digits_in}
 use Rattle.lattice.proofs.theory.Counting.{sum_same}
 use Rattle.lattice.proofs.theory.CapacityGiven.{over_given, sizes_own}
-use Rattle.lattice.proofs.theory.Answers.{beside_zero}
 
 -- where the table has the sizes of m classes, they are the digits that these hold
 digits_held : (L : Layout) (m : ℕ) (xs : List ℕ) → ((a : ℕ) → a < m → get_or xs a 0 ≡ size L a) → digits_in xs m
@@ -27,8 +26,3 @@ unfolding digits_in
 digits_given s xs m p given =
     over_given s m (digits_of s) (digits_in xs) refl given
     (λ e. digits_held (layout_of s) (classes_of s) xs (sizes_own s xs e (p e)))
-
--- and of an accepted one its own
-pub digits_accepted : (s : Shape) (xs : List ℕ) (m : ℕ) → Accepted s → HoldsSizes (layout_of s) xs (cells_of s)
-    → m ≡ figure (shape_number s) (classes_of s) → digits_in xs m ≡ digits_of s
-digits_accepted s xs m e p given = digits_given s xs m (λ _. p) given ∙ beside_zero (shape_number s) (digits_of s) 0 e

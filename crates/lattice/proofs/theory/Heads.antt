@@ -2,7 +2,6 @@
 use Prim.Native.Nat.{ℕ, zero, suc, ◌+◌, ◌-◌, ◌*◌, ◌%◌, ◌<◌, ◌≤◌}
 use mathlib.Core.Path.{◌≡◌, refl, sym, ap, ap₂, ◌∙◌}
 use native.Mathlib.Nat.{add-mod_right, mod-eq_of_lt, le_refl}
-use native.Mathlib.Numerals.{add-one}
 use native.Mathlib.Omega.{arith}
 use Rattle.lattice.specs.Position.{Layout, size_to}
 use Rattle.lattice.proofs.theory.Counting.{bit}
@@ -47,10 +46,6 @@ module _ (m : ℕ) (start : ℕ → ℕ) where
   unfolding heads among
   heads_none zero = refl
   heads_none (suc n) = omega (arith, heads_none n)
-
-  heads_step : (n y : ℕ) → heads m start (n + 1) y ≡ among m (start n) y + heads m start n y
-  unfolding heads
-  heads_step n y = rw (add-one n)
 
   -- one place more: the lines that begin there
   pub heads_next : ((l : ℕ) → start l < m) → (n y : ℕ) → heads m start n (y + 1) ≡ heads m start n y + starts_at start (y % m) n

@@ -21,11 +21,6 @@ pub in_range_lem : (low high x : ℕ) → low ≤ x → x ≤ high → in_range 
 unfolding in_range
 in_range_lem low high x p q = and_true (leb low x) (leb x high) (le-leb low x p) (le-leb x high q)
 
--- from the lower end on, the test is that of the upper end
-pub range_above : (low high x : ℕ) → low ≤ x → in_range low high x ≡ leb x high
-unfolding in_range
-range_above low high x p = ap (λ (b : Bool). b && leb x high) (le-leb low x p)
-
 pub range_below : (low high x : ℕ) → x < low → in_range low high x ≡ false
 unfolding in_range
 range_below low high x p = and_false_left (leb low x) (leb x high) (lt-leb low x p)
@@ -38,25 +33,6 @@ pub range_high : (low high x : ℕ) → in_range low high x ≡ true → x ≤ h
 unfolding in_range
 range_high low high x p = leb-true x high (and_right (leb low x) (leb x high) p)
 
--- the size test fails with each of its parts, and is the last part's where the others hold
-pub size_width : (w h d : ℕ) → in_range 1 max_side w ≡ false → size_ok w h d ≡ false
-unfolding size_ok
-size_width w h d p = rw p
-
-pub size_height : (w h d : ℕ) → in_range 1 max_side w ≡ true → in_range 1 max_side h ≡ false → size_ok w h d ≡ false
-unfolding size_ok
-size_height w h d p q = rw (p, q)
-
-pub size_planes : (w h d : ℕ) → in_range 1 max_side w ≡ true → in_range 1 max_side h ≡ true → in_range 1 max_planes d ≡ false
-    → size_ok w h d ≡ false
-unfolding size_ok
-size_planes w h d p q r = rw (p, q, r)
-
-pub size_product : (w h d : ℕ) → in_range 1 max_side w ≡ true → in_range 1 max_side h ≡ true → in_range 1 max_planes d ≡ true
-    → size_ok w h d ≡ leb (w * h * d) max_cells
-unfolding size_ok
-size_product w h d p q r = rw (p, q, r)
-
 pub max_flat : (d : ℕ) → d ≡ 1 → max_strength d ≡ max_flat_strength
 unfolding max_strength
 max_flat d p = rw (eq-eqb d 1 p)
@@ -64,16 +40,6 @@ max_flat d p = rw (eq-eqb d 1 p)
 pub max_stack : (d : ℕ) → (d ≡ 1 → ⊥) → max_strength d ≡ max_stack_strength
 unfolding max_strength
 max_stack d p = rw (ne_eqb d 1 p)
-
--- a window is none exactly where both sides are 0
-module _ (w : Window) where
-  pub none_rows : (w.rows ≡ 0 → ⊥) → is_none w ≡ false
-  unfolding is_none
-  none_rows p = rw (ne_eqb w.rows 0 p)
-
-  pub none_columns : w.rows ≡ 0 → is_none w ≡ eqb w.columns 0
-  unfolding is_none
-  none_columns p = rw (eq-eqb w.rows 0 p)
 
 -- the number of a shape, from the three tests
 module _ (s : Shape) where

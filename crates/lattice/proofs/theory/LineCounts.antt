@@ -3,7 +3,7 @@ use Prim.Native.Nat.{ℕ, ◌+◌, ◌*◌, ◌%◌, ◌<◌, ◌≤◌}
 use mathlib.Core.List.{List}
 use mathlib.Core.Path.{◌≡◌, sym, ap, ◌∙◌}
 use native.Mathlib.Decide.{ℕ_discrete, dec_lt}
-use native.Mathlib.Nat.{mod_self, mod-eq_of_lt, mod-add-mod}
+use native.Mathlib.Nat.{mod-add-mod}
 use native.Mathlib.Omega.{arith}
 use lib.Dec.{eqb}
 use lib.ListN.{length, get_or, set, replicate, get_or-replicate, length-replicate, get_or-eq_default}
@@ -55,28 +55,10 @@ unfolding starts_at
 starts_most start a n = count_most (λ l. eqb (start l) a) n
 
 -- the place after a place of a table of m
-pub place_on : (a m : ℕ) → a + 1 < m → a + 1 ≡ (a + 1) % m
-place_on a m l = sym (mod-eq_of_lt l)
-
-pub place_over : (a m : ℕ) → a < m → m ≤ a + 1 → 0 ≡ (a + 1) % m
-place_over a m l r =
-    let e : a + 1 ≡ m = omega arith in
-    sym (ap (λ (n : ℕ). n % m) e ∙ mod_self m)
-
 pub place_next : (a y m r : ℕ) → a ≡ y % m → r ≡ (a + 1) % m → r ≡ (y + 1) % m
 place_next a y m r p q = q ∙ ap (λ (n : ℕ). (n + 1) % m) p ∙ mod-add-mod y m 1
 
 -- sums of what stands before each place
-pub sums_none : (f : ℕ → ℕ) (xs : List ℕ) → get_or xs 0 0 ≡ 0 → Sums f 0 xs
-sums_none f xs p =
-    record {
-      first = p;
-      next = λ k l. absurd (omega arith);
-      most = λ k l.
-          let e : k ≡ 0 = omega arith in
-          omega (arith, ap (λ (n : ℕ). get_or xs n 0) e);
-    }
-
 pub sums_more : (f : ℕ → ℕ) (y : ℕ) (xs : List ℕ) (v : ℕ) → Sums f y xs → y + 1 < length xs → v ≡ get_or xs y 0 + f y
     → f y ≤ max_cells
     → Sums f (y + 1) (set xs (y + 1) v)

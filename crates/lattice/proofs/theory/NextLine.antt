@@ -1,14 +1,14 @@
 -- The line after a line, as the code keeps it.
 use Prim.Native.Nat.{ℕ, ◌+◌, ◌-◌, ◌*◌, ◌%◌, ◌<◌, ◌≤◌}
 use mathlib.Core.Path.{◌≡◌, sym, ap, ◌∙◌}
-use native.Mathlib.Nat.{mod-lt, zero-mod, mul_assoc, mul-le-mul}
+use native.Mathlib.Nat.{mod-lt, zero-mod, mul_assoc}
 use native.Mathlib.Omega.{arith}
 use Rattle.lattice.specs.declared.class.Placement.{Placement}
 use Rattle.lattice.specs.declared.line.Line.{Line}
 use Rattle.lattice.specs.declared.line.Pass.{Pass}
 use Rattle.lattice.specs.declared.settings.Settings.{Settings}
 use Rattle.lattice.specs.declared.shape.Shape.{Shape}
-use Rattle.lattice.specs.Shape.{max_side, max_planes, max_cells, max_classes, shape_number, Accepted}
+use Rattle.lattice.specs.Shape.{max_cells, max_classes, shape_number, Accepted}
 use Rattle.lattice.specs.Class.{minus_mod, placement_of}
 use Rattle.lattice.specs.Lines.{table_of, pass_with, no_pass, pass_of, pass_given, IsLine}
 use Rattle.lattice.proofs.theory.Answers.{beside_zero}
@@ -144,9 +144,6 @@ pass_is p s cells plane c t i =
 
 -- the numbers of an accepted shape's pass are small
 module _ (s : Shape) (accepted : Accepted s) where
-  pub lines_few : s.rows * s.planes ≤ max_side * max_planes
-  lines_few = mul-le-mul (legal s accepted).height_high (legal s accepted).planes_high
-
   pub cells_few : s.columns * (s.rows * s.planes) ≤ max_cells
   cells_few = rw (← (mul_assoc s.columns s.rows s.planes)) (legal s accepted).product
 

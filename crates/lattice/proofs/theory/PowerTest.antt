@@ -1,22 +1,55 @@
--- The code's test of a power of two: by the highest power of two in a number.
-use Prim.Native.Nat.{ℕ, ◌*◌, ◌-◌, ◌%◌, ◌^◌, ◌<◌, ◌≤◌}
-use mathlib.Core.Bool.{false}
-use mathlib.Core.Logic.{⊎_elim}
+-- The library's test of a power of two, that one bit is set, is the definition's; and how many bits a number of 32 bits has.
+use Prim.Native.Nat.{ℕ, zero, suc, ◌+◌, ◌-◌, ◌/◌, ◌%◌, ◌^◌, ◌<◌, ◌≤◌}
+use mathlib.Core.Bool.{Bool, true, false}
 use mathlib.Core.Path.{◌≡◌, refl, sym, ap, ◌∙◌}
-use native.Mathlib.Decide.{dec_lt}
-use native.Mathlib.Nat.{one-mul, mod-eq_of_lt, lt_of_le_of_lt, eq-or-lt_of_le}
+use native.Mathlib.Decide.{ℕ_discrete, dec_lt}
+use native.Mathlib.Nat.{le_refl}
 use native.Mathlib.Omega.{arith}
-use lib.Dec.{eqb}
+use borrow.Author.Tests.{eqb-true, eq-eqb}
 use lib.Pow.{pow_mono}
-use borrow.Author.Tests.{eq-eqb, ne_eqb}
+use lib.Count.{ones, ones_step}
+use Rattle.std.specs.Int.{is_power_of_two}
+use Rattle.std.specs.Prelude.{count_ones}
+use Rattle.std.proofs.lemmas.Nat.{ones_le_self, zero_from_ones}
 use Rattle.lattice.specs.Check.{is_power, checks}
 use Rattle.lattice.proofs.theory.BitLength.{Top, top_of}
-use Rattle.lattice.proofs.theory.Powers.{power, between}
+use Rattle.lattice.proofs.theory.Powers.{power, exponent}
 
--- 0 is none
-pub not_power : (p : ℕ) → p ≡ 0 → false ≡ is_power p
-unfolding is_power
-not_power p e = rw e refl
+-- a number of at most d with one bit set is a power of two
+one_bit : (d n : ℕ) → n ≤ d → count_ones n ≡ 1 → (k : ℕ) × (2 ^ k ≡ n)
+one_bit zero n few one = absurd (omega (arith, ones_le_self n))
+one_bit (suc d) n few one =
+    go (ℕ_discrete (n % 2) 1) (λ half. one_bit d (n / 2) (omega (arith, ones_le_self n)) half)
+  where
+    step : count_ones n ≡ n % 2 + count_ones (n / 2)
+    step = ones_step n
+
+    go : Dec (n % 2 ≡ 1) → (count_ones (n / 2) ≡ 1 → (k : ℕ) × (2 ^ k ≡ n / 2)) → (k : ℕ) × (2 ^ k ≡ n)
+    go (yes odd) rest =
+        let half : n / 2 ≡ 0 = zero_from_ones (n / 2) (omega (arith, step)) in
+        (0, omega arith)
+    go (no even) rest =
+        let found : (k : ℕ) × (2 ^ k ≡ n / 2) = rest (omega (arith, step)) in
+        (suc found.0, omega (arith, found.1))
+
+-- and a power of two has one bit set
+power_bit : (k : ℕ) → count_ones (2 ^ k) ≡ 1
+unfolding ones
+power_bit zero = refl
+power_bit (suc k) =
+    let half : 2 ^ suc k / 2 ≡ 2 ^ k = omega arith in
+    ones_step (2 ^ suc k) ∙ omega (arith, ap count_ones half, power_bit k)
+
+pub power_test : (p : ℕ) → is_power_of_two p ≡ is_power p
+power_test p = same (is_power_of_two p) (is_power p)
+    (λ one. let found : (k : ℕ) × (2 ^ k ≡ p) = one_bit p p (le_refl p) (eqb-true _ _ one) in
+    ap is_power (sym found.1) ∙ power found.0)
+    (λ yes. let found : (k : ℕ) × (2 ^ k ≡ p) = exponent p yes in eq-eqb _ _ (ap count_ones (sym found.1) ∙ power_bit found.0))
+  where
+    same : (a b : Bool) → (a ≡ true → b ≡ true) → (b ≡ true → a ≡ true) → a ≡ b
+    same true b f g = sym (f refl)
+    same false true f g = g refl
+    same false false f g = refl
 
 -- a number of 32 bits, of at least 1, and the number of its bits
 module _ (p k : ℕ) (few : p < 2 ^ 32) (some : p ≡ 0 → ⊥) (e : k ≡ checks p) where
@@ -32,19 +65,3 @@ module _ (p k : ℕ) (few : p < 2 ^ 32) (some : p ≡ 0 → ⊥) (e : k ≡ chec
       go : Dec (top.top < 32) → k - 1 < 32
       go (yes l) = omega (arith, top.number)
       go (no l) = let h : 32 ≤ top.top = omega arith in absurd (omega (arith, pow_mono h, top.low))
-
-  highest : 1 * 2 ^ (k - 1) % 4294967296 ≡ 2 ^ top.top
-  highest =
-      let j : k - 1 ≡ top.top = omega (arith, top.number) in
-      rw (j, one-mul) (mod-eq_of_lt (lt_of_le_of_lt top.low few))
-
-  only_top : eqb (2 ^ top.top) p ≡ is_power p
-  only_top =
-      ⊎_elim
-      (λ (q : 2 ^ top.top ≡ p). eq-eqb _ p q ∙ sym (ap is_power (sym q) ∙ power top.top))
-      (λ (l : 2 ^ top.top < p).
-      ne_eqb _ p (λ (q : 2 ^ top.top ≡ p). omega arith) ∙ sym (between top.top p l top.high))
-      (eq-or-lt_of_le top.low)
-
-  pub power_test : eqb (1 * 2 ^ (k - 1) % 4294967296) p ≡ is_power p
-  power_test = ap (λ (n : ℕ). eqb n p) highest ∙ only_top

@@ -3,10 +3,9 @@ use Prim.Native.Nat.{ℕ, suc, ◌+◌, ◌-◌, ◌<◌, ◌≤◌}
 use mathlib.Core.Bool.{Bool, true, false, cond}
 use mathlib.Core.List.{List, [], ◌∷◌, ◌++◌}
 use mathlib.Core.Path.{◌≡◌, refl, sym, ◌∙◌, ap}
-use native.Mathlib.Nat.{sub-zero}
 use native.Mathlib.Numerals.{add-one}
 use native.Mathlib.Omega.{arith}
-use lib.IntN.{ℤ, pos, ◌+ℤ◌, +ℤ-suc_ℤ, +ℤ_idr}
+use lib.IntN.{ℤ, pos, ◌+ℤ◌, +ℤ-suc_ℤ}
 use Rattle.lattice.specs.declared.settings.Settings.{Settings}
 use Rattle.lattice.specs.declared.distance.Triple.{Triple}
 use Rattle.lattice.specs.Order.{run}
@@ -39,9 +38,6 @@ past_step false x s t u f h = ap (after 1) (f h) ∙ after_after 1 s.tried u
 
 module _ (k : Settings) where
   -- a triple that fails ends the scan, and one that does not is passed
-  pub scan_hit : (x : Triple) (xs : List Triple) → fails_at k x ≡ true → scan k (x ∷ xs) ≡ hit x 1
-  scan_hit x xs e = ap (λ (b : Bool). cond b (hit x 1) (after 1 (scan k xs))) e
-
   pub scan_pass : (x : Triple) (xs : List Triple) → fails_at k x ≡ false → scan k (x ∷ xs) ≡ after 1 (scan k xs)
   scan_pass x xs e = ap (λ (b : Bool). cond b (hit x 1) (after 1 (scan k xs))) e
 
@@ -78,6 +74,3 @@ run_step first i count h =
 
 pub run_end : (z : ℤ) (i count : ℕ) → count ≤ i → run z (count - i) ≡ []
 run_end z i count h = ap (run z) (let e : count - i ≡ 0 = omega arith in e)
-
-pub run_start : (z : ℤ) (count : ℕ) → run (z +ℤ pos 0) (count - 0) ≡ run z count
-run_start z count = rw (+ℤ_idr, sub-zero)

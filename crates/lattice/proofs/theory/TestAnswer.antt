@@ -3,21 +3,22 @@ use Prim.Native.Nat.{ℕ, ◌+◌, ◌-◌, ◌<◌, ◌≤◌}
 use mathlib.Core.Bool.{Bool, true, false, not, ◌&&◌}
 use mathlib.Core.Path.{◌≡◌, sym, ◌∙◌, ap}
 use native.Mathlib.Omega.{arith}
-use borrow.Author.Tests.{ltb-true, le-ltb, lt-ltb}
+use borrow.Author.Tests.{ltb-true}
 use lib.Dec.{ltb}
+use Rattle.std.specs.Prelude.{Ok, Err}
 use Rattle.lattice.specs.declared.refusal.Refusal.{Refusal}
-use Rattle.lattice.specs.declared.distance.DistanceTest.TheVariants as dst
+use Rattle.lattice.specs.declared.distance.Trial.{Trial}
 use Rattle.lattice.specs.Refusal.{refusal_number}
 use Rattle.lattice.specs.Range.{in_range}
 use Rattle.lattice.specs.Settings.{settings}
 use Rattle.lattice.specs.Order.{order, origin}
 use Rattle.lattice.specs.DistanceTest.{max_test_strength, max_test_classes, scan, outcome, test_strength_ok, test_settings_ok}
 use Rattle.lattice.specs.DistanceTest.{test_number, verdict, found_triple, triples_tried, Scan}
+use Rattle.lattice.specs.Scanning.{scan_of}
 use Rattle.lattice.specs.Answer.{IsDistanceTest}
 use Rattle.lattice.proofs.theory.Bools.{and_left, and_right, failed, passed}
 use Rattle.lattice.proofs.theory.Limits.{range_low, range_high}
 use Rattle.lattice.proofs.theory.Answers.{unless_zero, beside_other, refused, done}
-use Rattle.lattice.proofs.theory.ScanMeaning.{missed}
 
 -- a range check's flag, negated, says whether the strength is in range
 pub strength_refused : (t : ℕ) (b : Bool) → b ≡ in_range 1 max_test_strength t → b ≡ false → test_strength_ok t ≡ false
@@ -43,19 +44,6 @@ settings_bounds m b c h =
       ltb-true b m (and_right (in_range 1 max_test_classes m) (ltb b m) both),
       ltb-true c m (and_right (in_range 1 max_test_classes m && ltb b m) (ltb c m) h),
     )
-
--- the checks of the settings, one after the other
-pub settings_first : (m b c : ℕ) → in_range 1 max_test_classes m ≡ false → test_settings_ok m b c ≡ false
-unfolding test_settings_ok
-settings_first m b c h = rw h
-
-pub settings_second : (m b c : ℕ) → in_range 1 max_test_classes m ≡ true → m ≤ b → test_settings_ok m b c ≡ false
-unfolding test_settings_ok
-settings_second m b c h g = rw (h, le-ltb b m g)
-
-pub settings_third : (m b c : ℕ) → in_range 1 max_test_classes m ≡ true → b < m → test_settings_ok m b c ≡ ltb c m
-unfolding test_settings_ok
-settings_third m b c h g = rw (h, lt-ltb b m g)
 
 -- the number, by the two checks
 pub number_two : (m b c t : ℕ) → test_strength_ok t ≡ false → test_number m b c t ≡ 2
@@ -113,30 +101,18 @@ pub outcome_is : (m b c t : ℕ) → 1 ≤ t → (s : Scan) → s ≡ scan (sett
 unfolding outcome
 outcome_is m b c t some s e = e ∙ ap (λ i. scan (settings m b c) (order i)) (omega arith)
 
--- the answers of a scan that finds no triple and of one that finds one, and that of a refusal
-module _ (m b c t : ℕ) (s : Scan) (n : test_number m b c t ≡ 0) (e : s ≡ outcome m b c t) where
-  pub none_fails : s.found ≡ false → IsDistanceTest m b c t (dst.Holds s.tried)
-  unfolding verdict found_triple triples_tried outcome
-  none_fails f =
-      let none = missed (settings m b c) (order t) (sym (ap (λ (x : Scan). x.found) e) ∙ f) in
-      record {
-        number = sym n;
-        verdict = done _ _ _ _ n (ap not (sym f) ∙ ap (λ (x : Scan). not x.found) e);
-        triple = done _ _ _ _ n (sym none.triple);
-        tried = done _ _ _ _ n (ap (λ (x : Scan). x.tried) e);
-      }
+-- the answer of a scan of the order, and that of a refusal
+pub tested : (m b c t : ℕ) (x : Trial) → test_number m b c t ≡ 0 → scan_of x ≡ outcome m b c t → IsDistanceTest m b c t (Ok x)
+unfolding verdict found_triple triples_tried
+tested m b c t x n e =
+    record {
+      number = sym n;
+      verdict = done _ _ _ _ n (ap (λ (s : Scan). not s.found) e);
+      triple = done _ _ _ _ n (ap (λ (s : Scan). s.triple) e);
+      tried = done _ _ _ _ n (ap (λ (s : Scan). s.tried) e);
+    }
 
-  pub one_fails : s.found ≡ true → IsDistanceTest m b c t (dst.Fails s.triple s.tried)
-  unfolding verdict found_triple triples_tried
-  one_fails f =
-      record {
-        number = sym n;
-        verdict = done _ _ _ _ n (ap not (sym f) ∙ ap (λ (x : Scan). not x.found) e);
-        triple = done _ _ _ _ n (ap (λ (x : Scan). x.triple) e);
-        tried = done _ _ _ _ n (ap (λ (x : Scan). x.tried) e);
-      }
-
-pub not_tested : (m b c t : ℕ) (r : Refusal) → refusal_number r ≡ test_number m b c t → IsDistanceTest m b c t (dst.Refused r)
+pub not_tested : (m b c t : ℕ) (r : Refusal) → refusal_number r ≡ test_number m b c t → IsDistanceTest m b c t (Err r)
 unfolding verdict found_triple triples_tried
 not_tested m b c t r e =
     record { number = e; verdict = refused r _ _ _ e; triple = refused r _ _ _ e; tried = refused r _ _ _ e }

@@ -10,9 +10,3 @@ most_16 p = omega arith
 
 pub most_32 : {a : ℕ} → Fits w32 a → a ≤ 4294967295
 most_32 p = omega arith
-
-pub product_16_16 : {a b : ℕ} → Fits w16 a → Fits w16 b → a * b ≤ 65535 * 65535
-product_16_16 p q = mul-le-mul (most_16 p) (most_16 q)
-
-pub product_16_32 : {a b : ℕ} → Fits w16 a → Fits w32 b → a * b ≤ 65535 * 4294967295
-product_16_32 p q = mul-le-mul (most_16 p) (most_32 q)

@@ -1,15 +1,14 @@
 -- Signed 32-bit numbers: integers of small absolute value fit, and are read back from their bits.
 use Prim.Native.Nat.{ℕ, zero, suc, ◌+◌, ◌/◌, ◌%◌, ◌<◌, ◌≤◌}
 use mathlib.Core.Path.{◌≡◌, refl, sym, ◌∙◌, ap}
-use mathlib.Core.Bool.{true, false}
 use native.Mathlib.Nat.{div-le_self, mod-le, mul-le-mul}
 use native.Mathlib.Omega.{arith}
-use borrow.Author.Tests.{ltb-true, ne_eqb}
-use lib.Dec.{T, eqb}
-use lib.IntN.{ℤ, pos, negsuc, neg_ℤ, nat_abs, ◌+ℤ◌, ◌-ℤ◌, ◌*ℤ◌, +ℤ_idl}
-use lib.Signed.{mag, lt_z, non_neg, quot_z, rem_z}
+use borrow.Author.Tests.{ne_eqb}
+use lib.Dec.{eqb}
+use lib.IntN.{ℤ, pos, negsuc, neg_ℤ, nat_abs, ◌+ℤ◌, ◌-ℤ◌, ◌*ℤ◌}
+use lib.Signed.{mag, quot_z, rem_z}
 use mir.Syntax.{w32}
-use mir.Val.{Fits, SFits, of_z, to_z}
+use mir.Val.{SFits, of_z, to_z}
 use mir.ValLaws.{to_z-of_z, to_z_pos}
 use Rattle.lattice.proofs.theory.Integers.{nat_abs_neg, nat_abs_sub, nat_abs_mul}
 
@@ -57,34 +56,6 @@ rem_zero (negsuc m) n h = go (suc m % n) (omega (arith, mod-le (suc m) n))
     go zero h = refl
     go (suc r) h = ne_eqb (of_z w32 (negsuc r)) 0 (λ e. omega arith) ∙ sym (ne_eqb (suc r) 0 (λ e. omega arith))
 
--- −n
-module _ (n : ℕ) (h : n < limit) where
-  minus_is : pos 0 -ℤ to_z w32 n ≡ neg_ℤ (pos n)
-  minus_is = ap (λ z. pos 0 -ℤ z) (read_natural n h) ∙ +ℤ_idl (neg_ℤ (pos n))
-
-  minus_few : nat_abs (neg_ℤ (pos n)) < limit
-  minus_few = omega (arith, nat_abs_neg (pos n))
-
-  pub minus_fits : SFits w32 (pos 0 -ℤ to_z w32 n)
-  minus_fits = rw minus_is (small_fits (neg_ℤ (pos n)) minus_few)
-
-  pub minus_back : read (pos 0 -ℤ to_z w32 n) ≡ neg_ℤ (pos n)
-  minus_back = rw minus_is (read_back (neg_ℤ (pos n)) minus_few)
-
--- z + n
-module _ (z : ℤ) (n : ℕ) (h : nat_abs z + n < limit) where
-  shifted_is : read z +ℤ to_z w32 n ≡ z +ℤ pos n
-  shifted_is = rw (read_back z (omega arith), read_natural n (omega arith))
-
-  shifted_few : nat_abs (z +ℤ pos n) < limit
-  shifted_few = omega (arith, nat_abs_add z (pos n))
-
-  pub shifted_fits : SFits w32 (read z +ℤ to_z w32 n)
-  shifted_fits = rw shifted_is (small_fits (z +ℤ pos n) shifted_few)
-
-  pub shifted_back : read (read z +ℤ to_z w32 n) ≡ z +ℤ pos n
-  shifted_back = rw shifted_is (read_back (z +ℤ pos n) shifted_few)
-
 -- what a call that gives z + n hands on, with z read back and the result read back once more
 module _ (z : ℤ) (n : ℕ) (hz : nat_abs z < 64) (hn : n < 256) (r : ℤ) (e : r ≡ read z +ℤ pos n) where
   shifted_close : nat_abs r < 512
@@ -92,9 +63,6 @@ module _ (z : ℤ) (n : ℕ) (hz : nat_abs z < 64) (hn : n < 256) (r : ℤ) (e :
 
   pub shifted_again : read r ≡ read z +ℤ pos n
   shifted_again = read_back r (omega (arith, shifted_close)) ∙ e
-
-  pub shifted_near : nat_abs (read r) < 512
-  shifted_near = rw (read_back r (omega (arith, shifted_close))) shifted_close
 
 -- n × z, for a 16-bit number n
 module _ (n : ℕ) (z : ℤ) (hn : n < 65536) (hz : nat_abs z < 512) where
@@ -115,46 +83,9 @@ module _ (n : ℕ) (z : ℤ) (hn : n < 65536) (hz : nat_abs z < 512) where
   pub scaled_back : (read (to_z w32 n *ℤ read z) ≡ pos n *ℤ z) × (nat_abs (read (to_z w32 n *ℤ read z)) < 33554432)
   scaled_back = rw scaled_is (rw (read_back (pos n *ℤ z) (omega (arith, scaled_few))) (refl, scaled_few))
 
--- |z|, by the sign
-below_zero : (z : ℤ) → lt_z z (pos 0) ≡ true → pos 0 -ℤ z ≡ pos (nat_abs z)
-below_zero (pos n) h = absurd (omega (arith, ltb-true n 0 h))
-below_zero (negsuc n) h = +ℤ_idl (pos (suc n))
-
-from_zero : (z : ℤ) → lt_z z (pos 0) ≡ false → z ≡ pos (nat_abs z)
-from_zero (pos n) h = refl
-from_zero (negsuc n) h = cc
-
-module _ (z : ℤ) (h : nat_abs z < limit) where
-  module _ (below : lt_z (read z) (pos 0) ≡ true) where
-    flipped : pos 0 -ℤ read z ≡ pos (nat_abs z)
-    flipped = rw (read_back z h) (below_zero z (rw (read_back z h) at below))
-
-    pub flipped_fits : SFits w32 (pos 0 -ℤ read z)
-    flipped_fits = rw flipped (small_fits (pos (nat_abs z)) h)
-
-    flipped_back : read (pos 0 -ℤ read z) ≡ pos (nat_abs z)
-    flipped_back = rw flipped (read_back (pos (nat_abs z)) h)
-
-    pub flipped_cast : T (non_neg (read (pos 0 -ℤ read z))) × Fits w32 (nat_abs (read (pos 0 -ℤ read z)))
-    flipped_cast = rw flipped_back (tt, record { fits = omega arith })
-
-    pub flipped_size : nat_abs (read (pos 0 -ℤ read z)) ≡ nat_abs z
-    flipped_size = ap nat_abs flipped_back
-
-  pub upright_size : nat_abs (read z) ≡ nat_abs z
-  upright_size = ap nat_abs (read_back z h)
-
-  pub upright_cast : lt_z (read z) (pos 0) ≡ false → T (non_neg (read z)) × Fits w32 (nat_abs (read z))
-  upright_cast e =
-      rw (read_back z h)
-      (rw (from_zero z (rw (read_back z h) at e)) (tt, record { fits = omega arith }))
-
 -- a difference of two numbers that are read back from their bits
 difference_is : (x y : ℤ) → nat_abs x + nat_abs y < limit → read x -ℤ read y ≡ x -ℤ y
 difference_is x y h = ap (λ u. u -ℤ read y) (read_back x (omega arith)) ∙ ap (λ u. x -ℤ u) (read_back y (omega arith))
-
-pub difference_fits : (x y : ℤ) → nat_abs x + nat_abs y < limit → SFits w32 (read x -ℤ read y)
-difference_fits x y h = rw (difference_is x y h) (small_fits (x -ℤ y) (omega (arith, nat_abs_minus x y)))
 
 -- x − y − z, and its remainder, with each number on the way read back from its bits
 module _ (x y z : ℤ) (m : ℕ) (h : nat_abs x + nat_abs y + nat_abs z < limit) (hm : m < limit) where

@@ -13,7 +13,7 @@ use Rattle.lattice.specs.Shape.{max_cells, cells_of}
 use Rattle.lattice.proofs.theory.Counting.{bit, count_step, count_most}
 use Rattle.codec.specs.Field.{field_of, list_of, differences}
 use Rattle.codec.proofs.theory.FieldLists.{length_list_of}
-use Rattle.codec.proofs.theory.FilledLists.{filled_more, length_filled}
+use Rattle.codec.proofs.theory.FilledLists.{filled_more}
 use Rattle.levels.specs.Level.{max_level, Levels}
 use Rattle.levels.specs.Decode.{restored_field}
 
@@ -27,9 +27,6 @@ unfolding differences
 stored_none s field = record { cells = refl; differ = refl }
 
 module _ (s : Shape) (field buffer : List ℕ) (k i : ℕ) (m : StoredTo s field buffer k i) where
-  pub stored_length : i ≤ length field → length buffer ≡ length field
-  stored_length l = length_filled _ field i buffer l m.cells
-
   pub changed_limit : i < max_cells → k < max_cells
   unfolding differences
   changed_limit l = rw m.differ (lt_of_le_of_lt (count_most _ i) l)

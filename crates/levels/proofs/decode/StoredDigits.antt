@@ -8,8 +8,7 @@ use native.Mathlib.Nat.{le_antisymm, lt_of_le_of_lt}
 use native.Mathlib.Numerals.{add-one}
 use native.Mathlib.Omega.{arith}
 use lib.Dec.{eqb}
-use lib.ListN.{length, get_or, set}
-use lib.Seq.{get_or-set_same, get_or-set_other}
+use lib.ListN.{length, get_or}
 use borrow.Author.Tests.{eq-eqb, ne_eqb}
 use Rattle.lattice.specs.declared.shape.Shape.{Shape}
 use Rattle.lattice.specs.Shape.{max_cells, Accepted, cells_of}
@@ -35,23 +34,6 @@ module _ (l : List ℕ) (d : Bool) (k v : ℕ) where
       go : (a : Bool) → y ≡ cond (a && b) v y
       go true = rw e
       go false = refl
-
-  pub digit_stored : d ≡ true → k < length l → DigitStored l (set l k v) d k v
-  digit_stored e h = record { at = λ j _. rw e (go j (ℕ_discrete k j)) }
-    where
-      go : (j : ℕ) → Dec (k ≡ j) → get_or (set l k v) j 0 ≡ cond (eqb k j) v (get_or l j 0)
-      go j (yes q) = ap (λ (z : ℕ). get_or (set l k v) z 0) (sym q) ∙ get_or-set_same l k v 0 h ∙ rw (eq-eqb k j q)
-      go j (no q) = get_or-set_other l k j v 0 (λ z. q (sym z)) ∙ rw (ne_eqb k j q)
-
-  pub digit_behind : length l ≤ k → DigitStored l l d k v
-  digit_behind h = record { at = λ j r. kept (eqb k j) (get_or l j 0) (ne_eqb k j (λ (q : k ≡ j). omega arith)) }
-
-  pub digit_none : d ≡ false → DigitStored l l d k v
-  digit_none e = record { at = λ j r. rw e refl }
-
--- the test of a pair of values
-pub differs_inside : (a b : Bool) → a ≡ true → b ≡ (a && b)
-differs_inside a b e = sym (rw e)
 
 -- the payload holds the digits of the cells before i of a field
 pub record HoldsHeld (L : Layout) (f : Field) (l : List ℕ) (i : ℕ) : Type 0 where

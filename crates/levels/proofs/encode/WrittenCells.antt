@@ -7,7 +7,7 @@ use mathlib.Core.Path.{◌≡◌, refl, sym, ap, ap₂, ◌∙◌}
 use native.Mathlib.Nat.{le_antisymm}
 use native.Mathlib.Omega.{arith}
 use lib.Dec.{eqb}
-use lib.ListN.{length, get_or, set, drop, drop_of_length-le, get_or-eq_default}
+use lib.ListN.{length, get_or, set, drop, drop_of_length-le}
 use borrow.Author.Tests.{eq-eqb, ne_eqb}
 use Rattle.lattice.specs.declared.shape.Shape.{Shape}
 use Rattle.lattice.specs.Shape.{cells_of}
@@ -20,21 +20,6 @@ use Rattle.levels.specs.Payload.{digit_rank, digit_field, check_for, encoded_lev
 use Rattle.levels.specs.Encode.{encoded_levels_field}
 use Rattle.levels.specs.Working.{SpotOf, HoldsDigits, holds_at, encoded_at}
 use Rattle.levels.proofs.theory.DigitRanks.{digit_is}
-
--- the digit of a cell of a payload, or 0
-module _ (p : List ℕ) (d : Bool) (k : ℕ) where
-  pub value_there : d ≡ true → get_or p k 0 ≡ cond d (get_or p k 0) 0
-  value_there e = sym (rw e)
-
-  pub value_behind : length p ≤ k → 0 ≡ cond d (get_or p k 0) 0
-  value_behind h = go d
-    where
-      z : get_or p k 0 ≡ 0
-      z = get_or-eq_default p 0 h
-
-      go : (b : Bool) → 0 ≡ cond b (get_or p k 0) 0
-      go true = sym z
-      go false = refl
 
 -- the value of a cell in the field written, by its spot
 module _ (l : List ℕ) (x : Spot) (v : ℕ) where

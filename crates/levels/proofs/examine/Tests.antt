@@ -1,37 +1,31 @@
 -- The tests of a field of levels cell by cell, and the number that they give.
 use Prim.Native.Nat.{ℕ, ◌<◌, ◌≤◌}
-use mathlib.Core.Bool.{Bool, true, false}
+use mathlib.Core.Bool.{Bool, true, false, true≢false}
 use mathlib.Core.List.{List}
-use mathlib.Core.Path.{◌≡◌, sym, ap, ◌∙◌}
+use mathlib.Core.Path.{◌≡◌, refl, sym, ap, ◌∙◌}
 use lib.ListN.{length, get_or}
-use borrow.Author.Tests.{le-leb, lt-leb}
 use Rattle.lattice.specs.declared.shape.Shape.{Shape}
 use Rattle.lattice.specs.Shape.{cells_of}
 use Rattle.lattice.specs.Class.{layout_of}
 use Rattle.codec.specs.Field.{Field, field_of}
 use Rattle.codec.proofs.theory.OneByOne.{PassedTo, passed_all, failed_at}
-use Rattle.levels.specs.Level.{max_level, Levels, is_level, levels_ok}
+use Rattle.levels.specs.Level.{max_level, Levels, levels_ok}
 use Rattle.levels.specs.Restored.{fits, levels_in_reach}
 use Rattle.levels.specs.Decode.{levels_number}
-use Rattle.levels.proofs.theory.LevelTests.{ok_levels}
+use Rattle.levels.proofs.theory.LevelTests.{levels_ok_lem, ok_levels}
 
 -- the test of the levels
 module _ (bytes : List ℕ) where
-  unfoldable pub level_at : ℕ → Bool
-  level_at i = is_level (field_of bytes i)
-
-  pub level_passes : (i : ℕ) → get_or bytes i 0 ≤ max_level → level_at i ≡ true
-  unfolding level_at is_level
-  level_passes i l = le-leb (get_or bytes i 0) max_level l
-
-  pub level_fails : (i : ℕ) → i < length bytes → max_level < get_or bytes i 0 → false ≡ levels_ok (field_of bytes) (length bytes)
-  unfolding levels_ok level_at is_level
-  level_fails i l h = failed_at level_at i (length bytes) l (lt-leb (get_or bytes i 0) max_level h)
-
-  pub levels_pass : (i : ℕ) → PassedTo level_at i → i ≤ length bytes → length bytes ≤ i
-      → true ≡ levels_ok (field_of bytes) (length bytes)
-  unfolding levels_ok level_at
-  levels_pass i p l q = passed_all level_at i (length bytes) p l q
+  -- a test that tells whether each byte is a level
+  pub levels_told : (b : Bool) → (b ≡ true → (i : ℕ) → i < length bytes → get_or bytes i 0 ≤ max_level)
+      → (((i : ℕ) → i < length bytes → get_or bytes i 0 ≤ max_level) → b ≡ true)
+      → b ≡ levels_ok (field_of bytes) (length bytes)
+  levels_told true told all = sym (levels_ok_lem (field_of bytes) (length bytes) (told refl))
+  levels_told false told all = go (levels_ok (field_of bytes) (length bytes)) refl
+    where
+      go : (b : Bool) → levels_ok (field_of bytes) (length bytes) ≡ b → false ≡ levels_ok (field_of bytes) (length bytes)
+      go true e = absurd (true≢false (sym (all (ok_levels (field_of bytes) (length bytes) e))))
+      go false e = sym e
 
 -- the test of the changes
 module _ (s : Shape) (f : Field) where

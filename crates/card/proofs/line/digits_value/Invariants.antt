@@ -1,11 +1,7 @@
 -- What the loop of `digits_value` keeps.
-use Prim.Native.Nat.{◌-◌, ◌≤◌}
 use mathlib.Core.Path.{◌≡◌}
 use Rattle.card.specs.Parse.{digits_value}
 use Rattle.card.proofs.line.digits_value.Given as goal
 
 abbrev pub invariant-loop-i : goal.invariant-loop-i
-invariant-loop-i l = (l.i ≤ l.k) × (l.value ≡ digits_value l.text l.at l.i)
-
-abbrev pub decreases-loop-i : goal.decreases-loop-i
-decreases-loop-i l = l.k - l.i
+invariant-loop-i l = l.value ≡ digits_value l.text l.at l.i

@@ -1,14 +1,7 @@
 -- `hex_digit` meets its contract: below 10 it is a figure, and else a letter.
 use mathlib.Core.Path.{sym}
-use native.Mathlib.Omega.{arith}
 use Rattle.card.proofs.theory.HexText.{digit_low, digit_high}
 use Rattle.card.proofs.print.hex_digit.Goals as goal
-
-pub overflow_add-result : goal.overflow_add-result
-overflow_add-result c = omega arith
-
-pub overflow_add-result-else-value-lt10 : goal.overflow_add-result-else-value-lt10
-overflow_add-result-else-value-lt10 c = omega arith
 
 pub returns-then-value-lt10 : goal.returns-then-value-lt10
 returns-then-value-lt10 c = sym (digit_low _ c.if-value-lt10.true)

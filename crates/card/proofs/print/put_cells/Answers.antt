@@ -1,38 +1,23 @@
 -- `put_cells` meets its contract. The loop's invariant: the digits of the first i cells are written.
-use Prim.Native.Nat.{◌<◌, zero-le}
+use Prim.Native.Nat.{◌<◌}
 use native.Mathlib.Omega.{arith}
 use lib.ListN.{length}
 use Rattle.card.specs.Text.{cells_text}
 use Rattle.codec.proofs.theory.CellValues.{received_digit}
 use Rattle.card.proofs.theory.CellDigits.{length_cells, cell_text}
-use Rattle.card.proofs.theory.Printed.{prefix_none, prefix_more, prefix_index, prefix_long, prefix_all}
+use Rattle.card.proofs.theory.Printed.{prefix_more, prefix_index, prefix_all}
 use Rattle.card.proofs.print.put_cells.Goals.{In-loop-i}
 use Rattle.card.proofs.print.put_cells.Goals as goal
 
 inside : (c : In-loop-i) → c.loop-i.i < length (cells_text c.args.cells.now)
 inside c = omega (arith, length_cells c.args.cells.now)
 
-pub loop-i-init : goal.loop-i-init
-loop-i-init c = (zero-le, prefix_none c.requires.has_room)
-
-pub bounds-cells-i : goal.bounds-cells-i
-bounds-cells-i c = omega arith
-
 pub overflow_add-out : goal.overflow_add-out
 overflow_add-out c =
     omega (arith, received_digit _ (c.requires.received c.loop-i.i c.loop-i-test.true))
 
-pub overflow_add-out-in-loop-i : goal.overflow_add-out-in-loop-i
-overflow_add-out-in-loop-i c = omega (arith, inside (goal.at.overflow_add-out-in-loop-i c).In-loop-i, c.requires.has_room.fits)
-
 pub bounds-out-at : goal.bounds-out-at
 bounds-out-at c = prefix_index c.requires.has_room _ (inside (goal.at.bounds-out-at c).In-loop-i) c.loop-i.invariant.1
-
-pub overflow_add-i : goal.overflow_add-i
-overflow_add-i c = omega arith
-
-pub loop-i-smaller : goal.loop-i-smaller
-loop-i-smaller c = omega arith
 
 pub loop-i-preserved : goal.loop-i-preserved
 loop-i-preserved c = (
@@ -40,14 +25,6 @@ loop-i-preserved c = (
   prefix_more c.requires.has_room _ _ (inside (goal.at.loop-i-preserved c).In-loop-i)
       (cell_text c.args.cells.now _ c.loop-i-test.true) c.loop-i.invariant.1,
 )
-
-pub overflow_add-result : goal.overflow_add-result
-overflow_add-result c =
-    omega (arith, length_cells c.args.cells.now, c.requires.has_room.fits)
-
-pub shape_of-out : goal.shape_of-out
-shape_of-out c =
-    prefix_long c.requires.has_room _ (omega (arith, length_cells c.args.cells.now)) c.loop-i.invariant.1
 
 pub returns : goal.returns
 returns c =

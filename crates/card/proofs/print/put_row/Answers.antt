@@ -7,12 +7,9 @@ pub put_bytes-digits-requires : goal.put_bytes-digits-requires
 put_bytes-digits-requires c =
     key_room row_key (cells_text c.args.cells.now) (row_parts c.args.cells.now) c.requires.has_room
 
-pub put_cells-end-requires : goal.put_cells-end-requires
-put_cells-end-requires c =
-    record {
-      has_room = value_room _ _ (row_parts c.args.cells.now) c.requires.has_room c.put_bytes-digits.ensures;
-      received = c.requires.received;
-    }
+pub put_cells-end-requires-clause-has_room : goal.put_cells-end-requires-clause-has_room
+put_cells-end-requires-clause-has_room c =
+    value_room _ _ (row_parts c.args.cells.now) c.requires.has_room c.put_bytes-digits.ensures
 
 pub put_byte-requires : goal.put_byte-requires
 put_byte-requires c =

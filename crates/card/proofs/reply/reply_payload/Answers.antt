@@ -33,9 +33,6 @@ overflow_add-length c =
     let a = c.args in
     omega (arith, c.head_length.ensures, head_most a.header mended_key a.mended)
 
-pub overflow_mul-length : goal.overflow_mul-length
-overflow_mul-length c = omega arith
-
 pub overflow_add-length-2 : goal.overflow_add-length-2
 overflow_add-length-2 c =
     let a = c.args in

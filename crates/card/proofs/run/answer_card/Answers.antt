@@ -26,20 +26,3 @@ returns-in_default c =
       max_read_value = refl;
       max_answer_value = refl;
     }
-
-pub answer_header-requires : goal.answer_header-requires
-answer_header-requires c =
-    record {
-      short = c.if-input-gt-MAX_INPUT.false;
-      found = sym c.parse_header.ensures ∙ c.in-Found.is;
-    }
-
-pub returns : goal.returns
-returns c =
-    let a = answered_leaves _ _ _ _ c.answer_header.ensures in
-    record {
-      value = a.0;
-      output_after = a.1;
-      max_read_value = refl;
-      max_answer_value = refl;
-    }

@@ -15,7 +15,7 @@ use Rattle.card.specs.Working.{encoded_text}
 use Rattle.card.proofs.run.Program.{bad_payload, wrong_length, payload_read}
 use Rattle.card.proofs.run.Card.{cells_are, cells_fit, bytes_fit}
 use Rattle.card.proofs.theory.Replies.{answered_same}
-use Rattle.card.proofs.theory.Answered.{zeros_count, part_again, part_within, part_count, bytes_read}
+use Rattle.card.proofs.theory.Answered.{zeros_count, part_again, bytes_read}
 use Rattle.card.proofs.theory.PayloadText.{payload_count}
 use Rattle.card.proofs.run.answer_payload.Goals.{After-cells-cells, After-fill_payload, After-payload_bytes-bytes}
 use Rattle.card.proofs.run.answer_payload.Goals.{Else-not-payload_ok}
@@ -72,35 +72,6 @@ returns-then-bytes-gt-MAX_BYTES c =
       ap plan_bytes p.body_read.shaped.shape,
     )))
     c.refuse-then-bytes-gt-MAX_BYTES.ensures
-
-pub slice_bounds-fill_payload-end : goal.slice_bounds-fill_payload-end
-slice_bounds-fill_payload-end c = zeros_count _ max_card_bytes c.if-bytes-gt-MAX_BYTES.false
-
-pub fill_payload-requires : goal.fill_payload-requires
-fill_payload-requires c =
-    record {
-      at_value = ok (goal.at.fill_payload-requires c).Else-not-payload_ok;
-      payload_len = sym (zeros_count _ max_card_bytes c.if-bytes-gt-MAX_BYTES.false) ∙ c.payload_bytes-bytes.ensures;
-    }
-
-pub slice_bounds-payload-end-2 : goal.slice_bounds-payload-end-2
-slice_bounds-payload-end-2 c =
-    part_within _ (part (goal.at.slice_bounds-payload-end-2 c).After-fill_payload)
-    (behind (goal.at.slice_bounds-payload-end-2 c).After-fill_payload)
-    (long (goal.at.slice_bounds-payload-end-2 c).After-fill_payload)
-
-pub slice_bounds-write_card-end : goal.slice_bounds-write_card-end
-slice_bounds-write_card-end c =
-    part_count _ (part (goal.at.slice_bounds-write_card-end c).After-fill_payload)
-    (behind (goal.at.slice_bounds-write_card-end c).After-fill_payload)
-    (long (goal.at.slice_bounds-write_card-end c).After-fill_payload)
-
-pub slice_bounds-field-end : goal.slice_bounds-field-end
-slice_bounds-field-end c = cells_room (goal.at.slice_bounds-field-end c).After-cells-cells
-
-pub slice_bounds-write_card-end-2 : goal.slice_bounds-write_card-end-2
-slice_bounds-write_card-end-2 c = zeros_count _ max_card_cells
-    (cells_room (goal.at.slice_bounds-write_card-end-2 c).After-cells-cells)
 
 pub write_card-requires : goal.write_card-requires
 write_card-requires c =

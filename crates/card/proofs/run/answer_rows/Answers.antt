@@ -9,13 +9,13 @@ use Rattle.codec.specs.Plan.{plan_bytes}
 use Rattle.card.specs.Program.{cells_in}
 use Rattle.card.specs.Working.{decoded_text}
 use Rattle.card.specs.Card.{max_card_cells, max_card_bytes}
-use Rattle.card.proofs.run.Card.{cells_are, cells_fit, bytes_are, bytes_fit, columns_some, columns_narrow, lines_most_lem}
+use Rattle.card.proofs.run.Card.{cells_are, cells_fit, bytes_are, bytes_fit, columns_some, columns_narrow}
 use Rattle.card.proofs.run.Card.{rows_fit_lem, cells_read}
 use Rattle.card.proofs.run.Program.{bad_rows, rows_read}
 use Rattle.card.proofs.theory.HeaderRest.{header_found}
 use Rattle.card.proofs.theory.RowsRead.{cells_count}
 use Rattle.card.proofs.theory.Replies.{answered_same}
-use Rattle.card.proofs.theory.Answered.{zeros_count, zeros_take, part_again, part_within, part_count}
+use Rattle.card.proofs.theory.Answered.{zeros_count, zeros_take, part_again}
 use Rattle.card.proofs.run.answer_rows.Goals.{After-capacity-bytes, After-cells-cells, After-fill_cells}
 use Rattle.card.proofs.run.answer_rows.Goals as goal
 
@@ -53,9 +53,6 @@ again c =
     ∙ cells_are _ _ shaped _ c.cells-cells.ensures in
     part_again _ _ _ (long c) ∙ cells_read _ _ shaped _ _ _ _ count c.fill_cells.ensures
 
-pub overflow_mul-shape : goal.overflow_mul-shape
-overflow_mul-shape c = omega (arith, lines_most_lem _ _ c.requires.body_read.shaped)
-
 pub returns-then-not-rows_ok : goal.returns-then-not-rows_ok
 returns-then-not-rows_ok c =
     let pre = c.requires in
@@ -63,13 +60,6 @@ returns-then-not-rows_ok c =
     (bad_rows _ _ _ pre.body_read.header pre.body_read.shaped.card pre.next_value
     (failed _ _ c.if-not-rows_ok.true (rows_fit_lem _ _ pre.body_read.shaped _ _ _ c.rows_ok.ensures)))
     c.refuse.ensures
-
-pub slice_bounds-field-end : goal.slice_bounds-field-end
-slice_bounds-field-end c = cells_room (goal.at.slice_bounds-field-end c).After-cells-cells
-
-pub slice_bounds-fill_cells-end : goal.slice_bounds-fill_cells-end
-slice_bounds-fill_cells-end c = zeros_count _ max_card_cells (cells_room (goal.at.slice_bounds-fill_cells-end
-    c).After-cells-cells)
 
 pub fill_cells-requires : goal.fill_cells-requires
 fill_cells-requires c =
@@ -85,18 +75,6 @@ fill_cells-requires c =
             max_card_cells (cells_room (goal.at.fill_cells-requires c).After-cells-cells),
       );
     }
-
-pub slice_bounds-field-end-2 : goal.slice_bounds-field-end-2
-slice_bounds-field-end-2 c =
-    part_within _ (part (goal.at.slice_bounds-field-end-2 c).After-fill_cells)
-    (behind (goal.at.slice_bounds-field-end-2 c).After-fill_cells)
-    (long (goal.at.slice_bounds-field-end-2 c).After-fill_cells)
-
-pub slice_bounds-read_card-end : goal.slice_bounds-read_card-end
-slice_bounds-read_card-end c =
-    part_count _ (part (goal.at.slice_bounds-read_card-end c).After-fill_cells)
-    (behind (goal.at.slice_bounds-read_card-end c).After-fill_cells)
-    (long (goal.at.slice_bounds-read_card-end c).After-fill_cells)
 
 pub slice_bounds-payload-end : goal.slice_bounds-payload-end
 slice_bounds-payload-end c = bytes_room (goal.at.slice_bounds-payload-end c).After-capacity-bytes

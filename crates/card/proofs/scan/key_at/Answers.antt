@@ -1,32 +1,18 @@
--- `key_at` meets its contract. The loop's invariant: the first j bytes of the key stand at the position.
-use Prim.Native.Nat.{zero-le}
-use native.Mathlib.Omega.{arith}
-use Rattle.codec.proofs.theory.OneByOne.{passed_none, passed_more}
-use Rattle.card.proofs.theory.ByteTests.{key_passes, key_fails, key_all}
+-- `key_at` meets its contract: each byte of the key is tested at its place.
+use mathlib.Core.Path.{◌∙◌}
+use lib.Dec.{eqb}
+use lib.ListN.{get_or}
+use Rattle.std.proofs.Common.{rules, tests, ◌+◌}
+use Rattle.std.proofs.lemmas.Iterator.{YieldsList-from_slice}
+use Rattle.std.proofs.lemmas.Iterator.Consumers.{YieldsList-from_enumerate}
+use Rattle.std.proofs.lemmas.Iterator.Search.{all_from_yields_List}
+use Rattle.card.proofs.theory.ByteTests.{key_bytes}
 use Rattle.card.proofs.scan.key_at.Goals as goal
 
-pub loop-j-init : goal.loop-j-init
-loop-j-init c = (zero-le, passed_none _)
-
-pub bounds-key-j : goal.bounds-key-j
-bounds-key-j c = omega arith
-
-pub returns-then-byte_at-key : goal.returns-then-byte_at-key
-returns-then-byte_at-key c =
-    key_fails _ _ _ _ _ c.loop-j-test.true c.byte_at.ensures c.if-byte_at-key.true
-
-pub overflow_add-j : goal.overflow_add-j
-overflow_add-j c = omega arith
-
-pub loop-j-smaller : goal.loop-j-smaller
-loop-j-smaller c = omega arith
-
-pub loop-j-preserved : goal.loop-j-preserved
-loop-j-preserved c = (
-  omega arith,
-  passed_more _ _ c.loop-j.invariant.1
-      (key_passes _ _ _ _ _ c.byte_at.ensures c.if-byte_at-key.false),
-)
-
 pub returns : goal.returns
-returns c = key_all _ _ _ _ c.loop-j.invariant.1 c.loop-j.invariant.0 c.loop-j-test.false
+returns c =
+    let a = c.args in
+    all_from_yields_List (λ p. eqb (get_or a.text.now (a.at + p.0) 0) p.1) _ _ c.all.result c.all.ensures.ran
+    (YieldsList-from_enumerate (YieldsList-from_slice a.key.now (cc)) (cc))
+    (λ x b q k. search (rules, tests))
+    ∙ key_bytes a.key.now a.text.now a.at

@@ -1,5 +1,5 @@
 -- `store_corrected` meets its contract: 0 in each erased cell, then the cells flipped.
-use mathlib.Core.Path.{sym, ap, ◌∙◌}
+use mathlib.Core.Path.{ap, ◌∙◌}
 use native.Mathlib.Omega.{arith}
 use Prim.Native.Nat.{ℕ, ◌+◌}
 use Rattle.lattice.specs.Class.{classes_of}
@@ -13,26 +13,6 @@ use Rattle.codec.specs.Working.{names}
 use Rattle.codec.proofs.theory.CorrectedField.{located_corrects}
 use Rattle.codec.proofs.theory.FieldLists.{list_field}
 use Rattle.codec.proofs.correct.store_corrected.Goals as goal
-
-pub clear_erased-requires : goal.clear_erased-requires
-clear_erased-requires c =
-    let long = c.requires.readable.long in
-    record {
-      received = λ i l. c.requires.readable.cells i (rw long at l);
-      erased_value = c.requires.erased_value ∙ ap (count (is_erased (field_of c.args.field.now))) (sym long);
-    }
-
-pub flip_located-requires : goal.flip_located-requires
-flip_located-requires c =
-    let located = c.requires.located in
-    record {
-      field_fits = record {
-        accepted = c.requires.readable.accepted;
-        long = c.clear_erased.auto.field
-            ∙ c.requires.readable.long;
-      };
-      names = (located.damaged_named, located.first_named, located.second_named);
-    }
 
 pub count_changed-requires : goal.count_changed-requires
 count_changed-requires c =

@@ -1,5 +1,4 @@
 -- `count_changed` meets its contract.
-use Prim.Native.Nat.{ℕ, ◌+◌}
 use mathlib.Core.Path.{◌≡◌, ap, ◌∙◌}
 use native.Mathlib.Omega.{arith}
 use Rattle.lattice.specs.Class.{classes_of}
@@ -30,6 +29,3 @@ overflow_add-result c =
       count_most (names c.args.damaged.now) (classes_of c.args.shape),
       classes_limit c.args.shape c.requires.0,
     )
-
-pub returns : goal.returns
-returns c = ap (λ (n : ℕ). n + c.args.erased) (counted c)

@@ -1,18 +1,8 @@
 -- `write_field` meets its contract.
-use Rattle.codec.proofs.encode.FieldWritten.{checks_listed, place_below, filled_fits, filled_same, listed_below}
+use Rattle.codec.proofs.encode.FieldWritten.{place_below, filled_fits, filled_same, listed_below}
 use Rattle.codec.proofs.encode.FieldWritten.{to_check, written}
 use Rattle.codec.proofs.theory.WorkArrays.{zeros}
 use Rattle.codec.proofs.encode.write_field.Goals as goal
-
-pub fill_planes-requires : goal.fill_planes-requires
-fill_planes-requires c =
-    record {
-      checks_listed = checks_listed _ _ _ _ _ _ c.requires.payload_fits (
-        c.check_cells-amount.ensures.lists_checks,
-        c.check_cells-amount.ensures.upper_bound,
-      );
-      field_len = c.requires.field_len;
-    }
 
 pub data_syndromes-requires : goal.data_syndromes-requires
 data_syndromes-requires c =

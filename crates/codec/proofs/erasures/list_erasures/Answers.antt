@@ -33,9 +33,6 @@ pub loop-i-init : goal.loop-i-init
 loop-i-init c =
     (zero-le, lists_none (layout_of c.args.shape) (field_of c.args.field.now) _ _ c.requires.holds_none.0 c.requires.holds_none.1)
 
-pub loop-i-smaller-then-none_erased : goal.loop-i-smaller-then-none_erased
-loop-i-smaller-then-none_erased c = omega arith
-
 pub loop-i-preserved-then-none_erased : goal.loop-i-preserved-then-none_erased
 loop-i-preserved-then-none_erased c =
     let skipped = c.none_erased.ensures c.if-none_erased.true in (
@@ -48,10 +45,6 @@ pub overflow_cast-i : goal.overflow_cast-i
 overflow_cast-i c =
     Fits-lt (cell_limit _ _ refl _ (inside (goal.at.overflow_cast-i c).In-loop-i) c.requires.field_fits.accepted) (Fits-lit tt)
 
-pub list_cell-requires : goal.list_cell-requires
-list_cell-requires c =
-    (c.requires.field_fits.accepted, c.placement-placement.ensures, inside (goal.at.list_cell-requires c).In-loop-i)
-
 pub returns-then-not-list_cell : goal.returns-then-not-list_cell
 returns-then-not-list_cell c =
     let e = c in
@@ -61,9 +54,6 @@ returns-then-not-list_cell c =
           ((turn (goal.at.returns-then-not-list_cell c).After-list_cell).1 c.if-not-list_cell.true));
       lists_erasures = λ no. absurd (true≢false (sym no));
     }
-
-pub loop-i-preserved : goal.loop-i-preserved
-loop-i-preserved c = (omega arith, (turn (goal.at.loop-i-preserved c).After-list_cell).0 c.if-not-list_cell.false)
 
 pub returns : goal.returns
 returns c =

@@ -1,7 +1,7 @@
 -- `locate_listed` meets its contract.
 use native.Mathlib.Omega.{arith}
 use Prim.Native.Nat.{◌≤◌}
-use mathlib.Core.Path.{◌≡◌, refl, sym, ◌∙◌}
+use mathlib.Core.Path.{◌≡◌, sym, ◌∙◌}
 use native.Mathlib.Nat.{le_refl}
 use Rattle.lattice.specs.Shape.{max_classes}
 use Rattle.lattice.specs.Class.{classes_of}
@@ -24,9 +24,6 @@ given c = classes_given _ c.requires.field_fits.0.accepted _ c.classes-m.ensures
 
 few : (c : After-classes-m) → c.classes-m.result ≤ max_classes
 few c = classes_few _ c.requires.field_fits.0.accepted _ c.classes-m.ensures
-
-pub slice_bounds-field_syndromes-end : goal.slice_bounds-field_syndromes-end
-slice_bounds-field_syndromes-end c = refl
 
 pub field_syndromes-requires : goal.field_syndromes-requires
 field_syndromes-requires c =

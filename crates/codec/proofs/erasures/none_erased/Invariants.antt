@@ -1,10 +1,7 @@
--- What the loop of `none_erased` keeps.
-use Prim.Native.Nat.{ℕ, ◌+◌, ◌-◌, ◌<◌, ◌≤◌}
-use Rattle.codec.specs.Field.{field_of}
+-- What the loop of `none_erased` keeps: none of the cells before the next is above `most`.
+use Prim.Native.Nat.{ℕ, ◌<◌, ◌≤◌}
+use lib.ListN.{get_or}
 use Rattle.codec.proofs.erasures.none_erased.Given as goal
 
-abbrev pub invariant-loop-d : goal.invariant-loop-d
-invariant-loop-d l = (l.d ≤ 32) × ((x : ℕ) → x < l.d → field_of l.field (l.from + x) ≤ l.most)
-
-abbrev pub decreases-loop-d : goal.decreases-loop-d
-decreases-loop-d l = 32 - l.d
+abbrev pub invariant-loop-cell : goal.invariant-loop-cell
+invariant-loop-cell l = (x : ℕ) → x < l.cell-index → get_or l.cell-items x 0 ≤ l.most

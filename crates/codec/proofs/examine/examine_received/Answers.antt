@@ -71,14 +71,6 @@ returns-then-not-all_in_reach c =
       located = λ z. absurd (omega arith);
     }
 
-pub padding_ok-requires : goal.padding_ok-requires
-padding_ok-requires c =
-    record {
-      field_fits = c.requires.field_fits.0;
-      holds_sizes = c.requires.holds_sizes;
-      located = c.locate.ensures.located c.if-not-locate.false;
-    }
-
 pub returns-then-not-padding_ok : goal.returns-then-not-padding_ok
 returns-then-not-padding_ok c =
     record {

@@ -1,27 +1,20 @@
--- `greatest` meets its contract. The loop's invariant: `most` is the greatest of the bytes before i.
-use Prim.Native.Nat.{zero-le}
+-- `greatest` meets its contract.
+use Prim.Native.Nat.{◌<◌}
 use native.Mathlib.Omega.{arith}
-use Rattle.codec.proofs.examine.Cells.{tells_none, tells_more, tells_all}
+use lib.ListN.{get_or, take}
+use Rattle.std.proofs.lemmas.List.{get_or-take, length-take-le}
+use Rattle.codec.specs.Field.{field_of}
+use Rattle.codec.proofs.examine.Cells.{tells_none, tells_more}
+use Rattle.codec.proofs.theory.Counted.{greater}
 use Rattle.codec.proofs.examine.greatest.Goals as goal
 
-pub loop-i-init : goal.loop-i-init
-loop-i-init c = (zero-le, tells_none _)
+pub loop-cell-init : goal.loop-cell-init
+loop-cell-init c = tells_none _
 
-pub cell_value-requires : goal.cell_value-requires
-cell_value-requires c = omega arith
-
-pub overflow_add-i : goal.overflow_add-i
-overflow_add-i c = omega arith
-
-pub loop-i-smaller : goal.loop-i-smaller
-loop-i-smaller c = omega arith
-
-pub loop-i-preserved : goal.loop-i-preserved
-loop-i-preserved c =
-    let turn = c.loop-i in
-    (omega arith, tells_more _ _ _ _ _ turn.invariant.1 c.cell_value.ensures c.greater-most.ensures)
-
-pub returns : goal.returns
-returns c =
-    let e = let end = c.loop-i in tells_all _ _ _ _ end.invariant.1 end.invariant.0 c.loop-i-test.false in
-    record { result_value = e.0; by_index = e.1 }
+pub loop-cell-preserved : goal.loop-cell-preserved
+loop-cell-preserved c =
+    let turn = c.loop-cell in
+    let field = c.args.field.now in
+    let inside : turn.cell-index < c.args.n = omega (arith, length-take-le c.args.n field) in
+    let more = greater turn.most (get_or (take c.args.n field) turn.cell-index 0) in
+    tells_more (field_of field) _ _ _ _ turn.invariant (get_or-take _ field _ 0 inside) (cc)

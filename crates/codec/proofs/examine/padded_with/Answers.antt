@@ -87,9 +87,6 @@ pub corrected_value-value-requires : goal.corrected_value-value-requires
 corrected_value-value-requires c =
     (c.place_back-place.ensures.at_place (cell (goal.at.corrected_value-value-requires c).In-loop-unseen)).below
 
-pub overflow_sub-unseen : goal.overflow_sub-unseen
-overflow_sub-unseen c = c.loop-unseen-test.true
-
 pub returns-then-not-is_right : goal.returns-then-not-is_right
 returns-then-not-is_right c =
     let own = cell (goal.at.returns-then-not-is_right c).In-loop-unseen in
@@ -102,9 +99,6 @@ returns-then-not-is_right c =
     (value (goal.at.returns-then-not-is_right c).After-corrected_value-value own)
     c.is_right.ensures
     c.if-not-is_right.true
-
-pub less_if-unseen-requires : goal.less_if-unseen-requires
-less_if-unseen-requires c = c.loop-unseen-test.true
 
 pub loop-unseen-smaller : goal.loop-unseen-smaller
 loop-unseen-smaller c = omega (arith, some (goal.at.loop-unseen-smaller c).In-loop-unseen)
@@ -123,7 +117,7 @@ loop-unseen-preserved c =
           c.is_right.ensures
           c.if-not-is_right.false
           _
-          c.less_if-unseen.ensures,
+          grind (arith, c.from-unseen.ensures),
     )
 
 pub returns : goal.returns

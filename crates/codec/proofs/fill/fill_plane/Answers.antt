@@ -1,15 +1,14 @@
 -- `fill_plane` meets its contract. The loop's invariant: the part is filled up to the run that is next.
 use Prim.Native.Nat.{◌+◌, ◌≤◌}
-use mathlib.Core.Path.{refl, ◌∙◌}
-use native.Mathlib.Nat.{le_antisymm, le_refl, le_trans}
+use mathlib.Core.Path.{◌∙◌}
+use native.Mathlib.Nat.{le_antisymm, le_trans}
 use native.Mathlib.Omega.{arith}
 use lib.ListN.{length, length-set}
-use mir.Facts.{Fits-below}
 use Rattle.lattice.specs.Class.{layout_of}
 use Rattle.lattice.specs.Listing.{Run}
 use Rattle.lattice.specs.Shape.{max_cells}
 use Rattle.codec.specs.Filling.{ToFill, AtRun}
-use Rattle.codec.proofs.fill.Runs.{data_none, this_run, few_before, run_check, run_last}
+use Rattle.codec.proofs.fill.Runs.{this_run, few_before, run_check, run_last}
 use Rattle.codec.proofs.fill.Plane.{plane_limit, plane_room, plane_fill, plane_filled}
 use Rattle.codec.proofs.fill.fill_plane.Goals.{After-run_end-to, At-loop-to}
 use Rattle.codec.proofs.fill.fill_plane.Goals as goal
@@ -48,27 +47,6 @@ room : (c : At-loop-to)
 room c =
     rw c.loop-to.invariant.1 (plane_room _ _ _ _ _ _ _ _ c.requires.checks_listed c.requires.at_plane c.plane_cells.ensures)
 
-pub overflow_add-end : goal.overflow_add-end
-overflow_add-end c =
-    Fits-below tt (plane_limit _ _ _ _ _ _ _ _ c.requires.checks_listed c.requires.at_plane c.plane_cells.ensures)
-
-pub run_end-to-requires : goal.run_end-to-requires
-run_end-to-requires c = c.requires.checks_listed.few
-
-pub loop-to-init : goal.loop-to-init
-loop-to-init c = (
-  c.run_end-to.ensures.0,
-  refl,
-  λ L f counted.
-      record {
-        behind = le_refl _;
-        inside = omega arith;
-        counted = counted;
-        ends = c.run_end-to.ensures.1 L f.lists f.inside;
-        put = data_none L _ _ _;
-      },
-)
-
 pub scatter_run-requires : goal.scatter_run-requires
 scatter_run-requires c = (
   few (goal.at.scatter_run-requires c).At-loop-to,
@@ -78,25 +56,6 @@ scatter_run-requires c = (
       (room (goal.at.scatter_run-requires c).At-loop-to),
 )
 
-pub overflow_sub-part : goal.overflow_sub-part
-overflow_sub-part c = le_trans (next (goal.at.overflow_sub-part c).At-loop-to).behind
-    (run (goal.at.overflow_sub-part c).At-loop-to).ordered
-
-pub bounds-part-to : goal.bounds-part-to
-bounds-part-to c =
-    let inside = c.loop-to-test.true in
-    omega (
-      arith,
-      c.scatter_run.auto.part,
-      room (goal.at.bounds-part-to c).At-loop-to,
-      (next (goal.at.bounds-part-to c).At-loop-to).behind,
-      (run (goal.at.bounds-part-to c).At-loop-to).ordered,
-    )
-
-pub overflow_add-from : goal.overflow_add-from
-overflow_add-from c =
-    omega (arith, limit (goal.at.overflow_add-from c).At-loop-to, c.loop-to-test.true)
-
 pub overflow_add-k : goal.overflow_add-k
 overflow_add-k c =
     omega (
@@ -105,13 +64,6 @@ overflow_add-k c =
       few (goal.at.overflow_add-k c).At-loop-to,
       (next (goal.at.overflow_add-k c).At-loop-to).inside,
     )
-
-pub run_end-to-requires-in-loop-to : goal.run_end-to-requires-in-loop-to
-run_end-to-requires-in-loop-to c = c.requires.checks_listed.few
-
-pub loop-to-smaller : goal.loop-to-smaller
-loop-to-smaller c =
-    omega (arith, (run (goal.at.loop-to-smaller c).At-loop-to).ordered, c.loop-to-test.true)
 
 pub loop-to-preserved : goal.loop-to-preserved
 loop-to-preserved c =
@@ -138,9 +90,6 @@ scatter_run-requires-2 c = (
   (next (goal.at.scatter_run-requires-2 c).At-loop-to).inside,
   room (goal.at.scatter_run-requires-2 c).At-loop-to,
 )
-
-pub shape_of-part : goal.shape_of-part
-shape_of-part c = c.scatter_run-2.auto.part ∙ c.loop-to.invariant.1
 
 pub returns : goal.returns
 returns c =

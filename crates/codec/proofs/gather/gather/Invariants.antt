@@ -1,7 +1,6 @@
--- What the loop of `gather` keeps.
-use Prim.Native.Nat.{◌-◌, ◌≤◌}
+-- What the loop of `gather` keeps: the cells before `begin` are gathered, and k checks stand among them.
+use Prim.Native.Nat.{◌≤◌}
 use mathlib.Core.Path.{◌≡◌}
-use lib.ListN.{length}
 use Rattle.lattice.specs.Listing.{checks_to, ListsChecks}
 use Rattle.lattice.specs.Position.{Layout}
 use Rattle.codec.specs.Field.{field_of, having}
@@ -10,9 +9,6 @@ use Rattle.codec.proofs.gather.gather.Given as goal
 
 abbrev pub invariant-loop-k : goal.invariant-loop-k
 invariant-loop-k l =
-    (l.k ≤ l.amount) × (l.begin ≤ l.cells) × (length l.payload ≡ length l.initial.payload)
+    (l.begin ≤ l.cells)
     × ((L : Layout) → L.cells ≡ l.cells → ListsChecks L l.cells l.amount l.checks
     → (checks_to L l.begin ≡ l.k) × HoldsBytes L (having 1 (field_of l.field)) l.payload l.begin)
-
-abbrev pub decreases-loop-k : goal.decreases-loop-k
-decreases-loop-k l = l.amount - l.k

@@ -4,16 +4,6 @@ use Rattle.codec.proofs.theory.CellValues.{having_cells}
 use Rattle.codec.proofs.theory.Gathered.{gathered_byte, gathered_cell}
 use Rattle.codec.proofs.gather.gather_some.Goals as goal
 
-pub eight-requires : goal.eight-requires
-eight-requires c =
-    record {
-      i_in_bounds = omega (arith, (c.begins_byte.ensures c.if-begins_byte.true).enough);
-      received = c.requires.received;
-    }
-
-pub bounds-payload-j : goal.bounds-payload-j
-bounds-payload-j c = (c.begins_byte.ensures c.if-begins_byte.true).inside
-
 pub returns-then-begins_byte : goal.returns-then-begins_byte
 returns-then-begins_byte c =
     let begins = c.begins_byte.ensures c.if-begins_byte.true in

@@ -1,8 +1,8 @@
 -- `plan` meets its contract: a refusal settles the answer, and else the figures are counted from the sizes of the classes.
 use Prim.Native.Nat.{ℕ, ◌/◌, ◌≤◌}
-use mathlib.Core.Path.{sym, ap, ◌∙◌}
+use mathlib.Core.Path.{ap, ◌∙◌}
 use Rattle.lattice.specs.Shape.{max_classes}
-use Rattle.lattice.proofs.theory.Answers.{told, told_none}
+use Rattle.lattice.proofs.theory.Answers.{handed_on}
 use Rattle.lattice.proofs.theory.CapacityGiven.{classes_given, capacity_given}
 use Rattle.lattice.proofs.theory.UsedClasses.{used_given}
 use Rattle.lattice.proofs.theory.DigitsGiven.{digits_given}
@@ -10,9 +10,9 @@ use Rattle.codec.specs.Plan.{plan_classes, plan_capacity, plan_bytes, plan_cells
 use Rattle.codec.proofs.theory.PlanRefusal.{plan_refused_lem}
 use Rattle.codec.proofs.plan.plan.Goals as goal
 
-pub returns-in-Refused : goal.returns-in-Refused
-returns-in-Refused c =
-    plan_refused_lem _ c.in-Refused.why (told c.tests-tested.ensures c.in-Refused.is)
+pub returns-in_err-tests : goal.returns-in_err-tests
+returns-in_err-tests c =
+    rw (handed_on c.from_residual.ensures.1) (plan_refused_lem _ c.in_err-tests.field-0.0 c.in_err-tests.ensures)
 
 pub returns : goal.returns
 unfolding plan_classes plan_capacity plan_bytes plan_cells plan_used plan_digits
@@ -21,7 +21,7 @@ returns c =
     let few : c.classes-classes.result ≤ max_classes = rw own (classes_given _) in
     let capacity = c.data_in-capacity.ensures few ∙ capacity_given _ _ _ c.class_sizes.ensures.holds_sizes own in
     record {
-      number = sym (told_none c.tests-tested.ensures c.in_default.is);
+      number = c.in_ok-tests.ensures;
       classes = own;
       capacity = capacity;
       bytes = ap (λ (k : ℕ). k / 8) capacity;

@@ -33,6 +33,3 @@ returns-then-pass-eq1 c =
     λ s ok same.
     subst (HoldsSyndromes (layout_of s) f one.new.syndromes) (cells_are s ok _ same)
     (one.ensures (layout_of s) (pass_alone s ok _ same c.if-pass-eq1.true))
-
-pub returns-else-pass-eq1 : goal.returns-else-pass-eq1
-returns-else-pass-eq1 c = c.line_syndromes.ensures

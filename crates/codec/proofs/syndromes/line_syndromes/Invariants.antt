@@ -1,7 +1,5 @@
--- What the loop of `line_syndromes` keeps.
-use Prim.Native.Nat.{◌-◌, ◌≤◌}
+-- What the loop of `line_syndromes` keeps: the classes of the slices before j have their syndromes.
 use mathlib.Core.Path.{◌≡◌}
-use lib.ListN.{length}
 use Rattle.lattice.specs.declared.shape.Shape.{Shape}
 use Rattle.lattice.specs.Shape.{Accepted}
 use Rattle.lattice.specs.Lines.{pass_of}
@@ -11,8 +9,4 @@ use Rattle.codec.proofs.syndromes.line_syndromes.Given as goal
 
 abbrev pub invariant-loop-j : goal.invariant-loop-j
 invariant-loop-j l =
-    (l.j ≤ l.pass.slices) × (length l.syndromes ≡ length l.initial.syndromes)
-    × ((s : Shape) → Accepted s → l.pass ≡ pass_of s → SlicesTaken s l.pass (having l.value (field_of l.field)) l.j l.syndromes)
-
-abbrev pub decreases-loop-j : goal.decreases-loop-j
-decreases-loop-j l = l.pass.slices - l.j
+    (s : Shape) → Accepted s → l.pass ≡ pass_of s → SlicesTaken s l.pass (having l.value (field_of l.field)) l.j l.syndromes

@@ -64,6 +64,3 @@ listed_syndromes-requires c =
       );
       by_index_2 = front_zeros (c.args.pass.period + c.args.pass.columns) 768;
     }
-
-pub returns : goal.returns
-returns c = c.listed_syndromes.ensures

@@ -1,11 +1,11 @@
 -- `count_starts` meets its contract. The loop's invariant: `line` is line l, and each entry is the number of lines before it that
 -- begin there.
 use Prim.Native.Nat.{◌<◌, ◌≤◌, zero-le}
-use mathlib.Core.Path.{◌≡◌, refl, ap, ◌∙◌}
+use mathlib.Core.Path.{refl}
 use native.Mathlib.Omega.{arith}
 use lib.ListN.{get_or, length-set}
 use Rattle.lattice.specs.Shape.{max_cells, max_classes}
-use Rattle.lattice.specs.Lines.{table_of, line_start, starts_at}
+use Rattle.lattice.specs.Lines.{table_of, line_start}
 use Rattle.lattice.proofs.theory.LineCounts.{counted_none, counted_more, starts_most}
 use Rattle.lattice.proofs.theory.NextLine.{pass_first}
 use Rattle.lattice.proofs.theory.SizesByLines.{period_most, starts_below, lines_most_lem}
@@ -56,12 +56,6 @@ overflow_add-starts c = omega (arith, entry (goal.at.overflow_add-starts c).In-l
 pub bounds-starts-a-in-loop-l : goal.bounds-starts-a-in-loop-l
 bounds-starts-a-in-loop-l c = omega (arith, place (goal.at.bounds-starts-a-in-loop-l c).In-loop-l)
 
-pub overflow_add-l : goal.overflow_add-l
-overflow_add-l c = omega arith
-
-pub loop-l-smaller : goal.loop-l-smaller
-loop-l-smaller c = omega arith
-
 pub loop-l-preserved : goal.loop-l-preserved
 loop-l-preserved c =
     let turn = c.loop-l in (
@@ -74,12 +68,3 @@ loop-l-preserved c =
                 (omega (arith, place (goal.at.loop-l-preserved c).In-loop-l)),
           ),
     )
-
-pub shape_of-starts : goal.shape_of-starts
-shape_of-starts c = c.loop-l.invariant.1
-
-pub returns : goal.returns
-returns c =
-    let turn = c.loop-l in
-    let n : turn.l ≡ c.args.pass.lines = omega arith in
-    λ s accepted same a. (turn.invariant.2 s accepted same).1 a ∙ ap (starts_at (line_start (table_of s) s.rows) a) n

@@ -1,5 +1,5 @@
 -- What the loop of `count_starts` keeps.
-use Prim.Native.Nat.{◌-◌, ◌≤◌}
+use Prim.Native.Nat.{◌≤◌}
 use mathlib.Core.Path.{◌≡◌}
 use lib.ListN.{length}
 use Rattle.lattice.specs.declared.shape.Shape.{Shape}
@@ -13,6 +13,3 @@ invariant-loop-l l =
     (l.l ≤ l.pass.lines) × (length l.starts ≡ length l.initial.starts)
     × ((s : Shape) → Accepted s → l.pass ≡ pass_of s
     → IsLine (table_of s) s.rows l.l l.line × Counted (line_start (table_of s) s.rows) l.starts l.l)
-
-abbrev pub decreases-loop-l : goal.decreases-loop-l
-decreases-loop-l l = l.pass.lines - l.l

@@ -1,25 +1,11 @@
 -- `share` meets its contract.
 use Prim.Native.Nat.{◌/◌, ◌%◌}
 use mathlib.Core.Path.{ap}
-use native.Mathlib.Nat.{mod-lt, div-add-mod', div-le_self}
+use native.Mathlib.Nat.{mod-lt, div-add-mod'}
 use native.Mathlib.Omega.{arith}
 use Rattle.lattice.specs.Lines.{among}
 use Rattle.lattice.proofs.theory.Among.{among_before, among_after, among_many}
 use Rattle.lattice.proofs.by_lines.share.Goals as goal
-
-pub nonzero_rem-n : goal.nonzero_rem-n
-nonzero_rem-n c = omega arith
-
-pub nonzero_div-result : goal.nonzero_div-result
-nonzero_div-result c = omega arith
-
-pub overflow_add-result : goal.overflow_add-result
-overflow_add-result c =
-    let a = c.args in
-    omega (arith, div-le_self a.n a.m)
-
-pub nonzero_div-result-else-y-n : goal.nonzero_div-result-else-y-n
-nonzero_div-result-else-y-n c = omega arith
 
 pub returns-then-y-n : goal.returns-then-y-n
 returns-then-y-n c =

@@ -10,9 +10,3 @@ sizes_by_slices-requires c =
       of_shape = (p, omega (arith, slices_least p.shape p.accepted _ p.same), omega arith);
       by_index = c.requires.by_index;
     }
-
-pub returns-then-pass-eq1 : goal.returns-then-pass-eq1
-returns-then-pass-eq1 c = c.sizes_by_starts.ensures
-
-pub returns-else-pass-eq1 : goal.returns-else-pass-eq1
-returns-else-pass-eq1 c = c.sizes_by_slices.ensures

@@ -1,6 +1,6 @@
 -- `sizes_by_slices` meets its contract. The loop's invariant: the entries before a are set, and the others are as they were.
-use Prim.Native.Nat.{◌*◌, ◌/◌, ◌%◌, ◌<◌, ◌≤◌, zero-le}
-use mathlib.Core.Path.{◌≡◌, refl, ap₂}
+use Prim.Native.Nat.{◌*◌, ◌/◌, ◌%◌, ◌<◌, ◌≤◌}
+use mathlib.Core.Path.{◌≡◌, ap₂}
 use native.Mathlib.Nat.{mod-lt}
 use native.Mathlib.Omega.{arith}
 use lib.ListN.{length, length-set}
@@ -11,9 +11,6 @@ use Rattle.lattice.proofs.theory.SizesByLines.{most, period_least, lines_most_le
 use Rattle.lattice.proofs.theory.Stores.{store_more, store_left}
 use Rattle.lattice.proofs.by_lines.sizes_by_slices.Goals.{After-share-columns}
 use Rattle.lattice.proofs.by_lines.sizes_by_slices.Goals as goal
-
-pub loop-a-init : goal.loop-a-init
-loop-a-init c = (zero-le, refl, (λ k l. omega arith), (λ k l. refl))
 
 pub nonzero_div-a : goal.nonzero_div-a
 nonzero_div-a c =
@@ -75,12 +72,6 @@ offset_bounds-sizes-a c = omega (arith, place c)
 pub bounds-sizes-a : goal.bounds-sizes-a
 bounds-sizes-a c = omega (arith, place c)
 
-pub overflow_add-a : goal.overflow_add-a
-overflow_add-a c = omega (arith, place c)
-
-pub loop-a-smaller : goal.loop-a-smaller
-loop-a-smaller c = omega arith
-
 pub loop-a-preserved : goal.loop-a-preserved
 loop-a-preserved c =
     let pass = c.args.pass in
@@ -94,9 +85,6 @@ loop-a-preserved c =
           turn.sizes _ _ (place c) turn.invariant.2 (entry c),
       store_left c.args.sizes.now turn.sizes _ _ turn.invariant.3,
     )
-
-pub shape_of-sizes : goal.shape_of-sizes
-shape_of-sizes c = c.loop-a.invariant.1
 
 pub returns : goal.returns
 returns c =

@@ -1,5 +1,5 @@
 -- What the loop of `sizes_by_slices` keeps.
-use Prim.Native.Nat.{ℕ, ◌-◌, ◌*◌, ◌/◌, ◌%◌, ◌<◌, ◌≤◌}
+use Prim.Native.Nat.{ℕ, ◌*◌, ◌/◌, ◌%◌, ◌<◌, ◌≤◌}
 use mathlib.Core.Path.{◌≡◌}
 use lib.ListN.{length, get_or}
 use Rattle.lattice.specs.Lines.{among}
@@ -12,6 +12,3 @@ invariant-loop-a l =
     → get_or l.sizes k 0
     ≡ among l.pass.slices (k / l.pass.period) l.pass.lines * among l.pass.period (k % l.pass.period) l.pass.columns)
     × ((k : ℕ) → l.a ≤ k → get_or l.sizes k 0 ≡ get_or l.initial.sizes k 0)
-
-abbrev pub decreases-loop-a : goal.decreases-loop-a
-decreases-loop-a l = l.pass.classes - l.a

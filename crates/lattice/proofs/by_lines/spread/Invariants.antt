@@ -9,6 +9,3 @@ invariant-loop-a l =
     (l.a ≤ l.m) × (length l.sizes ≡ length l.initial.sizes)
     × ((k : ℕ) → k < l.a → get_or l.sizes k 0 + get_or l.heads (k + 1 + l.m - l.gap) 0 ≡ l.base + get_or l.heads (k + 1 + l.m) 0)
     × ((k : ℕ) → l.a ≤ k → get_or l.sizes k 0 ≡ get_or l.initial.sizes k 0)
-
-abbrev pub decreases-loop-a : goal.decreases-loop-a
-decreases-loop-a l = l.m - l.a

@@ -1,5 +1,5 @@
 -- What the loop of `sum_starts` keeps.
-use Prim.Native.Nat.{◌-◌, ◌*◌, ◌%◌, ◌≤◌}
+use Prim.Native.Nat.{◌*◌, ◌%◌, ◌≤◌}
 use mathlib.Core.Path.{◌≡◌}
 use lib.ListN.{length, get_or}
 use Rattle.lattice.specs.Lines.{Sums}
@@ -9,6 +9,3 @@ abbrev pub invariant-loop-y : goal.invariant-loop-y
 invariant-loop-y l =
     (l.y ≤ 2 * l.m) × (length l.heads ≡ length l.initial.heads) × (l.a ≡ l.y % l.m)
     × Sums (λ k. get_or l.starts (k % l.m) 0) l.y l.heads
-
-abbrev pub decreases-loop-y : goal.decreases-loop-y
-decreases-loop-y l = 2 * l.m - l.y

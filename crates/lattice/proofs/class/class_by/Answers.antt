@@ -12,11 +12,6 @@ use Rattle.lattice.proofs.class.class_by.Goals as goal
 slice_most : (c : After-struct_known-1) → c.remainder-slice.result ≤ c.args.row
 slice_most c = rw c.remainder-slice.ensures (mod-le _ _)
 
-pub overflow_mul-result : goal.overflow_mul-result
-overflow_mul-result c =
-    let row = c.ranges.row in
-    Fits-below tt (mul-le-mul (le_trans (slice_most c) (most_32 row)) (most_16 c.struct_known-1.given.0))
-
 pub overflow_add-result : goal.overflow_add-result
 overflow_add-result c =
     let fits = c.ranges in

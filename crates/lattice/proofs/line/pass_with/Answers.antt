@@ -3,31 +3,18 @@ use Prim.Native.Nat.{◌-◌, ◌*◌, ◌≤◌}
 use mathlib.Core.Path.{refl, ap, ◌∙◌}
 use native.Mathlib.Nat.{mul-le-mul}
 use native.Mathlib.Omega.{arith}
-use mir.Facts.{Fits-below}
 use Rattle.lattice.specs.declared.class.Placement.{Placement}
-use Rattle.lattice.specs.Shape.{max_side, max_planes, max_cells, max_classes}
+use Rattle.lattice.specs.Shape.{max_side}
 use Rattle.lattice.specs.Lines.{pass_with}
 use Rattle.lattice.proofs.theory.Limits.{legal}
-use Rattle.lattice.proofs.theory.NextLine.{pass_is, lines_few, cells_few, period_own, classes_own}
+use Rattle.lattice.proofs.theory.NextLine.{pass_is, period_own}
 use Rattle.lattice.proofs.theory.Widths.{most_16}
 use Rattle.lattice.proofs.line.pass_with.Goals.{After-struct_known-7-1}
 use Rattle.lattice.proofs.line.pass_with.Goals as goal
 
-pub overflow_mul-lines : goal.overflow_mul-lines
-overflow_mul-lines c =
-    Fits-below {n = max_side * max_planes} tt (lines_few _ c.requires.0)
-
 pub overflow_sub-last : goal.overflow_sub-last
 overflow_sub-last c =
     (legal _ c.requires.0).height_low
-
-pub overflow_mul-result : goal.overflow_mul-result
-overflow_mul-result c =
-    Fits-below {n = max_cells} tt (cells_few _ c.requires.0)
-
-pub overflow_mul-result-2 : goal.overflow_mul-result-2
-overflow_mul-result-2 c =
-    Fits-below {n = max_classes} tt (classes_own _ c.requires.0 _ c.requires.1)
 
 pub nonzero_rem-result : goal.nonzero_rem-result
 nonzero_rem-result c =
@@ -40,9 +27,6 @@ product : (c : After-struct_known-7-1)
 product c =
     let few = (legal _ c.requires.0).height_high in
     mul-le-mul {n₂ = 65535} {m₂ = max_side} (most_16 c.struct_known-7-1.given.1.0) (omega (arith, few))
-
-pub overflow_mul-b : goal.overflow_mul-b
-overflow_mul-b c = Fits-below {n = 65535 * max_side} tt (product c)
 
 pub minus_mod-requires : goal.minus_mod-requires
 minus_mod-requires c = (

@@ -5,20 +5,9 @@ use Prim.Native.Nat.{◌%◌}
 use lib.Dec.{eqb}
 use lib.IntN.{ℤ, pos, nat_abs, ◌-ℤ◌, ◌*ℤ◌}
 use Rattle.lattice.specs.DistanceTest.{fails_at}
-use Rattle.lattice.proofs.theory.Words.{read_back, upright_size, difference_fits, residue_fits, residue_quot_fits}
+use Rattle.lattice.proofs.theory.Words.{read_back, residue_fits, residue_quot_fits}
 use Rattle.lattice.proofs.theory.Words.{residue_rem}
 use Rattle.lattice.proofs.scan.fails.Goals as goal
-
-pub scaled-by_row-requires : goal.scaled-by_row-requires
-scaled-by_row-requires c = omega (arith, upright_size c.args.x.row (omega arith))
-
-pub scaled-by_plane-requires : goal.scaled-by_plane-requires
-scaled-by_plane-requires c = omega (arith, upright_size c.args.x.plane (omega arith))
-
-pub overflow_sub-result : goal.overflow_sub-result
-overflow_sub-result c =
-    let a = c.args in
-    difference_fits a.x.column c.scaled-by_row.result (omega arith)
 
 pub overflow_sub-result-2 : goal.overflow_sub-result-2
 overflow_sub-result-2 c =

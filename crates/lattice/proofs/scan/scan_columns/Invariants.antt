@@ -1,5 +1,5 @@
 -- What the loop of `scan_columns` keeps.
-use Prim.Native.Nat.{◌-◌, ◌≤◌}
+use Prim.Native.Nat.{◌≤◌}
 use mathlib.Core.Path.{◌≡◌}
 use Rattle.lattice.specs.Order.{run, columns_at}
 use Rattle.lattice.specs.DistanceTest.{after, scan}
@@ -11,6 +11,3 @@ invariant-loop-tried l =
     (l.tried ≤ l.count)
     × (scan l.k (columns_at l.row l.plane (run l.first l.count))
     ≡ after l.tried (left l.k (columns_at l.row l.plane) l.first l.count l.tried))
-
-abbrev pub decreases-loop-tried : goal.decreases-loop-tried
-decreases-loop-tried l = l.count - l.tried

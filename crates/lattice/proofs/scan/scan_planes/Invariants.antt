@@ -1,5 +1,5 @@
 -- What the loop of `scan_planes` keeps.
-use Prim.Native.Nat.{◌-◌, ◌*◌, ◌≤◌}
+use Prim.Native.Nat.{◌*◌, ◌≤◌}
 use mathlib.Core.Path.{◌≡◌}
 use Rattle.lattice.specs.Order.{run, planes_at}
 use Rattle.lattice.specs.DistanceTest.{after, scan}
@@ -12,6 +12,3 @@ invariant-loop-i l =
     × (l.tried ≤ l.i * 64)
     × (scan l.k (planes_at l.row l.n (run l.first l.count))
     ≡ after l.tried (left l.k (planes_at l.row l.n) l.first l.count l.i))
-
-abbrev pub decreases-loop-i : goal.decreases-loop-i
-decreases-loop-i l = l.count - l.i

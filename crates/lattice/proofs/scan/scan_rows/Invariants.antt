@@ -1,5 +1,5 @@
 -- What the loop of `scan_rows` keeps.
-use Prim.Native.Nat.{◌-◌, ◌*◌, ◌≤◌}
+use Prim.Native.Nat.{◌*◌, ◌≤◌}
 use mathlib.Core.Path.{◌≡◌}
 use lib.IntN.{pos}
 use Rattle.lattice.specs.Order.{rows_at, all_rows}
@@ -12,6 +12,3 @@ invariant-loop-i l =
     (l.i ≤ l.n)
     × (l.tried ≤ l.i * 4096)
     × (scan l.k (all_rows l.n) ≡ after l.tried (left l.k (rows_at l.n) (pos 1) l.n l.i))
-
-abbrev pub decreases-loop-i : goal.decreases-loop-i
-decreases-loop-i l = l.n - l.i

@@ -1,15 +1,14 @@
--- `store_digits` meets its contract. The loop's invariant: the walk is at cell i, and the counts, the rank, the digits and the
--- word cells that differ are those of the cells before it.
-use Prim.Native.Nat.{◌<◌, zero-le}
+-- `store_digits` meets its contract.
+use Prim.Native.Nat.{◌<◌}
 use mathlib.Core.Path.{◌≡◌, refl, ◌∙◌}
 use native.Mathlib.Omega.{arith}
-use Rattle.lattice.specs.Shape.{max_cells, cells_of}
+use Rattle.lattice.specs.Shape.{max_cells}
 use Rattle.codec.specs.Field.{field_of}
 use Rattle.codec.proofs.theory.WorkArrays.{cell_limit}
 use Rattle.levels.specs.Decode.{restored_field}
-use Rattle.levels.proofs.theory.DigitRanks.{rank_none, rank_more, rank_limit, digit_is}
-use Rattle.levels.proofs.theory.HeldRemainders.{remainders_small, restored_is}
-use Rattle.levels.proofs.theory.PassCells.{walked_none, cell_below, at_cell}
+use Rattle.levels.proofs.theory.DigitRanks.{one_if, few_if, rank_none, rank_more, rank_limit, digit_is}
+use Rattle.levels.proofs.theory.HeldRemainders.{restored_is}
+use Rattle.levels.proofs.theory.PassCells.{walked_none}
 use Rattle.levels.proofs.decode.StoredDigits.{held_none, held_more, held_all, changed_none, changed_more}
 use Rattle.levels.proofs.decode.StoredDigits.{changed_limit, changed_all}
 use Rattle.levels.proofs.decode.store_digits.Goals.{After-restored_level-value, In-loop-i}
@@ -17,9 +16,6 @@ use Rattle.levels.proofs.decode.store_digits.Goals as goal
 
 -- the cell of a turn
 module _ (c : In-loop-i) where
-  below : c.loop-i.i < cells_of c.args.shape
-  below = cell_below c.args.shape _ _ c.requires.levels_examined.long c.loop-i-test.true
-
   limit : c.loop-i.i < max_cells
   limit = cell_limit _ _ c.requires.levels_examined.long _ c.loop-i-test.true c.requires.levels_examined.laid.accepted
 
@@ -36,54 +32,22 @@ module _ (c : After-restored_level-value) where
 pub loop-i-init : goal.loop-i-init
 loop-i-init c =
     let a = c.args in (
-      zero-le,
       walked_none _ _ (c.first_cell-walk.ensures _ c.requires.levels_examined.laid.accepted c.pass-pass.ensures),
       rank_none _,
-      refl,
       held_none _ _ _,
       changed_none a.shape (field_of a.field.now) _,
     )
 
-pub spot_of-spot-requires : goal.spot_of-spot-requires
-spot_of-spot-requires c =
-    let pre = c.requires.levels_examined in
-    let given = c.pass-pass.ensures in
-    record {
-      laid = pre.laid;
-      at_cell = at_cell _ _ _ _ _ _ given pre.long c.loop-i-test.true c.loop-i.invariant.1;
-    }
+pub overflow_add-rank : goal.overflow_add-rank
+overflow_add-rank c =
+    let few = rank_limit _ _ _ (limit (goal.at.overflow_add-rank c).In-loop-i) c.loop-i.invariant.1 in
+    omega (arith, few_if _ _ _ few c.from-rank.ensures)
 
-pub bounds-field-i : goal.bounds-field-i
-bounds-field-i c = omega arith
-
-pub change_of-requires : goal.change_of-requires
-change_of-requires c =
-    let spot = c.spot_of-spot.ensures.spot_of in
-    record {
-      word_lt_max_words = spot.below;
-      slot_bound = spot.place;
-      remainders = remainders_small _ _ _ _ c.requires.levels_examined.held;
-    }
-
-pub restored_level-value-requires : goal.restored_level-value-requires
-restored_level-value-requires c =
-    c.requires.levels_examined.levels _ (below (goal.at.restored_level-value-requires c).In-loop-i)
-
-pub count_if-rank-requires : goal.count_if-rank-requires
-count_if-rank-requires c =
-    rank_limit _ _ _ (limit (goal.at.count_if-rank-requires c).In-loop-i) c.loop-i.invariant.2
-
-pub count_if-changed-requires : goal.count_if-changed-requires
-count_if-changed-requires c =
-    let a = c.args in
-    changed_limit a.shape (field_of a.field.now) _ _ _ (limit (goal.at.count_if-changed-requires c).In-loop-i)
-    c.loop-i.invariant.5
-
-pub overflow_add-i : goal.overflow_add-i
-overflow_add-i c = omega (arith, limit (goal.at.overflow_add-i c).In-loop-i)
-
-pub loop-i-smaller : goal.loop-i-smaller
-loop-i-smaller c = omega arith
+pub overflow_add-changed : goal.overflow_add-changed
+overflow_add-changed c =
+    let inside = limit (goal.at.overflow_add-changed c).In-loop-i in
+    let few = changed_limit c.args.shape (field_of c.args.field.now) _ _ _ inside c.loop-i.invariant.3 in
+    omega (arith, few_if _ _ _ few c.from-changed.ensures)
 
 pub loop-i-preserved : goal.loop-i-preserved
 loop-i-preserved c =
@@ -93,31 +57,28 @@ loop-i-preserved c =
     let inv = c.loop-i.invariant in
     let a = c.args in
     let stored = c.store_digit in (
-      omega arith,
       record {
-        walk = c.next_cell-walk.ensures _ c.requires.levels_examined.laid.accepted given _ inv.1.walk;
+        walk = c.next_cell-walk.ensures _ c.requires.levels_examined.laid.accepted given _ inv.0.walk;
         counted =
             spot.holds_sizes;
       },
-      rank_more _ _ _ _ _ inv.2 held c.count_if-rank.ensures,
-      stored.auto.payload ∙ inv.3,
-      held_more _ _ _ _ _ _ _ _ inv.4 stored.auto.payload held inv.2
+      rank_more _ _ _ _ _ inv.1 held (one_if _ _ _ c.from-rank.ensures),
+      held_more _ _ _ _ _ _ _ _ inv.2 stored.auto.payload held inv.1
           (value (goal.at.loop-i-preserved c).After-restored_level-value) stored.ensures,
-      changed_more a.shape (field_of a.field.now) _ _ _ _ _ _ _ spot.spot_of _ inv.5 refl
+      changed_more a.shape (field_of a.field.now) _ _ _ _ _ _ _ spot.spot_of _ inv.3 refl
           (value (goal.at.loop-i-preserved c).After-restored_level-value)
-          c.differs.ensures c.count_if-changed.ensures,
+          c.differs.ensures (one_if _ _ _ c.from-changed.ensures),
     )
-
-pub shape_of-payload : goal.shape_of-payload
-shape_of-payload c = c.loop-i.invariant.3
 
 pub returns : goal.returns
 returns c =
     let inv = c.loop-i.invariant in
     let pre = c.requires in
-    let a = c.args in
+    let long = pre.levels_examined.long in
+    let before = c.loop-i.auto.i-end in
+    let end = c.loop-i-test.false in
     record {
-      payload_after = held_all _ pre.levels_examined.laid.accepted _ _ _ _ (inv.3 ∙ pre.payload_len) pre.levels_examined.long
-          inv.0 c.loop-i-test.false inv.4;
-      value = changed_all a.shape (field_of a.field.now) _ _ _ _ pre.levels_examined.long inv.0 c.loop-i-test.false inv.5;
+      payload_after =
+          held_all _ pre.levels_examined.laid.accepted _ _ _ _ (c.loop-i.auto.payload ∙ pre.payload_len) long before end inv.2;
+      value = changed_all c.args.shape (field_of c.args.field.now) _ _ _ _ long before end inv.3;
     }

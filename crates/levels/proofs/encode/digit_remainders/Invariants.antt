@@ -1,5 +1,5 @@
--- What the loop of `digit_remainders` keeps.
-use Prim.Native.Nat.{◌-◌, ◌≤◌}
+-- What the loop of `digit_remainders` keeps: the walk is at cell i, and the counts, the rank and the remainders are those of the
+-- cells before it.
 use mathlib.Core.Path.{◌≡◌}
 use Rattle.lattice.specs.Class.{layout_of}
 use Rattle.levels.specs.Payload.{digit_rank, digit_field}
@@ -8,10 +8,6 @@ use Rattle.levels.proofs.encode.digit_remainders.Given as goal
 
 abbrev pub invariant-loop-i : goal.invariant-loop-i
 invariant-loop-i l =
-    (l.i ≤ l.cells)
-    × Walked l.shape l.walk l.counts l.i
+    Walked l.shape l.walk l.counts l.i
     × (l.rank ≡ digit_rank (layout_of l.shape) l.i)
     × HoldsRemainders (layout_of l.shape) (digit_field (layout_of l.shape) l.payload) l.remainders l.i
-
-abbrev pub decreases-loop-i : goal.decreases-loop-i
-decreases-loop-i l = l.cells - l.i

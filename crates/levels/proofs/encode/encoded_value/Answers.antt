@@ -2,13 +2,6 @@
 use Rattle.levels.proofs.encode.WrittenCells.{encoded_check, encoded_digit, encoded_ignored}
 use Rattle.levels.proofs.encode.encoded_value.Goals as goal
 
-pub bounds-remainders-word : goal.bounds-remainders-word
-bounds-remainders-word c = c.requires.word_lt_max_words c.if-spot.true
-
-pub check_for-requires : goal.check_for-requires
-check_for-requires c =
-    let pre = c.requires in pre.remainders.small _ (pre.word_lt_max_words c.if-spot.true)
-
 pub returns-then-spot-eq0 : goal.returns-then-spot-eq0
 returns-then-spot-eq0 c =
     encoded_check c.args.remainders.now _ _ c.if-spot.true c.if-spot-eq0.true _

@@ -40,14 +40,6 @@ returns-then-not-levels_ok c =
       levels_examined = λ z. absurd (omega arith);
     }
 
-pub field_remainders-requires : goal.field_remainders-requires
-field_remainders-requires c =
-    record {
-      laid = c.requires.laid;
-      field_len = c.requires.field_len;
-      by_index = c.requires.by_index;
-    }
-
 pub levels_in_reach-requires : goal.levels_in_reach-requires
 levels_in_reach-requires c = examined c
 

@@ -1,6 +1,5 @@
--- What the loop of `levels_in_reach` keeps.
-use Prim.Native.Nat.{◌-◌, ◌≤◌}
-use lib.ListN.{length}
+-- What the loop of `levels_in_reach` keeps: the walk is at cell i, the counts are those of the cells before it, and these pass
+-- the test.
 use Rattle.lattice.specs.Class.{layout_of}
 use Rattle.codec.specs.Field.{field_of}
 use Rattle.codec.proofs.theory.OneByOne.{PassedTo}
@@ -10,7 +9,4 @@ use Rattle.levels.proofs.examine.levels_in_reach.Given as goal
 
 abbrev pub invariant-loop-i : goal.invariant-loop-i
 invariant-loop-i l =
-    (l.i ≤ length l.field) × Walked l.shape l.walk l.counts l.i × PassedTo (fits (layout_of l.shape) (field_of l.field)) l.i
-
-abbrev pub decreases-loop-i : goal.decreases-loop-i
-decreases-loop-i l = length l.field - l.i
+    Walked l.shape l.walk l.counts l.i × PassedTo (fits (layout_of l.shape) (field_of l.field)) l.i

@@ -4,9 +4,6 @@ use Rattle.levels.specs.declared.faults.Fault.{Fault}
 use Rattle.levels.proofs.faults.Trials.{only_below, trial_found, found_elsewhere}
 use Rattle.levels.proofs.faults.fault_in.Goals as goal
 
-pub only_change-up-requires : goal.only_change-up-requires
-only_change-up-requires c = c.requires.remainder_nonzero.1
-
 pub leaves-requires : goal.leaves-requires
 leaves-requires c =
     record {

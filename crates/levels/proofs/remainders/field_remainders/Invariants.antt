@@ -1,6 +1,5 @@
--- What the loop of `field_remainders` keeps.
-use Prim.Native.Nat.{◌-◌, ◌≤◌}
-use lib.ListN.{length}
+-- What the loop of `field_remainders` keeps: the walk is at cell i, and the counts and the remainders are those of the cells
+-- before it.
 use Rattle.lattice.specs.Class.{layout_of}
 use Rattle.codec.specs.Field.{field_of}
 use Rattle.levels.specs.Working.{Walked, HoldsRemainders}
@@ -8,9 +7,5 @@ use Rattle.levels.proofs.remainders.field_remainders.Given as goal
 
 abbrev pub invariant-loop-i : goal.invariant-loop-i
 invariant-loop-i l =
-    (l.i ≤ length l.field)
-    × Walked l.shape l.walk l.counts l.i
+    Walked l.shape l.walk l.counts l.i
     × HoldsRemainders (layout_of l.shape) (field_of l.field) l.remainders l.i
-
-abbrev pub decreases-loop-i : goal.decreases-loop-i
-decreases-loop-i l = length l.field - l.i

@@ -2,17 +2,6 @@
 use Rattle.levels.proofs.restore.Restores.{change_inside, change_ignored}
 use Rattle.levels.proofs.restore.change_of.Goals as goal
 
-pub bounds-remainders-word : goal.bounds-remainders-word
-bounds-remainders-word c = c.requires.word_lt_max_words c.if-spot.true
-
-pub change-requires : goal.change-requires
-change-requires c =
-    let pre = c.requires in
-    record {
-      remainder_bound = pre.remainders.small _ (pre.word_lt_max_words c.if-spot.true);
-      cell_bound = pre.slot_bound;
-    }
-
 pub returns-then-spot : goal.returns-then-spot
 returns-then-spot c =
     change_inside c.args.remainders.now _ c.if-spot.true _ c.change.ensures

@@ -2,7 +2,7 @@
 use Prim.Native.Nat.{◌+◌, ◌*◌, ◌<◌}
 use native.Mathlib.Omega.{arith}
 use Rattle.lattice.specs.Shape.{max_classes}
-use Rattle.levels.proofs.spot.SpotCells.{class_below, count_below, cell_counted, position_some, spot_is}
+use Rattle.levels.proofs.spot.SpotCells.{class_below, count_below, cell_counted, spot_is}
 use Rattle.levels.proofs.spot.spot_of.Goals.{Start}
 use Rattle.levels.proofs.spot.spot_of.Goals as goal
 
@@ -22,23 +22,6 @@ count_in-position-requires c =
       class_in_bounds = rw c.count_in-arg-1.given.0.1 (below (goal.at.count_in-position-requires c).Start);
       class_bound = count_below _ _ _ c.requires.laid _ _ _ _ c.requires.at_cell;
     }
-
-pub offset_bounds-sizes-class : goal.offset_bounds-sizes-class
-offset_bounds-sizes-class c = omega (arith, below (goal.at.offset_bounds-sizes-class c).Start)
-
-pub bounds-sizes-class : goal.bounds-sizes-class
-bounds-sizes-class c = below (goal.at.bounds-sizes-class c).Start
-
-pub offset_bounds-offsets-class : goal.offset_bounds-offsets-class
-offset_bounds-offsets-class c = omega (arith, below (goal.at.offset_bounds-offsets-class c).Start)
-
-pub bounds-offsets-class : goal.bounds-offsets-class
-bounds-offsets-class c = below (goal.at.bounds-offsets-class c).Start
-
-pub spot_at-requires : goal.spot_at-requires
-spot_at-requires c =
-    let pre = c.requires in
-    position_some _ _ _ pre.laid _ _ _ _ pre.at_cell _ c.count_in-position.ensures.value
 
 pub returns : goal.returns
 returns c =

@@ -1,5 +1,4 @@
 -- `lay_words` meets its contract: the sizes of the classes, and the sums of their words.
-use native.Mathlib.Omega.{arith}
 use Rattle.lattice.specs.Shape.{cells_of}
 use Rattle.lattice.specs.Class.{layout_of}
 use Rattle.lattice.specs.Sizes.{HoldsSizes}
@@ -18,9 +17,6 @@ word_offsets-requires c =
       classes_le_max_classes = rw c.classes.ensures (classes_given _);
       by_index = sizes_small _ c.requires _ (sized (goal.at.word_offsets-requires c).After-class_sizes);
     }
-
-pub overflow_mul-result : goal.overflow_mul-result
-overflow_mul-result c = omega (arith, c.word_offsets.ensures.value.1)
 
 pub returns : goal.returns
 returns c =

@@ -57,6 +57,16 @@ rounds e =
       pass_narrow p.shape p.accepted _ p.same,
     )
 
+-- the step from line to line
+stride : (e : Start)
+    → (0 < e.args.pass.slices) × (e.args.pass.slices ≤ max_classes) × (e.args.pass.lines ≤ max_cells)
+stride e =
+    let p = e.requires.0 in (
+      slices_least p.shape p.accepted _ p.same,
+      slices_most p.shape p.accepted _ p.same,
+      lines_most_lem p.shape p.accepted _ p.same,
+    )
+
 pub nonzero_rem-y : goal.nonzero_rem-y
 nonzero_rem-y c = omega (arith, some c)
 
@@ -69,8 +79,11 @@ overflow_cast-whole c = omega (arith, rounds (goal.at.overflow_cast-whole c).Sta
 pub nonzero_rem-rest : goal.nonzero_rem-rest
 nonzero_rem-rest c = omega (arith, some (goal.at.nonzero_rem-rest c).Start)
 
-pub nonzero_div-l : goal.nonzero_div-l
-nonzero_div-l c = omega (arith, some (goal.at.nonzero_div-l c).Start)
+pub overflow_step-l : goal.overflow_step-l
+overflow_step-l c = omega (arith, some (goal.at.overflow_step-l c).Start)
+
+pub nonzero_div-l-step : goal.nonzero_div-l-step
+nonzero_div-l-step c = omega (arith, (stride (goal.at.nonzero_div-l-step c).Start).0)
 
 pub loop-l-init : goal.loop-l-init
 loop-l-init c =
@@ -78,9 +91,6 @@ loop-l-init c =
 
 pub raised-here-requires : goal.raised-here-requires
 raised-here-requires c = omega (arith, rounds (goal.at.raised-here-requires c).Start)
-
-pub overflow_cast-here : goal.overflow_cast-here
-overflow_cast-here c = omega arith
 
 pub overflow_add-before : goal.overflow_add-before
 overflow_add-before c = omega (arith, (own c).least, (own c).inside)
@@ -90,19 +100,6 @@ overflow_mul-result c = omega (arith, cell (goal.at.overflow_mul-result c).Then-
 
 pub overflow_add-result : goal.overflow_add-result
 overflow_add-result c = omega (arith, cell (goal.at.overflow_add-result c).Then-position-before)
-
-pub overflow_sub-result : goal.overflow_sub-result
-overflow_sub-result c = omega arith
-
-pub overflow_sub-result-then-position-before : goal.overflow_sub-result-then-position-before
-overflow_sub-result-then-position-before c = omega arith
-
-pub overflow_mul-result-then-position-before : goal.overflow_mul-result-then-position-before
-overflow_mul-result-then-position-before c = omega (
-  arith,
-  cell (goal.at.overflow_mul-result-then-position-before
-      c).Then-position-before,
-)
 
 pub overflow_add-result-then-position-before : goal.overflow_add-result-then-position-before
 overflow_add-result-then-position-before c = omega (
@@ -121,26 +118,6 @@ returns-then-position-before c =
     ((turn (goal.at.returns-then-position-before c).After-raised-here s accepted same).found _ c.loop-l.invariant.0
     c.if-position-before.true)
 
-pub overflow_add-before-in-loop-l : goal.overflow_add-before-in-loop-l
-overflow_add-before-in-loop-l c = omega (
-  arith,
-  (own (goal.at.overflow_add-before-in-loop-l c).After-raised-here).least,
-  (own (goal.at.overflow_add-before-in-loop-l c).After-raised-here).inside,
-)
-
--- the step from line to line
-stride : (e : Start)
-    → (0 < e.args.pass.slices) × (e.args.pass.slices ≤ max_classes) × (e.args.pass.lines ≤ max_cells)
-stride e =
-    let p = e.requires.0 in (
-      slices_least p.shape p.accepted _ p.same,
-      slices_most p.shape p.accepted _ p.same,
-      lines_most_lem p.shape p.accepted _ p.same,
-    )
-
-pub overflow_add-l : goal.overflow_add-l
-overflow_add-l c = let few = stride (goal.at.overflow_add-l c).Start in omega (arith, few.1, few.2)
-
 pub loop-l-smaller : goal.loop-l-smaller
 loop-l-smaller c = omega (arith, (stride (goal.at.loop-l-smaller c).Start).0)
 
@@ -158,4 +135,13 @@ returns c =
     let turn = c.loop-l in
     λ s accepted same.
     let whole = (turn.invariant.1 s accepted same).over (omega (arith, lines_are s accepted _ same)) in
+    given_none (layout_of s) _ _ (inr (omega (arith, whole)))
+
+pub returns-else-position-before : goal.returns-else-position-before
+returns-else-position-before c =
+    let searched = turn (goal.at.returns-else-position-before c).After-raised-here in
+    λ s accepted same.
+    let is = (c.loop-l.invariant.1 s accepted same).line in
+    let next = (searched s accepted same).next _ (c.next_line-line.ensures s accepted same _ is) in
+    let whole = next.over (omega (arith, lines_are s accepted _ same)) in
     given_none (layout_of s) _ _ (inr (omega (arith, whole)))

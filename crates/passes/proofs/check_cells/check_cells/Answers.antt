@@ -1,42 +1,29 @@
 -- `check_cells` meets its contract.
-use Prim.Native.Nat.{zero-le}
-use mathlib.Core.Path.{◌≡◌, ◌∙◌}
+use mathlib.Core.Path.{◌≡◌, sym, ◌∙◌}
 use native.Mathlib.Omega.{arith}
-use Rattle.lattice.specs.Shape.{max_classes, Accepted}
+use Rattle.lattice.specs.Shape.{max_classes}
 use Rattle.lattice.specs.Lines.{pass_of}
-use Rattle.lattice.proofs.theory.Answers.{some_number, told, told_none}
 use Rattle.passes.proofs.check_cells.Lines.{listed_all}
 use Rattle.lattice.proofs.theory.LineCounts.{zeros_at}
 use Rattle.lattice.proofs.theory.NextLine.{pass_accepted}
 use Rattle.lattice.proofs.theory.PassRoom.{pass_narrow}
 use Rattle.lattice.proofs.theory.SizesByLines.{period_least, period_most}
-use Rattle.passes.proofs.check_cells.check_cells.Goals.{After-pass-pass, In_default}
+use Rattle.passes.proofs.check_cells.check_cells.Goals.{After-pass-pass}
 use Rattle.passes.proofs.check_cells.check_cells.Goals as goal
-
-accepted : (c : In_default) → Accepted c.args.shape
-accepted c = told_none c.tests-tested.ensures c.in_default.is
 
 -- the pass is the shape's own
 own : (c : After-pass-pass) → c.pass-pass.result ≡ pass_of c.args.shape
-own c = c.pass-pass.ensures ∙ pass_accepted _ (told_none c.tests-tested.ensures c.in_default.is)
-
-pub returns-in-Refused : goal.returns-in-Refused
-returns-in-Refused c =
-    let number = told c.tests-tested.ensures c.in-Refused.is in
-    record {
-      lists_checks = (λ ok. absurd (some_number c.in-Refused.field-0 (number ∙ ok)));
-      upper_bound = zero-le;
-    }
+own c = c.pass-pass.ensures ∙ pass_accepted _ (sym c.in-Ok.ensures)
 
 pub fill_gains-requires : goal.fill_gains-requires
 fill_gains-requires c =
-    let ok = accepted (goal.at.fill_gains-requires c).In_default in
+    let ok = sym c.in-Ok.ensures in
     let same = own (goal.at.fill_gains-requires c).After-pass-pass in
     let most = period_most _ ok _ same in (period_least _ ok _ same, most, omega (arith, most), pass_narrow _ ok _ same)
 
 pub list_lines-requires : goal.list_lines-requires
 list_lines-requires c =
-    let ok = accepted (goal.at.list_lines-requires c).In_default in
+    let ok = sym c.in-Ok.ensures in
     let same = own (goal.at.list_lines-requires c).After-pass-pass in
     let filled = c.fill_gains in
     record {
@@ -46,7 +33,7 @@ list_lines-requires c =
 
 pub returns : goal.returns
 returns c =
-    let ok = accepted (goal.at.returns c).In_default in
+    let ok = sym c.in-Ok.ensures in
     let same = own (goal.at.returns c).After-pass-pass in
     let held = c.list_lines.ensures _ ok same in
     record {

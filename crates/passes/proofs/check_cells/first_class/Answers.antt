@@ -1,18 +1,8 @@
 -- `first_class` meets its contract.
-use Prim.Native.Nat.{ℕ, ◌*◌, ◌%◌}
-use mathlib.Core.Path.{refl, sym, ap, ◌∙◌}
 use native.Mathlib.Omega.{arith}
 use Rattle.passes.proofs.check_cells.Lines.{line_slice}
-use Rattle.lattice.proofs.theory.Remainder.{remainder_one}
 use Rattle.lattice.proofs.theory.SizesByLines.{most, slices_least}
 use Rattle.passes.proofs.check_cells.first_class.Goals as goal
-
-pub returns-then-pass-eq1 : goal.returns-then-pass-eq1
-returns-then-pass-eq1 c =
-    let a = c.args in
-    let one = ap (λ (n : ℕ). a.l % n * a.pass.period) c.if-pass-eq1.true in
-    let none = ap (λ (n : ℕ). n * a.pass.period) (remainder_one a.l) in
-    sym (one ∙ none ∙ omega arith)
 
 pub nonzero_rem-result : goal.nonzero_rem-result
 nonzero_rem-result c =
@@ -27,6 +17,3 @@ overflow_mul-result c =
       line_slice p.shape p.accepted _ p.same c.args.l c.requires.1,
       most p.shape p.accepted _ p.same,
     )
-
-pub returns : goal.returns
-returns c = refl

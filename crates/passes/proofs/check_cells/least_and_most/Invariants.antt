@@ -1,11 +1,9 @@
--- What the loop of `least_and_most` keeps.
-use Prim.Native.Nat.{ℕ, ◌-◌, ◌<◌, ◌≤◌}
+-- What the loop of `least_and_most` keeps: the entries before the next are from `low` to `high`.
+use Prim.Native.Nat.{ℕ, ◌<◌, ◌≤◌}
 use lib.ListN.{get_or}
 use Rattle.passes.proofs.check_cells.least_and_most.Given as goal
 
-abbrev pub invariant-loop-a : goal.invariant-loop-a
-invariant-loop-a l =
-    (l.a ≤ l.m) × ((k : ℕ) → k < l.a → l.low ≤ get_or l.counts k 0) × ((k : ℕ) → k < l.a → get_or l.counts k 0 ≤ l.high)
-
-abbrev pub decreases-loop-a : goal.decreases-loop-a
-decreases-loop-a l = l.m - l.a
+abbrev pub invariant-loop-count : goal.invariant-loop-count
+invariant-loop-count l =
+    ((k : ℕ) → k < l.count-index → l.low ≤ get_or l.count-items k 0)
+    × ((k : ℕ) → k < l.count-index → get_or l.count-items k 0 ≤ l.high)

@@ -8,7 +8,7 @@ returns-then-is_check c =
     let count = c.count_in-position in
     let test = c.is_check in
     λ L own few before.
-    step_check L _ _ _ _ _ _ _ _ _ own c.requires.0 before count.ensures.value count.ensures.a_after count.ensures.by_index
+    step_check L _ _ _ _ _ _ _ _ _ own c.requires.0 before count.ensures.value count.ensures.entry_stored
     (sym test.ensures ∙ c.if-is_check.true) few _ _ _ _ c.put.ensures.upper_bound
     c.place_number-place.ensures c.put.ensures.put_last
 
@@ -16,5 +16,5 @@ pub returns : goal.returns
 returns c =
     let count = c.count_in-position in
     λ L own few before.
-    step_free L _ _ _ _ _ _ _ _ _ own c.requires.0 before count.ensures.value count.ensures.a_after count.ensures.by_index
+    step_free L _ _ _ _ _ _ _ _ _ own c.requires.0 before count.ensures.value count.ensures.entry_stored
     (sym c.is_check.ensures ∙ c.if-is_check.false)

@@ -66,9 +66,6 @@ overflow_mul-cell c =
     let p = c.requires.of_shape.0 in
     omega (arith, line_within p.shape p.accepted _ p.same c.args.l c.requires.of_shape.1)
 
-pub first_class-first-requires : goal.first_class-first-requires
-first_class-first-requires c = (c.requires.of_shape.0, c.requires.of_shape.1)
-
 pub loop-x-init : goal.loop-x-init
 loop-x-init c =
     let p = c.requires.of_shape.0 in
@@ -105,12 +102,6 @@ list_cell-n-requires c = (
   omega (arith, inside (goal.at.list_cell-n-requires c).In-loop-x),
   omega (arith, count (goal.at.list_cell-n-requires c).In-loop-x),
 )
-
-pub overflow_add-x : goal.overflow_add-x
-overflow_add-x c = omega arith
-
-pub loop-x-smaller : goal.loop-x-smaller
-loop-x-smaller c = omega arith
 
 pub loop-x-preserved : goal.loop-x-preserved
 loop-x-preserved c =

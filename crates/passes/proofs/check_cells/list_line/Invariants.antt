@@ -1,5 +1,5 @@
 -- What the loop of `list_line` keeps.
-use Prim.Native.Nat.{◌+◌, ◌-◌, ◌%◌, ◌≤◌}
+use Prim.Native.Nat.{◌+◌, ◌%◌, ◌≤◌}
 use mathlib.Core.Path.{◌≡◌}
 use Rattle.lattice.specs.declared.shape.Shape.{Shape}
 use Rattle.lattice.specs.Shape.{Accepted}
@@ -13,6 +13,3 @@ invariant-loop-x l =
     (l.x ≤ l.pass.columns) × (l.a ≡ (l.initial.a + l.x) % l.pass.period)
     × ((s : Shape) → Accepted s → l.pass ≡ pass_of s → ListedTo (layout_of s) (l.cell + l.x) l.n l.sizes l.counts l.cells
     l.places)
-
-abbrev pub decreases-loop-x : goal.decreases-loop-x
-decreases-loop-x l = l.pass.columns - l.x

@@ -1,6 +1,6 @@
 -- `list_lines` meets its contract. The loop's invariant: `line` is line l, the lines before it are listed, and
 -- no class reaches a power of two in the lines that are said to be free.
-use Prim.Native.Nat.{ℕ, ◌*◌, zero-le}
+use Prim.Native.Nat.{ℕ, ◌*◌}
 use mathlib.Core.Path.{◌≡◌, subst}
 use native.Mathlib.Omega.{arith}
 use Rattle.lattice.specs.Class.{layout_of}
@@ -11,37 +11,10 @@ use Rattle.passes.proofs.check_cells.list_lines.Goals as goal
 
 pub loop-l-init : goal.loop-l-init
 loop-l-init c = (
-  zero-le,
   (λ s ok same. pass_first s ok _ same),
   (λ s ok same. listed_none s _ c.args.counts.now _ _ c.requires.of_shape.1),
   (λ a k l p q. absurd (omega arith)),
 )
-
-pub list_or_count-at-requires : goal.list_or_count-at-requires
-list_or_count-at-requires c =
-    let turn = c.loop-l in
-    let inside = c.loop-l-test.true in
-    record {
-      of_shape = (c.requires.of_shape.0, inside, turn.invariant.1);
-      period_in_bounds = c.requires.period_in_bounds;
-      lines_listed = turn.invariant.2;
-      free_ahead = turn.invariant.3;
-    }
-
-pub overflow_add-l : goal.overflow_add-l
-overflow_add-l c = omega arith
-
-pub loop-l-smaller : goal.loop-l-smaller
-loop-l-smaller c = omega arith
-
-pub loop-l-preserved : goal.loop-l-preserved
-loop-l-preserved c =
-    let turn = c.loop-l in (
-      omega arith,
-      (λ s ok same. c.next_line-line.ensures s ok same turn.l (turn.invariant.1 s ok same)),
-      c.list_or_count-at.ensures.lines_listed_2,
-      c.list_or_count-at.ensures.free_ahead_2,
-    )
 
 pub returns : goal.returns
 returns c =
@@ -49,4 +22,4 @@ returns c =
     let all : turn.l ≡ c.args.pass.lines = omega arith in
     λ s ok same.
     subst (λ (k : ℕ). ListedTo (layout_of s) (k * s.columns) turn.at.amount c.args.sizes.now turn.counts turn.cells
-    turn.places) all (turn.invariant.2 s ok same)
+    turn.places) all (turn.invariant.1 s ok same)

@@ -63,10 +63,6 @@ look_ahead-free-requires c =
       no_power_near = c.requires.free_ahead;
     }
 
-pub first_class-first-requires : goal.first_class-first-requires
-first_class-first-requires c =
-    (c.requires.of_shape.0, c.requires.of_shape.1)
-
 pub overflow_sub-m : goal.overflow_sub-m
 overflow_sub-m c =
     let p = c.requires.of_shape.0 in
@@ -98,18 +94,4 @@ returns-then-free-gt0 c =
           c.requires.period_in_bounds.1 (ahead_first old _ _ _ some ahead) gained kept (c.requires.lines_listed s ok same));
       free_ahead_2 = ahead_after _ _ _ _ gains old c.count_line.new.counts (few (goal.at.returns-then-free-gt0 c).Start).0
           c.requires.period_in_bounds.1 gained kept _ _ some ahead;
-    }
-
-pub list_line-amount-requires : goal.list_line-amount-requires
-list_line-amount-requires c =
-    record {
-      of_shape = c.requires.of_shape;
-      lines_listed = c.requires.lines_listed;
-    }
-
-pub returns : goal.returns
-returns c =
-    record {
-      lines_listed_2 = c.list_line-amount.ensures;
-      free_ahead_2 = λ a k l p q. absurd (omega arith);
     }

@@ -1,9 +1,6 @@
 -- `first_line` meets its contract.
-use Rattle.lattice.proofs.theory.PassRoom.{refuted, filled_line, filled_ready}
+use Rattle.lattice.proofs.theory.PassRoom.{filled_line, filled_ready}
 use Rattle.passes.proofs.line_positions.first_line.Goals as goal
-
-pub fill_lists-requires : goal.fill_lists-requires
-fill_lists-requires c = c.has_room.ensures.small c.if-has_room.true
 
 pub returns-then-has_room : goal.returns-then-has_room
 returns-then-has_room c =
@@ -13,6 +10,3 @@ returns-then-has_room c =
       filled_ready s a _ same _ _ _ room filled.new.p filled.new.q filled.auto.p
           filled.auto.q filled.ensures.gains filled.ensures.gains_2,
     )
-
-pub returns-else-has_room : goal.returns-else-has_room
-returns-else-has_room c = λ s a same room. absurd (refuted c.if-has_room.false (c.has_room.ensures.value s a same room))

@@ -1,14 +1,7 @@
 -- `first_positions` meets its contract.
 use native.Mathlib.Omega.{arith}
-use Rattle.lattice.proofs.theory.PositionParts.{bit_most, filled_first, repeats_less}
+use Rattle.lattice.proofs.theory.PositionParts.{filled_first, repeats_less}
 use Rattle.passes.proofs.line_positions.first_positions.Goals as goal
-
-pub repeat-requires : goal.repeat-requires
-repeat-requires c =
-    record {
-      m_nonzero = (omega arith, omega arith, omega arith, omega arith);
-      by_index = λ z l. omega (arith, c.fill_low.ensures z l, bit_most z 0);
-    }
 
 pub returns : goal.returns
 returns c =

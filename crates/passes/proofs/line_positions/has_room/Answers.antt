@@ -6,7 +6,7 @@ use borrow.Author.Tests.{le-leb, leb-true}
 use Rattle.lattice.specs.Range.{in_range}
 use Rattle.lattice.proofs.theory.Bools.{failed, passed}
 use Rattle.lattice.proofs.theory.Limits.{range_low, range_high}
-use Rattle.lattice.proofs.theory.PassRoom.{refuted, pass_narrow, pass_row, pass_plane, room_first, room_row, room_plane}
+use Rattle.lattice.proofs.theory.PassRoom.{refuted, pass_row, pass_plane, room_first, room_row, room_plane}
 use Rattle.lattice.proofs.theory.SizesByLines.{period_most}
 use Rattle.passes.proofs.line_positions.has_room.Goals.{Else-not-within, Else-not-within-2, Else-not-within-3}
 use Rattle.passes.proofs.line_positions.has_room.Goals as goal
@@ -48,20 +48,6 @@ returns-then-not-within-3 c =
       small = (λ t. absurd (false≢true t));
       value = (λ s a same room.
           absurd (refuted (failed _ _ c.if-not-within-3.true c.within-3.ensures) (room_plane s a _ same _ _ _ room)));
-    }
-
-pub returns-then-e-gt4096 : goal.returns-then-e-gt4096
-returns-then-e-gt4096 c =
-    record {
-      small = (λ t. absurd (false≢true t));
-      value = (λ s a same room. absurd (omega (arith, room.row_long, room.row_short)));
-    }
-
-pub returns-then-pass-gt4096 : goal.returns-then-pass-gt4096
-returns-then-pass-gt4096 c =
-    record {
-      small = (λ t. absurd (false≢true t));
-      value = (λ s a same room. absurd (omega (arith, pass_narrow s a _ same)));
     }
 
 pub returns-then-pass-gt4096-2 : goal.returns-then-pass-gt4096-2

@@ -1,10 +1,6 @@
 -- What the loop of `lay_out` keeps.
-use Rattle.std.proofs.Common.{◌-◌, ◌≤◌}
+use Rattle.std.proofs.Common.{◌≤◌}
 use Rattle.second.proofs.layout.lay_out.Given as goal
 
 abbrev pub invariant-loop-i : goal.invariant-loop-i
-invariant-loop-i l =
-    (l.i ≤ l.cells) × (l.capacity ≤ l.i) × (l.words ≤ l.i) × (l.cells ≤ 65536)
-
-abbrev pub decreases-loop-i : goal.decreases-loop-i
-decreases-loop-i l = l.cells - l.i
+invariant-loop-i l = (l.capacity ≤ l.i) × (l.words ≤ l.i)

@@ -1,9 +1,9 @@
--- What the loop of `class` keeps.
-use Rattle.std.proofs.Common.{◌-◌, ◌≤◌}
+-- What the loops of `class` keep.
+use Rattle.std.proofs.Common.{◌*◌, ◌<◌, ◌≤◌}
 use Rattle.second.proofs.window.class.Given as goal
 
-abbrev pub invariant-loop-a : goal.invariant-loop-a
-invariant-loop-a l = (l.a ≤ l.m) × (l.m ≤ 512) × (l.i ≤ l.a) × (l.j ≤ l.a)
+abbrev pub invariant-loop-i : goal.invariant-loop-i
+invariant-loop-i l = l.p * l.q ≤ 512
 
-abbrev pub decreases-loop-a : goal.decreases-loop-a
-decreases-loop-a l = l.m - l.a
+abbrev pub invariant-loop-j : goal.invariant-loop-j
+invariant-loop-j l = (l.p * l.q ≤ 512) × (l.i < l.p)

@@ -1,13 +1,11 @@
--- `correct_levels_in` meets its contract: the accepted shape is the numbers', and the constructor's refusal is the operation's.
+-- `correct_levels_in` meets its contract: the shape is that of the numbers, and the constructor's refusal is the operation's.
+use mathlib.Core.Path.{refl}
+use Rattle.lattice.proofs.theory.Answers.{handed_on}
 use Rattle.lattice.proofs.theory.NewShapes.{new_shape_lem}
 use Rattle.varmintfoil.proofs.operations.Refused.{refused_correct_levels}
 use Rattle.varmintfoil.proofs.operations.correct_levels_in.Goals as goal
 
-pub returns-in-Accepted : goal.returns-in-Accepted
-returns-in-Accepted c =
-    let levels = c.correct_levels.ensures in
-    rw (new_shape_lem _ _ c.new.ensures.new_shape _ c.in-Accepted.is) at levels
-
-pub returns-in-Refused : goal.returns-in-Refused
-returns-in-Refused c =
-    refused_correct_levels _ _ c.new.ensures.new_shape c.in-Refused.why c.in-Refused.is _
+pub returns-in_err-new : goal.returns-in_err-new
+returns-in_err-new c =
+    rw (handed_on c.from_residual.ensures.1)
+    (refused_correct_levels _ _ c.in_err-new.ensures.new_shape c.in_err-new.field-0.0 refl _)

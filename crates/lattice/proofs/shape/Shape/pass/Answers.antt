@@ -1,23 +1,13 @@
 -- `Shape::pass` meets its contract.
-use Rattle.lattice.specs.Shape.{Accepted}
+use mathlib.Core.Path.{sym}
 use Rattle.lattice.specs.Lines.{no_pass, pass_given}
-use Rattle.lattice.proofs.theory.Answers.{refused, done, told, told_none}
-use Rattle.lattice.proofs.shape.Shape.pass.Goals.{In_default}
+use Rattle.lattice.proofs.theory.Answers.{refused, done}
 use Rattle.lattice.proofs.shape.Shape.pass.Goals as goal
 
-accepted : (c : In_default) → Accepted c.args.self
-accepted c = told_none c.tests-tested.ensures c.in_default.is
-
-pub returns-in-Refused : goal.returns-in-Refused
+pub returns-in_default : goal.returns-in_default
 unfolding pass_given no_pass
-returns-in-Refused c = refused c.in-Refused.field-0 _ _ _ (told c.tests-tested.ensures c.in-Refused.is)
-
-pub placed-requires : goal.placed-requires
-placed-requires c = accepted c
-
-pub pass_with-requires : goal.pass_with-requires
-pass_with-requires c = (accepted (goal.at.pass_with-requires c).In_default, c.placed.ensures)
+returns-in_default c = refused c.in_default.field-0 _ _ _ c.in_default.ensures
 
 pub returns : goal.returns
 unfolding pass_given
-returns c = done _ _ _ _ (accepted (goal.at.returns c).In_default) c.pass_with.ensures
+returns c = done _ _ _ _ (sym c.in-Ok.ensures) c.pass_with.ensures

@@ -15,11 +15,6 @@ overflow_cast-result c = Fits-below tt (rows_few _ c.requires c.if-self-eq0.true
 pub returns-then-self-eq0 : goal.returns-then-self-eq0
 returns-then-self-eq0 c = sym (placed_window _ c.if-self-eq0.true)
 
-pub settings-settings-requires : goal.settings-settings-requires
-settings-settings-requires c =
-    let other = c.if-self-eq0.false in
-    (c.requires, omega (arith, other))
-
 pub returns : goal.returns
 returns c =
     let other = c.if-self-eq0.false in

@@ -1,9 +1,0 @@
--- What the loop of `all` keeps.
-use Rattle.std.proofs.Common.{◌-◌, ◌≤◌}
-use Rattle.examples.proofs.cases.shaded.all.Given as goal
-
-abbrev pub invariant-loop-k : goal.invariant-loop-k
-invariant-loop-k l = l.k ≤ 622
-
-abbrev pub decreases-loop-k : goal.decreases-loop-k
-decreases-loop-k l = 622 - l.k

@@ -1,9 +1,0 @@
--- What the loop of `show_rows` keeps.
-use Rattle.std.proofs.Common.{◌-◌, ◌≤◌}
-use Rattle.examples.proofs.worked.show_rows.Given as goal
-
-abbrev pub invariant-loop-i : goal.invariant-loop-i
-invariant-loop-i l = l.i ≤ 25
-
-abbrev pub decreases-loop-i : goal.decreases-loop-i
-decreases-loop-i l = 25 - l.i

@@ -1,9 +1,0 @@
--- What the loop of `is_soiled` keeps.
-use Rattle.std.proofs.Common.{◌-◌, ◌≤◌}
-use Rattle.second.proofs.read.is_soiled.Given as goal
-
-abbrev pub invariant-loop-i : goal.invariant-loop-i
-invariant-loop-i l = l.i ≤ 512
-
-abbrev pub decreases-loop-i : goal.decreases-loop-i
-decreases-loop-i l = 512 - l.i

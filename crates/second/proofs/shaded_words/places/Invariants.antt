@@ -1,9 +1,0 @@
--- What the loop of `places` keeps.
-use Rattle.std.proofs.Common.{◌-◌, ◌≤◌}
-use Rattle.second.proofs.shaded_words.places.Given as goal
-
-abbrev pub invariant-loop-i : goal.invariant-loop-i
-invariant-loop-i l = l.i ≤ 512
-
-abbrev pub decreases-loop-i : goal.decreases-loop-i
-decreases-loop-i l = 512 - l.i
