@@ -1,2 +1,2 @@
 -- What the spot of a cell uses alone.
-mod SpotCells
+mod HeldSpots

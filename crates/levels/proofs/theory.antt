@@ -17,7 +17,7 @@ pub mod LevelTests
 pub mod LevelNumbers
 pub mod WrittenLevels
 -- work arrays
-pub mod WalkedCells
+pub mod TourCells
 pub mod PassCells
 pub mod HeldRemainders
 pub mod DigitRanks

@@ -1,7 +1,6 @@
 -- What the work arrays of a pass over the cells of a field of levels hold. Only contracts of functions that are private to the
 -- crate cite this file.
 use Rattle.std.specs.Prelude.{ℕ, ◌+◌, ◌-◌, ◌*◌, ◌/◌, ◌%◌, ◌<◌, Bool, true, cond, not, ◌&&◌, List, ◌≡◌, eqb, leb, length, get_or}
-use Rattle.lattice.specs.declared.line.Pass.{Pass}
 use Rattle.lattice.specs.declared.shape.Shape.{Shape}
 use Rattle.lattice.specs.Refusal.{unless}
 use Rattle.lattice.specs.Shape.{Accepted, after_shape, cells_of}
@@ -13,7 +12,8 @@ use Rattle.lattice.specs.Digits.{words_in, words_below, digits_of}
 use Rattle.codec.specs.Field.{Field, field_of}
 use Rattle.codec.specs.Plan.{plan_cells, plan_digits}
 use Rattle.levels.specs.declared.spot.Spot.{Spot}
-use Rattle.levels.specs.declared.walk.Walk.{Walk}
+use Rattle.levels.specs.declared.tour.Tour.{Tour}
+use Rattle.levels.specs.declared.words.WordTable.{WordTable}
 use Rattle.levels.specs.Level.{Levels}
 use Rattle.levels.specs.Faults.{multiplier, change}
 use Rattle.levels.specs.Words.{slot, in_word, word, weighted}
@@ -23,29 +23,30 @@ use Rattle.levels.specs.Payload.{digit_field, check_for}
 abbrev pub max_words : ℕ
 max_words = 10922
 
--- the shape is accepted, and the arrays hold the size of each class and the number of words of the classes before it
-pub record Laid (s : Shape) (sizes offsets : List ℕ) : Type 0 where
+-- the shape is accepted, and the table holds the size of each class and the number of words of the classes before it
+pub record Laid (s : Shape) (x : WordTable) : Type 0 where
   pub accepted : Accepted s
-  pub sized : HoldsSizes (layout_of s) sizes (cells_of s)
-  pub words : (a : ℕ) → a < classes_of s → get_or offsets a 0 ≡ words_below (layout_of s) a
+  pub sized : HoldsSizes (layout_of s) x.sizes (cells_of s)
+  pub words : (a : ℕ) → a < classes_of s → get_or x.offsets a 0 ≡ words_below (layout_of s) a
 
--- cell i, as the code keeps it: the cells of its line from it on, its line and the line's slice, and its place in the table
-pub record AtWalk (s : Shape) (i : ℕ) (x : Walk) : Type 0 where
+-- the tour is one of the shape and at cell i, as the code keeps it: the cells of its line from it on, its line and the line's
+-- slice, and its place in the table
+pub record AtTour (s : Shape) (i : ℕ) (x : Tour) : Type 0 where
+  pub pass : x.pass ≡ pass_given s
   pub left : x.left + i % s.columns ≡ s.columns
   pub line : IsLine (table_of s) s.rows (i / s.columns) x.line
   pub slice : x.slice ≡ i / s.columns % slices_of s
   pub place : x.place ≡ (line_start (table_of s) s.rows (i / s.columns) + i % s.columns) % (table_of s).m
 
--- the walk is at cell i, and the array counts the cells before it
-pub record Walked (s : Shape) (x : Walk) (counts : List ℕ) (i : ℕ) : Type 0 where
-  pub walk : AtWalk s i x
+-- and the array counts the cells before it
+pub record Toured (s : Shape) (x : Tour) (counts : List ℕ) (i : ℕ) : Type 0 where
+  pub tour : AtTour s i x
   pub counted : HoldsSizes (layout_of s) counts i
 
 -- and cell i is the next of a pass
-pub record AtCell (s : Shape) (k : Pass) (x : Walk) (counts : List ℕ) (i : ℕ) : Type 0 where
-  pub pass : k ≡ pass_given s
+pub record AtCell (s : Shape) (x : Tour) (counts : List ℕ) (i : ℕ) : Type 0 where
   pub below : i < cells_of s
-  pub walked : Walked s x counts i
+  pub toured : Toured s x counts i
 
 -- the spot of the cell at position p, from 1, of a class of n cells with so many words in the classes before it
 unfoldable pub spot_at : ℕ → ℕ → ℕ → Spot
@@ -84,9 +85,9 @@ pub record LevelTaken (before after : List ℕ) (x : Spot) (v : ℕ) : Type 0 wh
 unfoldable pub change_of : List ℕ → Spot → ℕ
 change_of l x = cond x.inside (change (get_or l x.word 0) x.slot) 1
 
--- a field of levels of an accepted shape, the arrays of its words, and their remainders
-pub record LevelsExamined (s : Shape) (field sizes offsets remainders : List ℕ) : Type 0 where
-  pub laid : Laid s sizes offsets
+-- a field of levels of an accepted shape, the table of its words, and their remainders
+pub record LevelsExamined (s : Shape) (field : List ℕ) (words : WordTable) (remainders : List ℕ) : Type 0 where
+  pub laid : Laid s words
   pub long : length field ≡ cells_of s
   pub levels : Levels (field_of field) (cells_of s)
   pub held : HoldsRemainders (layout_of s) (field_of field) remainders (cells_of s)
@@ -112,7 +113,7 @@ lengths_number s payload field =
     0))
 
 -- what they leave where they pass
-pub record LengthsFit (s : Shape) (payload field sizes offsets : List ℕ) : Type 0 where
-  pub laid : Laid s sizes offsets
+pub record LengthsFit (s : Shape) (payload field : List ℕ) (words : WordTable) : Type 0 where
+  pub laid : Laid s words
   pub digits : length payload ≡ digits_of s
   pub cells : length field ≡ cells_of s

@@ -10,70 +10,64 @@ ghost use Rattle.levels.specs.Working.{LevelsExamined};
 
 use crate::examine::examine_levels;
 use crate::restore::{change_of, restored_level};
-use crate::spot::spot_of;
-use crate::walk::{first_cell, next_cell};
-use crate::words::{MAX_WORDS, lay_words};
+use crate::tour::Tour;
+use crate::words::{MAX_WORDS, WordTable};
 use lattice::refusal::Refusal;
 use lattice::shape::Shape;
 
 // Stores the corrected cells; gives the number of cells that change.
 fn store_corrected(
     shape: Shape,
-    sizes: &[u32; Shape::MAX_CLASSES],
-    offsets: &[u32; Shape::MAX_CLASSES],
+    words: &WordTable,
     remainders: &[u8; MAX_WORDS],
     field: &mut [u8],
 ) -> usize
-    requires { LevelsExamined shape field.old sizes.now offsets.now remainders.now }
+    requires { LevelsExamined shape field.old words.now remainders.now }
     ensures field_after { field.new ≡ list_of (restored_field shape (field_of field.old)) (cells_of shape) }
     ensures value { result
         ≡ differences (field_of field.old) (restored_field shape (field_of field.old)) (cells_of shape) }
 {
-    let pass = shape.pass();
+    let mut tour = Tour::new(shape);
     let mut counts = [0u32; Shape::MAX_CLASSES];
-    let mut walk = first_cell(pass);
     let mut changed = 0;
     for (i, cell) in field.iter_mut().enumerate() {
-        let spot = spot_of(&mut counts, sizes, offsets, pass, walk, shape, i);
+        let spot = tour.spot(&mut counts, words, shape, i);
         let before = *cell;
         let value = restored_level(spot.inside, before, change_of(remainders, spot));
         *cell = value;
         changed += usize::from(before != value);
-        walk = next_cell(pass, walk);
+        tour.step();
     }
     changed
 }
 
-// The tests of correcting in their order, 1, 2, 11, 4, 12, 6; where they pass, the arrays hold the size of each class, the number
-// of words of the classes before it, and the remainder of each word. The last is 0 at entry.
+// The tests of correcting in their order, 1, 2, 11, 4, 12, 6; where they pass, the table holds where the words lie, and the array
+// the remainder of each word. The array is 0 at entry.
 fn correct_tests(
     shape: Shape,
     field: &[u8],
-    sizes: &mut [u32; Shape::MAX_CLASSES],
-    offsets: &mut [u32; Shape::MAX_CLASSES],
+    words: &mut WordTable,
     remainders: &mut [u8; MAX_WORDS],
 ) -> Result<(), Refusal>
     requires { (w : ℕ) → get_or remainders.old w 0 ≡ 0 }
     ensures result_value { number_of result ≡ correct_levels_number shape field.now }
     ensures no_outside { NoOutside result }
-    ensures levels_examined { number_of result ≡ 0
-        → LevelsExamined shape field.now sizes.new offsets.new remainders.new }
+    ensures levels_examined { number_of result ≡ 0 → LevelsExamined shape field.now words.new remainders.new }
 {
     shape.tests()?;
     if field.len() != shape.cells() {
         return Err(Refusal::FieldLength);
     }
-    lay_words(shape, sizes, offsets);
-    examine_levels(shape, field, sizes, offsets, remainders)
+    words.lay(shape);
+    examine_levels(shape, field, words, remainders)
 }
 
 // Stores the corrected field and gives the number of cells that change, or gives the refusal 1, 2, 11, 4, 12 or 6.
 pub fn correct_levels(shape: Shape, field: &mut [u8]) -> Result<usize, Refusal>
     ensures { IsCorrectedLevels shape field.old field.new result }
 {
-    let mut sizes = [0u32; Shape::MAX_CLASSES];
-    let mut offsets = [0u32; Shape::MAX_CLASSES];
+    let mut words = WordTable::EMPTY;
     let mut remainders = [0u8; MAX_WORDS];
-    correct_tests(shape, field, &mut sizes, &mut offsets, &mut remainders)?;
-    Ok(store_corrected(shape, &sizes, &offsets, &remainders, field))
+    correct_tests(shape, field, &mut words, &mut remainders)?;
+    Ok(store_corrected(shape, &words, &remainders, field))
 }

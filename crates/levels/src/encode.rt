@@ -10,9 +10,9 @@ ghost use Rattle.levels.specs.Working.{max_words, Laid, HoldsDigits, LengthsFit,
 use crate::examine::levels_ok;
 use crate::lengths::length_tests;
 use crate::remainders::take_level;
-use crate::spot::{Spot, holds_digit, spot_of};
-use crate::walk::{first_cell, next_cell};
-use crate::words::MAX_WORDS;
+use crate::spot::{Spot, holds_digit};
+use crate::tour::Tour;
+use crate::words::{MAX_WORDS, WordTable};
 use lattice::refusal::Refusal;
 use lattice::shape::Shape;
 
@@ -20,10 +20,8 @@ use lattice::shape::Shape;
 fn digit_value(payload: &[u8], held: bool, rank: usize) -> u8
     ensures { result ≡ cond held (get_or payload.now rank 0) 0 }
 {
-    if held {
-        if rank < payload.len() {
-            return payload[rank];
-        }
+    if held && rank < payload.len() {
+        return payload[rank];
     }
     0
 }
@@ -37,16 +35,15 @@ fn check_for(remainder: u8) -> u8
 }
 
 // The value of a cell in the field written: the check of its word, or the digit.
+#[tactic(auto, unfolding(crate::specs::Working::encoded_at))]
 fn encoded_value(remainders: &[u8; MAX_WORDS], spot: Spot, digit: u8) -> u8
     requires word_lt_max_words { spot.inside ≡ true → spot.word < max_words }
     requires remainders { Remainders remainders.now }
     ensures { result ≡ encoded_at remainders.now spot digit }
 {
     let word = spot.word;
-    if spot.inside {
-        if spot.slot == 0 {
-            return check_for(remainders[word]);
-        }
+    if spot.inside && spot.slot == 0 {
+        return check_for(remainders[word]);
     }
     digit
 }
@@ -55,25 +52,23 @@ fn encoded_value(remainders: &[u8; MAX_WORDS], spot: Spot, digit: u8) -> u8
 fn digit_remainders(
     shape: Shape,
     payload: &[u8],
-    sizes: &[u32; Shape::MAX_CLASSES],
-    offsets: &[u32; Shape::MAX_CLASSES],
+    words: &WordTable,
     remainders: &mut [u8; MAX_WORDS],
 )
-    requires laid { Laid shape sizes.now offsets.now }
+    requires laid { Laid shape words.now }
     requires by_index { (w : ℕ) → get_or remainders.old w 0 ≡ 0 }
     ensures { HoldsDigits shape payload.now remainders.new }
 {
-    let pass = shape.pass();
-    let cells = shape.cells();
+    let mut tour = Tour::new(shape);
     let mut counts = [0u32; Shape::MAX_CLASSES];
-    let mut walk = first_cell(pass);
+    let cells = shape.cells();
     let mut rank = 0;
     for i in 0..cells {
-        let spot = spot_of(&mut counts, sizes, offsets, pass, walk, shape, i);
+        let spot = tour.spot(&mut counts, words, shape, i);
         let held = holds_digit(spot);
         take_level(remainders, spot, digit_value(payload, held, rank));
         rank += usize::from(held);
-        walk = next_cell(pass, walk);
+        tour.step();
     }
 }
 
@@ -81,44 +76,39 @@ fn digit_remainders(
 fn store_encoded(
     shape: Shape,
     payload: &[u8],
-    sizes: &[u32; Shape::MAX_CLASSES],
-    offsets: &[u32; Shape::MAX_CLASSES],
+    words: &WordTable,
     remainders: &[u8; MAX_WORDS],
     field: &mut [u8],
 )
-    requires laid { Laid shape sizes.now offsets.now }
+    requires laid { Laid shape words.now }
     requires field_len { length field.old ≡ cells_of shape }
     requires holds_digits { HoldsDigits shape payload.now remainders.now }
     ensures { field.new ≡ encoded_levels_field shape payload.now }
 {
-    let pass = shape.pass();
+    let mut tour = Tour::new(shape);
     let mut counts = [0u32; Shape::MAX_CLASSES];
-    let mut walk = first_cell(pass);
     let mut rank = 0;
     for (i, cell) in field.iter_mut().enumerate() {
-        let spot = spot_of(&mut counts, sizes, offsets, pass, walk, shape, i);
+        let spot = tour.spot(&mut counts, words, shape, i);
         let held = holds_digit(spot);
         *cell = encoded_value(remainders, spot, digit_value(payload, held, rank));
         rank += usize::from(held);
-        walk = next_cell(pass, walk);
+        tour.step();
     }
 }
 
-// The tests of encoding in their order, 1, 2, 11, 3, 4, 12; where they pass, the arrays hold the size of each class and the
-// number of words of the classes before it.
+// The tests of encoding in their order, 1, 2, 11, 3, 4, 12; where they pass, the table holds where the words lie.
 fn encode_tests(
     shape: Shape,
     payload: &[u8],
     field: &[u8],
-    sizes: &mut [u32; Shape::MAX_CLASSES],
-    offsets: &mut [u32; Shape::MAX_CLASSES],
+    words: &mut WordTable,
 ) -> Result<(), Refusal>
     ensures result_value { number_of result ≡ encode_levels_number shape payload.now field.now }
     ensures no_outside { NoOutside result }
-    ensures lengths_fit { number_of result ≡ 0
-        → LengthsFit shape payload.now field.now sizes.new offsets.new }
+    ensures lengths_fit { number_of result ≡ 0 → LengthsFit shape payload.now field.now words.new }
 {
-    length_tests(shape, payload, field, sizes, offsets)?;
+    length_tests(shape, payload, field, words)?;
     if !levels_ok(payload) {
         return Err(Refusal::BadLevel);
     }
@@ -129,11 +119,10 @@ fn encode_tests(
 pub fn encode_levels(shape: Shape, payload: &[u8], field: &mut [u8]) -> Result<(), Refusal>
     ensures { IsEncodedLevels shape payload.now field.old field.new result }
 {
-    let mut sizes = [0u32; Shape::MAX_CLASSES];
-    let mut offsets = [0u32; Shape::MAX_CLASSES];
-    encode_tests(shape, payload, field, &mut sizes, &mut offsets)?;
+    let mut words = WordTable::EMPTY;
+    encode_tests(shape, payload, field, &mut words)?;
     let mut remainders = [0u8; MAX_WORDS];
-    digit_remainders(shape, payload, &sizes, &offsets, &mut remainders);
-    store_encoded(shape, payload, &sizes, &offsets, &remainders, field);
+    digit_remainders(shape, payload, &words, &mut remainders);
+    store_encoded(shape, payload, &words, &remainders, field);
     Ok(())
 }

@@ -11,9 +11,8 @@ ghost use Rattle.levels.specs.Working.{Laid, LevelsExamined};
 
 use crate::remainders::field_remainders;
 use crate::restore::{MAX_LEVEL, can_restore, change_of};
-use crate::spot::spot_of;
-use crate::walk::{first_cell, next_cell};
-use crate::words::MAX_WORDS;
+use crate::tour::Tour;
+use crate::words::{MAX_WORDS, WordTable};
 use lattice::refusal::Refusal;
 use lattice::shape::Shape;
 
@@ -28,22 +27,20 @@ pub(crate) fn levels_ok(bytes: &[u8]) -> bool
 fn levels_in_reach(
     shape: Shape,
     field: &[u8],
-    sizes: &[u32; Shape::MAX_CLASSES],
-    offsets: &[u32; Shape::MAX_CLASSES],
+    words: &WordTable,
     remainders: &[u8; MAX_WORDS],
 ) -> bool
-    requires { LevelsExamined shape field.now sizes.now offsets.now remainders.now }
+    requires { LevelsExamined shape field.now words.now remainders.now }
     ensures { result ≡ levels_in_reach (layout_of shape) (field_of field.now) }
 {
-    let pass = shape.pass();
+    let mut tour = Tour::new(shape);
     let mut counts = [0u32; Shape::MAX_CLASSES];
-    let mut walk = first_cell(pass);
     for (i, cell) in field.iter().enumerate() {
-        let spot = spot_of(&mut counts, sizes, offsets, pass, walk, shape, i);
+        let spot = tour.spot(&mut counts, words, shape, i);
         if !can_restore(*cell, change_of(remainders, spot)) {
             return false;
         }
-        walk = next_cell(pass, walk);
+        tour.step();
     }
     true
 }
@@ -52,22 +49,21 @@ fn levels_in_reach(
 pub(crate) fn examine_levels(
     shape: Shape,
     field: &[u8],
-    sizes: &[u32; Shape::MAX_CLASSES],
-    offsets: &[u32; Shape::MAX_CLASSES],
+    words: &WordTable,
     remainders: &mut [u8; MAX_WORDS],
 ) -> Result<(), Refusal>
-    requires laid { Laid shape sizes.now offsets.now }
+    requires laid { Laid shape words.now }
     requires field_len { length field.now ≡ cells_of shape }
     requires by_index { (w : ℕ) → get_or remainders.old w 0 ≡ 0 }
     ensures result_value { number_of result ≡ levels_number shape (field_of field.now) }
     ensures levels_examined { number_of result ≡ 0
-        → LevelsExamined shape field.now sizes.now offsets.now remainders.new }
+        → LevelsExamined shape field.now words.now remainders.new }
 {
     if !levels_ok(field) {
         return Err(Refusal::BadLevel);
     }
-    field_remainders(shape, field, sizes, offsets, remainders);
-    if !levels_in_reach(shape, field, sizes, offsets, remainders) {
+    field_remainders(shape, field, words, remainders);
+    if !levels_in_reach(shape, field, words, remainders) {
         return Err(Refusal::OutOfReach);
     }
     Ok(())

@@ -1,9 +1,11 @@
-// The faults of a word of six cells, worked out from the multipliers of its cells.
+// The faults of a word of six cells, worked out from the multipliers of its cells. A cell below 6 and a remainder below 25 are
+// clauses, and no types with ghost fields: the text is read as Rust too, by rust/build/same.rs.
 ghost use Rattle.std.specs.Prelude.{◌≢◌, ◌≡◌, ◌+◌, ◌*◌, ◌%◌, ◌<◌, eqb};
 ghost use Rattle.levels.specs.Faults.{multiplier, fault_of, none, change};
 ghost use Rattle.levels.specs.Working.{only_change};
 
-// A cell of a word, from 0, and its change with 1 added: 0 for −1, and 2, 3, 4 for +1, +2, +3; 1 is no change.
+// A cell of a word, from 0, and its change with 1 added: 0 for −1, and 2, 3, 4 for +1, +2, +3; 1 is no change. No fault is that
+// of cell 0 by no change, as the definition has it (`none`), of which the theorems speak.
 #[derive(Clone, Copy)]
 pub(crate) struct Fault {
     pub cell: u8,

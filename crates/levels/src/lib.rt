@@ -10,5 +10,5 @@ mod lengths;
 mod remainders;
 mod restore;
 mod spot;
-mod walk;
+mod tour;
 mod words;

@@ -42,11 +42,9 @@ pub(crate) fn restored_level(inside: bool, value: u8, up: u8) -> u8
     requires { value ≤ max_level }
     ensures { result ≡ cond inside (restored value up) 0 }
 {
-    if !inside {
-        return 0;
+    if inside {
+        (value + 1).saturating_sub(up)
+    } else {
+        0
     }
-    if value + 1 < up {
-        return 0;
-    }
-    value + 1 - up
 }

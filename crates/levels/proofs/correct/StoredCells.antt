@@ -1,12 +1,12 @@
 -- The corrected cells in the buffer that held the field, and the number of those that change.
 use Prim.Native.Nat.{ℕ, ◌+◌, ◌<◌, ◌≤◌}
 use mathlib.Core.Bool.{Bool, not, cond}
-use mathlib.Core.List.{List, ◌++◌, append-nil}
+use mathlib.Core.List.{List, ◌++◌}
 use mathlib.Core.Path.{◌≡◌, refl, sym, ap, ap₂, ◌∙◌}
-use native.Mathlib.Nat.{le_antisymm, lt_of_le_of_lt}
+use native.Mathlib.Nat.{lt_of_le_of_lt}
 use native.Mathlib.Omega.{arith}
 use lib.Dec.{eqb}
-use lib.ListN.{length, get_or, set, drop, drop_of_length-le}
+use lib.ListN.{length, get_or, set, drop}
 use lib.Seq.{get_or-append-add, get_or-drop}
 use Rattle.lattice.specs.declared.shape.Shape.{Shape}
 use Rattle.lattice.specs.Shape.{max_cells, cells_of}
@@ -58,15 +58,3 @@ module _ (s : Shape) (field buffer : List ℕ) (k i : ℕ) (m : StoredTo s field
             ∙ ap₂ (λ (b : Bool) (n : ℕ). bit b + n) (ap₂ (λ (a b : ℕ). not (eqb a b)) next_cell value) m.differ
             ∙ sym (count_step (λ j. not (eqb (field_of field j) (restored_field s (field_of field) j))) i);
       }
-
-  -- all the cells
-  module _ (e : length field ≡ cells_of s) (p : i ≤ length field) (q : length field ≤ i) where
-    pub stored_all : buffer ≡ list_of (restored_field s (field_of field)) (cells_of s)
-    stored_all =
-        m.cells
-        ∙ ap₂ (λ (a b : List ℕ). a ++ b)
-        (ap (list_of (restored_field s (field_of field))) (le_antisymm p q ∙ e)) (drop_of_length-le field q)
-        ∙ append-nil _
-
-    pub changed_all : k ≡ differences (field_of field) (restored_field s (field_of field)) (cells_of s)
-    changed_all = m.differ ∙ ap (differences (field_of field) (restored_field s (field_of field))) (le_antisymm p q ∙ e)

@@ -2,38 +2,22 @@
 use Prim.Native.Nat.{ℕ, ◌+◌, ◌-◌, ◌%◌, ◌<◌, ◌≤◌}
 use mathlib.Core.Bool.{Bool, true, false, cond, ◌&&◌}
 use mathlib.Core.List.{List, ◌++◌, append-nil}
-use mathlib.Core.Logic.{◌≢◌}
-use mathlib.Core.Path.{◌≡◌, refl, sym, ap, ap₂, ◌∙◌}
+use mathlib.Core.Path.{◌≡◌, refl, ap, ap₂, ◌∙◌}
 use native.Mathlib.Nat.{le_antisymm}
 use native.Mathlib.Omega.{arith}
 use lib.Dec.{eqb}
 use lib.ListN.{length, get_or, set, drop, drop_of_length-le}
-use borrow.Author.Tests.{eq-eqb, ne_eqb}
 use Rattle.lattice.specs.declared.shape.Shape.{Shape}
 use Rattle.lattice.specs.Shape.{cells_of}
 use Rattle.lattice.specs.Class.{layout_of}
 use Rattle.codec.specs.Field.{list_of}
-use Rattle.codec.proofs.theory.FilledLists.{filled_more, length_filled}
+use Rattle.codec.proofs.theory.FilledLists.{filled_more}
 use Rattle.levels.specs.declared.spot.Spot.{Spot}
 use Rattle.levels.specs.Words.{slot, in_word, word, weighted}
 use Rattle.levels.specs.Payload.{digit_rank, digit_field, check_for, encoded_levels}
 use Rattle.levels.specs.Encode.{encoded_levels_field}
 use Rattle.levels.specs.Working.{SpotOf, HoldsDigits, holds_at, encoded_at}
 use Rattle.levels.proofs.theory.DigitRanks.{digit_is}
-
--- the value of a cell in the field written, by its spot
-module _ (l : List ℕ) (x : Spot) (v : ℕ) where
-  pub encoded_check : x.inside ≡ true → x.slot ≡ 0 → (y : ℕ) → y ≡ check_for (get_or l x.word 0) → y ≡ encoded_at l x v
-  unfolding encoded_at
-  encoded_check e z y q = q ∙ sym (rw (e, eq-eqb x.slot 0 z))
-
-  pub encoded_digit : x.inside ≡ true → x.slot ≢ 0 → v ≡ encoded_at l x v
-  unfolding encoded_at
-  encoded_digit e d = sym (rw (e, ne_eqb x.slot 0 d))
-
-  pub encoded_ignored : x.inside ≡ false → v ≡ encoded_at l x v
-  unfolding encoded_at
-  encoded_ignored e = sym (rw e)
 
 -- the check of a remainder is that of the sum
 pub check_below : (x : ℕ) → x < 25 → (25 - x) % 25 ≡ check_for x
@@ -84,9 +68,6 @@ pub written_none : (s : Shape) (payload field : List ℕ) → WrittenTo s payloa
 written_none s payload field = record { cells = refl }
 
 module _ (s : Shape) (payload field buffer : List ℕ) (i : ℕ) (m : WrittenTo s payload field buffer i) where
-  pub written_length_lem : i ≤ length field → length buffer ≡ length field
-  written_length_lem l = length_filled _ field i buffer l m.cells
-
   pub written_more : i < length field → (y : ℕ) → y ≡ encoded_levels (layout_of s) payload i
       → WrittenTo s payload field (set buffer i y) (i + 1)
   written_more h y e = record { cells = filled_more (encoded_levels (layout_of s) payload) field i y buffer h e m.cells }

@@ -47,7 +47,8 @@ module _ (s : Shape) (a : Accepted s) (sizes : List ℕ) (sized : HoldsSizes (la
     classes_own = given ∙ beside_zero (shape_number s) (classes_of s) 0 a
 
     pub words_laid : (offsets : List ℕ)
-        → ((c : ℕ) → c < m → get_or offsets c 0 ≡ sum_below (λ b. words_in (get_or sizes b 0)) c) → Laid s sizes offsets
+        → ((c : ℕ) → c < m → get_or offsets c 0 ≡ sum_below (λ b. words_in (get_or sizes b 0)) c)
+        → Laid s (record { sizes = sizes; offsets = offsets })
     words_laid offsets p =
         record {
           accepted = a;

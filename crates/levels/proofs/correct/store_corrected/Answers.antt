@@ -6,7 +6,7 @@ use Rattle.lattice.specs.Shape.{max_cells}
 use Rattle.codec.proofs.theory.WorkArrays.{cell_limit}
 use Rattle.levels.proofs.theory.DigitRanks.{one_if, few_if}
 use Rattle.levels.proofs.theory.HeldRemainders.{restored_from}
-use Rattle.levels.proofs.theory.PassCells.{walked_none, cell_below}
+use Rattle.levels.proofs.theory.PassCells.{toured_none, cell_below}
 use Rattle.levels.proofs.correct.StoredCells.{stored_none, changed_limit, next_cell, next_level}
 use Rattle.levels.proofs.correct.StoredCells.{stored_more}
 use Rattle.levels.proofs.correct.store_corrected.Goals.{At-loop-i, In-loop-i}
@@ -22,8 +22,7 @@ limit c =
 
 pub loop-i-init : goal.loop-i-init
 loop-i-init c =
-    let accepted = c.requires.laid.accepted in
-    (walked_none _ _ (c.first_cell-walk.ensures _ accepted c.pass-pass.ensures), stored_none _ _)
+    (toured_none _ _ c.new-tour.ensures, stored_none _ _)
 
 pub restored_level-value-requires : goal.restored_level-value-requires
 restored_level-value-requires c =
@@ -37,14 +36,13 @@ overflow_add-changed c =
 
 pub loop-i-preserved : goal.loop-i-preserved
 loop-i-preserved c =
-    let spot = c.spot_of-spot.ensures in
-    let given = c.pass-pass.ensures in
+    let spot = c.spot-spot.ensures in
     let pre = c.requires in
     let inv = c.loop-i.invariant in
     let change = c.change_of.ensures in
     let value =
     restored_from _ _ _ pre.held _ _ spot.spot_of _ (next_cell _ _ _ _ _ inv.1) _ change _
     c.restored_level-value.ensures in (
-      record { walk = c.next_cell-walk.ensures _ pre.laid.accepted given _ inv.0.walk; counted = spot.holds_sizes },
+      record { tour = c.step.ensures _ pre.laid.accepted _ inv.0.tour; counted = spot.holds_sizes },
       stored_more _ _ _ _ _ inv.1 (inside (goal.at.loop-i-preserved c).In-loop-i) _ _ value (one_if _ _ _ c.from-changed.ensures),
     )

@@ -8,7 +8,7 @@ use Rattle.codec.proofs.theory.WorkArrays.{cell_limit}
 use Rattle.levels.specs.Decode.{restored_field}
 use Rattle.levels.proofs.theory.DigitRanks.{one_if, few_if, rank_none, rank_more, rank_limit, digit_is}
 use Rattle.levels.proofs.theory.HeldRemainders.{restored_is}
-use Rattle.levels.proofs.theory.PassCells.{walked_none}
+use Rattle.levels.proofs.theory.PassCells.{toured_none}
 use Rattle.levels.proofs.decode.StoredDigits.{held_none, held_more, held_all, changed_none, changed_more}
 use Rattle.levels.proofs.decode.StoredDigits.{changed_limit, changed_all}
 use Rattle.levels.proofs.decode.store_digits.Goals.{After-restored_level-value, In-loop-i}
@@ -26,13 +26,13 @@ module _ (c : After-restored_level-value) where
       c.restored_level-value.result ≡ restored_field a.shape (field_of a.field.now) c.loop-i.i
   value =
       let field = field_of c.args.field.now in
-      let spot = c.spot_of-spot.ensures.spot_of in
+      let spot = c.spot-spot.ensures.spot_of in
       restored_is _ field _ c.requires.levels_examined.held _ _ spot _ c.change_of.ensures _ c.restored_level-value.ensures
 
 pub loop-i-init : goal.loop-i-init
 loop-i-init c =
     let a = c.args in (
-      walked_none _ _ (c.first_cell-walk.ensures _ c.requires.levels_examined.laid.accepted c.pass-pass.ensures),
+      toured_none _ _ c.new-tour.ensures,
       rank_none _,
       held_none _ _ _,
       changed_none a.shape (field_of a.field.now) _,
@@ -51,14 +51,13 @@ overflow_add-changed c =
 
 pub loop-i-preserved : goal.loop-i-preserved
 loop-i-preserved c =
-    let spot = c.spot_of-spot.ensures in
+    let spot = c.spot-spot.ensures in
     let held = digit_is _ _ _ spot.spot_of _ c.holds_digit-held.ensures in
-    let given = c.pass-pass.ensures in
     let inv = c.loop-i.invariant in
     let a = c.args in
     let stored = c.store_digit in (
       record {
-        walk = c.next_cell-walk.ensures _ c.requires.levels_examined.laid.accepted given _ inv.0.walk;
+        tour = c.step.ensures _ c.requires.levels_examined.laid.accepted _ inv.0.tour;
         counted =
             spot.holds_sizes;
       },

@@ -6,7 +6,7 @@ use Rattle.lattice.proofs.theory.ClassAt.{at_cells}
 use Rattle.codec.proofs.theory.WorkArrays.{cell_limit}
 use Rattle.levels.proofs.theory.DigitRanks.{one_if, few_if, rank_none, rank_more, rank_limit, digit_is}
 use Rattle.levels.proofs.theory.HeldRemainders.{remainders_none, remainders_more}
-use Rattle.levels.proofs.theory.PassCells.{walked_none}
+use Rattle.levels.proofs.theory.PassCells.{toured_none}
 use Rattle.levels.proofs.encode.WrittenCells.{value_is}
 use Rattle.levels.proofs.encode.digit_remainders.Goals.{At-loop-i, In-loop-i}
 use Rattle.levels.proofs.encode.digit_remainders.Goals as goal
@@ -19,7 +19,7 @@ limit c =
 pub loop-i-init : goal.loop-i-init
 loop-i-init c =
     let pre = c.requires in (
-      walked_none _ _ (c.first_cell-walk.ensures _ pre.laid.accepted c.pass-pass.ensures),
+      toured_none _ _ c.new-tour.ensures,
       rank_none _,
       remainders_none _ _ _ pre.by_index,
     )
@@ -31,11 +31,10 @@ overflow_add-rank c =
 
 pub loop-i-preserved : goal.loop-i-preserved
 loop-i-preserved c =
-    let spot = c.spot_of-spot.ensures in
-    let given = c.pass-pass.ensures in
+    let spot = c.spot-spot.ensures in
     let inv = c.loop-i.invariant in
     let held = c.holds_digit-held.ensures in (
-      record { walk = c.next_cell-walk.ensures _ c.requires.laid.accepted given _ inv.0.walk; counted = spot.holds_sizes },
+      record { tour = c.step.ensures _ c.requires.laid.accepted _ inv.0.tour; counted = spot.holds_sizes },
       rank_more _ _ _ _ _ inv.1 (digit_is _ _ _ spot.spot_of _ held) (one_if _ _ _ c.from-rank.ensures),
       remainders_more _ _ _ _ _ _ _ inv.2 spot.spot_of
           (value_is _ _ _ _ spot.spot_of _ _ _ held inv.1 c.digit_value.ensures)

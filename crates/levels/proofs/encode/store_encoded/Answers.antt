@@ -5,7 +5,7 @@ use lib.ListN.{length}
 use Rattle.lattice.specs.Shape.{max_cells}
 use Rattle.codec.proofs.theory.WorkArrays.{cell_limit}
 use Rattle.levels.proofs.theory.DigitRanks.{one_if, few_if, rank_none, rank_more, rank_limit, digit_is}
-use Rattle.levels.proofs.theory.PassCells.{walked_none}
+use Rattle.levels.proofs.theory.PassCells.{toured_none}
 use Rattle.levels.proofs.encode.WrittenCells.{value_is, encoded_is, written_none, written_more}
 use Rattle.levels.proofs.encode.WrittenCells.{written_all}
 use Rattle.levels.proofs.encode.store_encoded.Goals.{At-loop-i, In-loop-i}
@@ -22,8 +22,7 @@ limit c =
 
 pub loop-i-init : goal.loop-i-init
 loop-i-init c =
-    let walked = c.first_cell-walk.ensures _ c.requires.laid.accepted c.pass-pass.ensures in
-    (walked_none _ _ walked, rank_none _, written_none _ _ _)
+    (toured_none _ _ c.new-tour.ensures, rank_none _, written_none _ _ _)
 
 pub overflow_add-rank : goal.overflow_add-rank
 overflow_add-rank c =
@@ -32,13 +31,12 @@ overflow_add-rank c =
 
 pub loop-i-preserved : goal.loop-i-preserved
 loop-i-preserved c =
-    let spot = c.spot_of-spot.ensures in
-    let given = c.pass-pass.ensures in
+    let spot = c.spot-spot.ensures in
     let pre = c.requires in
     let inv = c.loop-i.invariant in
     let held = c.holds_digit-held.ensures in
     let digit = value_is _ _ _ _ spot.spot_of _ _ _ held inv.1 c.digit_value.ensures in (
-      record { walk = c.next_cell-walk.ensures _ pre.laid.accepted given _ inv.0.walk; counted = spot.holds_sizes },
+      record { tour = c.step.ensures _ pre.laid.accepted _ inv.0.tour; counted = spot.holds_sizes },
       rank_more _ _ _ _ _ inv.1 (digit_is _ _ _ spot.spot_of _ held) (one_if _ _ _ c.from-rank.ensures),
       written_more _ _ _ _ _ inv.2 (inside (goal.at.loop-i-preserved c).In-loop-i) _
           (encoded_is _ _ _ _ spot.spot_of _ pre.holds_digits _ _ digit c.encoded_value.ensures),

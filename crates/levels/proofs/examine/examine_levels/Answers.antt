@@ -20,7 +20,7 @@ module _ (c : Else-not-levels_ok) where
 module _ (c : After-field_remainders) where
   examined :
       let a = c.args in
-      LevelsExamined a.shape a.field.now a.sizes.now a.offsets.now c.field_remainders.new.remainders
+      LevelsExamined a.shape a.field.now a.words.now c.field_remainders.new.remainders
   examined =
       let pre = c.requires in
       record {

@@ -6,7 +6,7 @@ use Rattle.codec.specs.Field.{field_of}
 use Rattle.codec.proofs.theory.OneByOne.{passed_none, passed_more}
 use Rattle.levels.specs.Restored.{fits}
 use Rattle.levels.proofs.theory.HeldRemainders.{fits_is}
-use Rattle.levels.proofs.theory.PassCells.{walked_none, cell_below}
+use Rattle.levels.proofs.theory.PassCells.{toured_none, cell_below}
 use Rattle.levels.proofs.examine.Tests.{reach_fails, reach_passes}
 use Rattle.levels.proofs.examine.levels_in_reach.Goals.{After-can_restore}
 use Rattle.levels.proofs.examine.levels_in_reach.Goals as goal
@@ -18,14 +18,13 @@ module _ (c : After-can_restore) where
       ≡ fits (layout_of c.args.shape) (field_of c.args.field.now) c.loop-i.i
   tested =
       let pre = c.requires in
-      fits_is _ _ _ pre.held _ _ c.spot_of-spot.ensures.spot_of
+      fits_is _ _ _ pre.held _ _ c.spot-spot.ensures.spot_of
       (pre.levels _ (cell_below c.args.shape _ _ pre.long c.loop-i-test.true))
       _ c.change_of.ensures _ c.can_restore.ensures
 
 pub loop-i-init : goal.loop-i-init
 loop-i-init c =
-    let accepted = c.requires.laid.accepted in
-    (walked_none _ _ (c.first_cell-walk.ensures _ accepted c.pass-pass.ensures), passed_none _)
+    (toured_none _ _ c.new-tour.ensures, passed_none _)
 
 pub returns-then-not-can_restore : goal.returns-then-not-can_restore
 returns-then-not-can_restore c =
@@ -34,9 +33,8 @@ returns-then-not-can_restore c =
 
 pub loop-i-preserved : goal.loop-i-preserved
 loop-i-preserved c =
-    let given = c.pass-pass.ensures in
-    let walk = c.next_cell-walk.ensures _ c.requires.laid.accepted given _ c.loop-i.invariant.0.walk in (
-      record { walk = walk; counted = c.spot_of-spot.ensures.holds_sizes },
+    let tour = c.step.ensures _ c.requires.laid.accepted _ c.loop-i.invariant.0.tour in (
+      record { tour = tour; counted = c.spot-spot.ensures.holds_sizes },
       passed_more _ _ c.loop-i.invariant.1 (passed _ _ c.if-not-can_restore.false
           (tested (goal.at.loop-i-preserved c).After-can_restore)),
     )

@@ -1,6 +1,6 @@
 -- `holds_digit` meets its contract.
 use mathlib.Core.Path.{◌∙◌}
-use Rattle.levels.proofs.spot.SpotCells.{holds_inside, holds_ignored}
+use Rattle.levels.proofs.spot.HeldSpots.{holds_inside, holds_ignored}
 use Rattle.levels.proofs.spot.holds_digit.Goals as goal
 
 pub returns-then-spot : goal.returns-then-spot

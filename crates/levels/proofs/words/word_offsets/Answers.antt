@@ -5,6 +5,7 @@ use native.Mathlib.Omega.{arith}
 use lib.ListN.{get_or}
 use Rattle.lattice.specs.Digits.{words_in}
 use Rattle.lattice.proofs.theory.Counting.{sum_more}
+use Rattle.lattice.proofs.theory.Stores.{entry_stored}
 use Rattle.levels.proofs.words.Offsets.{offsets_more, words_few}
 use Rattle.levels.proofs.words.word_offsets.Goals.{After-words_in-sum}
 use Rattle.levels.proofs.words.word_offsets.Goals as goal
@@ -31,5 +32,5 @@ loop-a-preserved c =
     let inv = c.loop-a.invariant in (
       omega (arith, few c),
       sum_more g _ _ _ inv.1 c.words_in-sum.ensures,
-      offsets_more g _ _ _ _ inv.2 inv.1 c.put.ensures,
+      offsets_more g _ _ _ _ inv.2 inv.1 (entry_stored _ _ _ (omega arith)),
     )

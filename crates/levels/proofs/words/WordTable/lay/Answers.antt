@@ -1,11 +1,11 @@
--- `lay_words` meets its contract: the sizes of the classes, and the sums of their words.
+-- `lay` meets its contract: the sizes of the classes, and the sums of their words.
 use Rattle.lattice.specs.Shape.{cells_of}
 use Rattle.lattice.specs.Class.{layout_of}
 use Rattle.lattice.specs.Sizes.{HoldsSizes}
 use Rattle.lattice.proofs.theory.CapacityGiven.{classes_given}
 use Rattle.levels.proofs.words.Offsets.{sizes_small, words_laid, digits_laid}
-use Rattle.levels.proofs.words.lay_words.Goals.{After-class_sizes}
-use Rattle.levels.proofs.words.lay_words.Goals as goal
+use Rattle.levels.proofs.words.WordTable.lay.Goals.{After-class_sizes}
+use Rattle.levels.proofs.words.WordTable.lay.Goals as goal
 
 sized : (c : After-class_sizes)
     → let s = c.args.shape in HoldsSizes (layout_of s) c.class_sizes.new.sizes (cells_of s)
