@@ -2,6 +2,7 @@
 #![tactic(auto)]
 
 mod cases;
+mod coding;
 mod given;
 mod print;
 mod tally;

@@ -4,7 +4,9 @@ ghost use Rattle.std.specs.Prelude.{◌<◌, ◌≤◌, EachIndex, slice_index};
 
 use crate::cases::damage::Stroke;
 use crate::cases::shapes::{Listed, NO_WINDOW, listed, shape_of};
+use crate::cases::sizes::Lent;
 use crate::cases::windows::ruled;
+use crate::coding::{Coding, Plain, Shaded};
 use crate::given;
 use crate::print::{Form, say};
 use lattice::shape::Shape;
@@ -56,6 +58,15 @@ const CARD_SHAPE: Shape = Shape {
     window: NO_WINDOW,
 };
 
+// What is lent for a card of this size: its cells, and a payload of one byte.
+fn lent_card(shape: Shape) -> Lent {
+    Lent {
+        shape,
+        cells: CARD,
+        payload: 1,
+    }
+}
+
 // The rows of a card, each after a space.
 fn show_rows(card: &Buffer) {
     for (i, cell) in card[..CARD].iter().enumerate() {
@@ -69,7 +80,7 @@ fn show_rows(card: &Buffer) {
 
 // A card is read, into a payload buffer that holds 77.
 fn read(shape: Shape, card: Buffer) {
-    let read = given::decode(shape, [0x77; CELLS], 1, card, CARD);
+    let read = Plain::read(lent_card(shape), [0x77; CELLS], card);
     show(Form::Count, &read);
     say(Form::Payload, &[read.buffer[0] as usize]);
 }
@@ -79,7 +90,7 @@ fn read_and_mend(shape: Shape, name: Form, done: Form, card: Buffer) {
     say(name, &[]);
     say(done, &[]);
     read(shape, card);
-    let mended = given::correct(shape, card, CARD);
+    let mended = Plain::mend(lent_card(shape), card);
     show(Form::Count, &mended);
     say(Form::Rows, &[]);
     show_rows(&mended.buffer);
@@ -110,7 +121,7 @@ pub(crate) fn run() {
         planned(listed((sizes, [0, 0])));
     }
     // The card of the payload a5, as encode writes it.
-    let card = given::encode(CARD_SHAPE, [0xa5; CELLS], 1, [0; CELLS], CARD).buffer;
+    let card = Plain::write(lent_card(CARD_SHAPE), [0xa5; CELLS], [0; CELLS]).buffer;
     say(Form::Written, &[]);
     show_rows(&card);
     damaged(Form::ThatCard, Form::Fourth10001, card);
@@ -188,15 +199,16 @@ fn row(columns: u16, digits: Form, field: Buffer)
     requires { columns ≤ 256 }
 {
     let shape = shape_of(columns, 1, 1, 1);
-    let cells = columns as usize;
+    let lent = Lent {
+        shape,
+        cells: columns as usize,
+        payload: 0,
+    };
     sizes(shape);
     say(digits, &[]);
-    show(
-        Form::Count,
-        &given::decode(shape, [0; CELLS], 0, field, cells),
-    );
+    show(Form::Count, &Plain::read(lent, [0; CELLS], field));
     say(Form::Mended, &[]);
-    show(Form::Count, &given::correct(shape, field, cells));
+    show(Form::Count, &Plain::mend(lent, field));
     say(Form::EndLine, &[]);
 }
 
@@ -218,7 +230,7 @@ fn paddings() {
 // turned over in a window that hangs over the last corner, and with two windows erased.
 fn torn() {
     let shape = ruled(5, 5, 2, 3);
-    let card = given::encode(shape, [0xa5; CELLS], 1, [0; CELLS], CARD).buffer;
+    let card = Plain::write(lent_card(shape), [0xa5; CELLS], [0; CELLS]).buffer;
     say(Form::WrittenByWindow, &[]);
     show_rows(&card);
     let line = |done, card| read_and_mend(shape, Form::ThatCard, done, card);
@@ -271,16 +283,21 @@ fn shaded_row(first: u8, second: u8, last: u8) {
     row[0] = first;
     row[1] = second;
     row[6] = last;
+    let lent = Lent {
+        shape,
+        cells: 7,
+        payload: 5,
+    };
     sizes(shape);
     say(Form::Shades, &[]);
     show_numbers(&row[..7]);
     say(Form::Whole, &[]);
-    let read = given::decode_levels(shape, [77; CELLS], 5, row, 7);
+    let read = Shaded::read(lent, [77; CELLS], row);
     show(Form::Count, &read);
     say(Form::Digits, &[]);
     show_numbers(&read.buffer[..5]);
     say(Form::Mended, &[]);
-    let mended = given::correct_levels(shape, row, 7);
+    let mended = Shaded::mend(lent, row);
     show(Form::Count, &mended);
     say(Form::Shades, &[]);
     show_numbers(&mended.buffer[..7]);
@@ -293,7 +310,12 @@ fn shaded() {
     let shape = shape_of(12, 1, 1, 2);
     let mut digits = [0; CELLS];
     digits[..10].copy_from_slice(&[1, 2, 3, 4, 5, 6, 7, 8, 9, 10]);
-    let field = given::encode_levels(shape, digits, 10, [0; CELLS], 12).buffer;
+    let lent = Lent {
+        shape,
+        cells: 12,
+        payload: 10,
+    };
+    let field = Shaded::write(lent, digits, [0; CELLS]).buffer;
     sizes(shape);
     say(Form::From1To10, &[]);
     show_numbers(&field[..12]);

@@ -60,6 +60,16 @@ pub fn leaving(number: usize, buffer: Buffer) -> Answer
     }
 }
 
+// The buffer of an operation that gives no figure, or, where it declines, its number and the buffer as it was lent.
+pub(crate) fn stored(given: Result<Buffer, Declined>, lent: Buffer) -> Answer
+    ensures { MatchResult given (λ buffer. result.number ≡ 0) (λ why. result.number ≡ number_of why) }
+{
+    match given {
+        Ok(buffer) => leaving(0, buffer),
+        Err(why) => leaving(why.number(), lent),
+    }
+}
+
 // The figures of an operation, or, where it declines, its number and no figure.
 pub(crate) fn figured(given: Result<Figures, Declined>) -> Answer
     ensures { MatchResult given

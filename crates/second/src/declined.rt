@@ -20,7 +20,7 @@ pub(crate) enum Declined {
 }
 
 impl Declined {
-    // The papers' number.
+    // The papers' number. A method and no From, so that a call says which number it is.
     pub(crate) fn number(self) -> usize
         ensures { result ≡ number_of self }
     {

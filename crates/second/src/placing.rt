@@ -10,7 +10,7 @@ use crate::used::used_classes;
 use crate::{answer, settings};
 use lattice::shape::Shape;
 
-// The number with which a shape is declined, 0 where it is accepted.
+// The number with which a shape is declined, 0 where it is accepted. A number alone, as there is no figure and nothing is lent.
 pub fn shape(shape: Shape) -> usize
     ensures { result ≤ 11 }
 {

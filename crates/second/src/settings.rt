@@ -134,12 +134,9 @@ impl Settings {
     {
         let m = self.m as usize;
         let before = self.steps(spot.row, spot.plane);
-        for a in 0..m {
-            if (a + before) % m == spot.column % m {
-                return a;
-            }
-        }
-        0
+        (0..m)
+            .find(|a| (a + before) % m == spot.column % m)
+            .unwrap_or(0)
     }
 }
 

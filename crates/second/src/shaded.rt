@@ -89,10 +89,7 @@ pub fn shaded_write(
 ) -> Answer
     ensures { result.number ≤ 12 }
 {
-    match written(shape, &payload, digits, field, cells) {
-        Ok(buffer) => answer::leaving(0, buffer),
-        Err(why) => answer::leaving(why.number(), field),
-    }
+    answer::stored(written(shape, &payload, digits, field, cells), field)
 }
 
 // The lawful word that a word comes from by a change of one cell by −1 to 3, if one is: every change of every cell is tried.

@@ -47,8 +47,8 @@ fn place_of(entries: &[Entry], i: usize) -> Place
 pub(crate) fn places(layout: &Layout) -> Places {
     let mut places = [Place::NoCell; CELLS];
     let entries = layout.entries();
-    for i in 0..entries.len() {
-        places[i] = place_of(entries, i);
+    for (i, place) in places[..entries.len()].iter_mut().enumerate() {
+        *place = place_of(entries, i);
     }
     places
 }

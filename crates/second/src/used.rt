@@ -9,7 +9,7 @@ use lattice::shape::Shape;
 pub(crate) fn used_classes(shape: Shape, cells: usize) -> usize
     ensures { result ≤ 512 }
 {
-    // An array and how many it holds, since nothing allocates.
+    // An array and how many it holds, since nothing allocates; and a search, as it shares no method with the library.
     let mut found = [0usize; CLASSES];
     let mut n = 0;
     for i in 0..cells {

@@ -97,8 +97,5 @@ pub fn write(
 ) -> Answer
     ensures { result.number ≤ 11 }
 {
-    match written(shape, &payload, bytes, filler, field, cells) {
-        Ok(buffer) => answer::leaving(0, buffer),
-        Err(why) => answer::leaving(why.number(), field),
-    }
+    answer::stored(written(shape, &payload, bytes, filler, field, cells), field)
 }

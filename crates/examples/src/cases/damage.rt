@@ -19,7 +19,7 @@ impl Stroke {
     // A cell after it.
     pub(crate) fn on(self, cell: u8) -> u8 {
         match self {
-            Stroke::TurnOver => if cell == 0 { 1 } else { 0 },
+            Stroke::TurnOver => u8::from(cell == 0),
             Stroke::Erase => 2,
         }
     }
@@ -106,6 +106,7 @@ impl Sizes {
         // The third side is to another plane, and there is none.
         let sides = [Side::Below, Side::Above, Side::Behind];
         let moved = self.joined(i, random::pick(x, &sides));
+        // One draw in three goes on to each of the two sides, and one stays.
         match random::below(random::next(x), 3) {
             0 => self.joined(moved, Side::Right),
             1 => self.joined(moved, Side::Left),
@@ -178,7 +179,7 @@ impl Sizes {
     // The damage of a case without erased cells: none, what is undone, more than that, scattered, a cell above 2, or all cells
     // by chance.
     pub(crate) fn damage(self, case: usize, x: u64, field: &mut Buffer) {
-        // The number counts the cases, and names none.
+        // A case's number draws it, and chooses its padding, its damage and what is lent alike, so it stays a number.
         match case {
             1 | 9 | 10 => self.punch(x, field),
             2 => self.punch_beyond(x, field),

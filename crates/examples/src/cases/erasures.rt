@@ -98,7 +98,7 @@ impl Sizes {
         let i = random::below(x, self.cells);
         let y = random::next(x);
         let j = random::below(y, self.cells);
-        // The number counts the cases, and names none.
+        // A case's number draws it, and chooses its padding, its damage and what is lent alike, so it stays a number.
         match number {
             0 => self.erase_in_class(1, false, x, field),
             1 => self.erase_in_class(2, false, x, field),

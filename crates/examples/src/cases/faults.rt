@@ -96,7 +96,7 @@ impl Sizes {
     // cell of 25 or 255, all cells by chance, also with a cell of 25, and any bytes.
     pub(crate) fn damage_shades(self, case: usize, x: u64, field: &mut Buffer) {
         let i = random::below(x, self.cells);
-        // The number counts the cases, and names none.
+        // A case's number draws it, and chooses its digits, its damage and what is lent alike, so it stays a number.
         match case {
             4 | 5 => self.scatter_faults(1, x, field),
             6 => self.scatter_faults(2, x, field),
@@ -132,7 +132,7 @@ fn at_ends(x: u64) -> Buffer {
     digits
 }
 
-// The digits of a case: any ones, zeros, all 24, most 0 or 24. The number counts the cases.
+// The digits of a case: any ones, zeros, all 24, most 0 or 24. The number stays one, as in `damage_shades`.
 pub(crate) fn digits(case: usize, x: u64) -> Buffer {
     match case {
         1 => [0; CELLS],
@@ -142,7 +142,7 @@ pub(crate) fn digits(case: usize, x: u64) -> Buffer {
     }
 }
 
-// Makes the digits those that are written in a case: in some, one is 25 or 255. The number counts the cases.
+// Makes the digits those that are written in a case: in some, one is 25 or 255. The number stays one, as in `damage_shades`.
 pub(crate) fn soil(case: usize, digits: usize, x: u64, payload: &mut Buffer)
     requires { digits ≤ 512 }
 {

@@ -4,13 +4,15 @@ ghost use Rattle.std.specs.Prelude.{◌<◌, ◌≤◌};
 use crate::cases::random::Case;
 use crate::cases::sizes::{Lent, Sizes};
 use crate::cases::{padding, random, shapes};
+use crate::coding::{Plain, receive, send};
 use crate::given;
 use crate::tally::{Operation, Tally};
 use lattice::shape::Shape;
-use second::answer::{Buffer, CELLS};
+use second::answer::CELLS;
 use second::write::{PATTERN, ZEROS, write};
 
-// What is lent in a case: as much as the plan says, or else. The number counts the cases, and names none.
+// What is lent in a case: as much as the plan says, or else.
+// A case's number draws it, and chooses its padding, its damage and what is lent alike, so it stays a number.
 fn lent(case: usize, sizes: Sizes) -> Lent {
     let cells = sizes.cells;
     let bytes = sizes.payload;
@@ -30,7 +32,7 @@ fn lent(case: usize, sizes: Sizes) -> Lent {
 }
 
 // The padding of a case's field, as the first bits of a byte: the pattern or, as often, zeros; but any bits in a fifth of the
-// fields, and in all of the cases with wrong padding.
+// fields, and in all of the cases with wrong padding. The number stays one, as in `lent`.
 fn padding_of(case: usize, x: u64) -> u8 {
     let any = (x % 256) as u8;
     match (case, x / 256 % 5) {
@@ -43,17 +45,6 @@ fn padding_of(case: usize, x: u64) -> u8 {
 
 // The first case with erased cells.
 const ERASURES: usize = 14;
-
-// A part of the cases of a shape, where a field is there: it is read, into a lent payload, and mended.
-pub(crate) fn receive(tally: &mut Tally, case: Case, lent: Lent, field: Buffer, payload: Buffer) {
-    let shape = lent.shape;
-    let given = given::decode(shape, payload, lent.payload, field, lent.cells);
-    let expected = second::read::read(shape, payload, lent.payload, field, lent.cells);
-    tally.compare(Operation::Read, case, &given, &expected);
-    let given = given::correct(shape, field, lent.cells);
-    let expected = second::read::mend(shape, field, lent.cells);
-    tally.compare(Operation::Mend, case, &given, &expected);
-}
 
 // A part of the cases of a shape: a payload is written, and a field, written with some padding and damaged, is read and mended.
 fn compare(tally: &mut Tally, case: Case, sizes: Sizes) {
@@ -70,10 +61,8 @@ fn compare(tally: &mut Tally, case: Case, sizes: Sizes) {
         sizes.erase(v - ERASURES, x, &mut field);
     }
     let lent = lent(v, sizes);
-    let given = given::encode(shape, payload, lent.payload, before, lent.cells);
-    let expected = write(shape, payload, lent.payload, PATTERN, before, lent.cells);
-    tally.compare(Operation::Write, case, &given, &expected);
-    receive(tally, case, lent, field, before);
+    send::<Plain>(tally, case, lent, payload, before);
+    receive::<Plain>(tally, case, lent, field, before);
 }
 
 // Some coordinate of a side, and now and then the first one past it.

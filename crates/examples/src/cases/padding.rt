@@ -2,11 +2,11 @@
 ghost use Rattle.std.specs.Prelude.{◌<◌, ◌≤◌};
 
 use crate::cases::damage::Stroke;
-use crate::cases::fields::receive;
 use crate::cases::random;
 use crate::cases::random::Case;
 use crate::cases::shapes::Listed;
 use crate::cases::sizes::Sizes;
+use crate::coding::{Plain, receive};
 use crate::tally::Tally;
 use second::answer::CELLS;
 use second::write::write;
@@ -92,7 +92,7 @@ fn compare(tally: &mut Tally, k: usize, sizes: Sizes, n: usize, step: usize)
         let i = padding_cell(sizes, j);
         field[i] = stroke.on(field[i]);
     }
-    receive(tally, case, sizes.lent(), field, before);
+    receive::<Plain>(tally, case, sizes.lent(), field, before);
 }
 
 pub(crate) fn all(tally: &mut Tally, k: usize, sizes: Sizes, n: usize)

@@ -7,11 +7,10 @@ use crate::cases::random::Case;
 use crate::cases::shapes::{Listed, listed};
 use crate::cases::sizes::{Lent, Sizes};
 use crate::cases::{faults, random, shapes};
-use crate::given;
-use crate::tally::{Operation, Tally};
+use crate::coding::{Coding, Shaded, receive, send};
+use crate::tally::Tally;
 use lattice::shape::Shape;
 use second::answer::{Buffer, CELLS};
-use second::shaded::{shaded_mend, shaded_read, shaded_write};
 
 // Small shapes, behind those of the plain fields: classes of fewer than six cells, of one word, of one word and cells that belong
 // to none, and of two words and more; flat ones, stacks, and windows smaller and larger than the field.
@@ -42,7 +41,8 @@ const SMALL: [Listed; 24] = [
     ([13, 2, 1, 0], [1, 2]),
 ];
 
-// What is lent in a case: as much as the plan says, or else. The number counts the cases, and names none.
+// What is lent in a case: as much as the plan says, or else.
+// A case's number draws it, and chooses its digits, its damage and what is lent alike, so it stays a number.
 fn lent(case: usize, sizes: Sizes) -> Lent {
     let cells = sizes.cells;
     let digits = sizes.payload;
@@ -65,19 +65,7 @@ fn lent(case: usize, sizes: Sizes) -> Lent {
 
 // What is written into a field of the sizes by the second implementation.
 fn written(sizes: Sizes, payload: Buffer, before: Buffer) -> Buffer {
-    shaded_write(sizes.shape, payload, sizes.payload, before, sizes.cells).buffer
-}
-
-// A part of the cases of a shape, where a field is there: it is read, into a lent payload, and mended. It shares no line with
-// the one for plain fields: each call is of another function.
-fn receive(tally: &mut Tally, case: Case, lent: Lent, field: Buffer, payload: Buffer) {
-    let shape = lent.shape;
-    let given = given::decode_levels(shape, payload, lent.payload, field, lent.cells);
-    let expected = shaded_read(shape, payload, lent.payload, field, lent.cells);
-    tally.compare(Operation::ShadedRead, case, &given, &expected);
-    let given = given::correct_levels(shape, field, lent.cells);
-    let expected = shaded_mend(shape, field, lent.cells);
-    tally.compare(Operation::ShadedMend, case, &given, &expected);
+    Shaded::expected_write(sizes.lent(), payload, before).buffer
 }
 
 // A part of the cases of a shape: digits are written, and a field, written and damaged, is read and mended.
@@ -89,10 +77,8 @@ fn compare(tally: &mut Tally, case: Case, sizes: Sizes) {
     sizes.damage_shades(case.part, x, &mut field);
     let lent = lent(case.part, sizes);
     faults::soil(case.part, sizes.payload, x, &mut payload);
-    let given = given::encode_levels(lent.shape, payload, lent.payload, before, lent.cells);
-    let expected = shaded_write(lent.shape, payload, lent.payload, before, lent.cells);
-    tally.compare(Operation::ShadedWrite, case, &given, &expected);
-    receive(tally, case, lent, field, before);
+    send::<Shaded>(tally, case, lent, payload, before);
+    receive::<Shaded>(tally, case, lent, field, before);
 }
 
 const CASES: usize = 25;
@@ -132,7 +118,7 @@ fn around(tally: &mut Tally, k: usize, sizes: Sizes, i: usize)
     for step in 0..CHANGES.len() + FAULTS.len() * i {
         let case = Case::new(k, 1000 * (1 + i) + step);
         let field = struck(i, step, x ^ step as u64, written);
-        receive(tally, case, sizes.lent(), field, lent);
+        receive::<Shaded>(tally, case, sizes.lent(), field, lent);
     }
 }
 
@@ -152,7 +138,7 @@ fn each_fault(tally: &mut Tally, k: usize, sizes: Sizes, digit: u8) {
             let part = 1000000 * (1 + digit as usize) + i * ROUND.len() + n;
             let mut field = written;
             field[i] = fault.on(field[i]);
-            receive(tally, Case::new(k, part), sizes.lent(), field, lent);
+            receive::<Shaded>(tally, Case::new(k, part), sizes.lent(), field, lent);
         }
     }
 }

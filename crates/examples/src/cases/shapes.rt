@@ -69,7 +69,8 @@ fn small(low: u16, columns: usize, rows: usize, x: u64, t: u16) -> Shape
 // Columns and rows of large flat fields.
 const LARGE: [(u16, u16); 6] = [(22, 23), (256, 2), (31, 16), (2, 256), (13, 39), (17, 29)];
 
-// Case k of the flat shapes: each strength from 1 to 32, each with a small, a middling and a large field.
+// Case k of the flat shapes: each strength from 1 to 32, each with a small, a middling and a large field. The
+// number counts the cases.
 fn flat(k: u16) -> Shape {
     let t = k / 3 + 1;
     let x = Case::new(k as usize, 100).seed();
@@ -132,42 +133,64 @@ pub(crate) fn side(x: usize) -> u16
     x.clamp(1, 256) as u16
 }
 
-// Shape `kind` at the edges of m classes: one column, one row, and one column less than classes, as many, one more, and one above
-// a multiple of them. The number counts the kinds.
-fn columns_at(kind: u16, m: usize) -> u16
-    requires { m ≤ 512 }
-    ensures { (0 < result) × (result ≤ 256) }
-{
-    match kind {
-        0 => 1,
-        2 => if 1 < m { side(m - 1) } else { 2 },
-        3 => side(m),
-        4 => side(m + 1),
-        _ => side(2 * m + 1),
-    }
+// The shapes at the edges of the classes: one column, one row, and one column less than classes, as many, one more, and one above
+// a multiple of them.
+#[derive(Clone, Copy)]
+enum Edge {
+    OneColumn,
+    OneRow,
+    OneLess,
+    AsMany,
+    OneMore,
+    AboveTwice,
 }
 
-// That shape, with as many rows as a small field has room for.
-fn edge(kind: u16, planes: u16, strength: u16) -> Shape
-    requires { (0 < planes) × (planes ≤ 3) }
-{
-    let [classes, ..] = second::placing::plan(shape_of(1, 1, planes, strength)).figures;
-    let columns = columns_at(kind, classes.min(CELLS));
-    let rows = if kind == 1 {
-        1
-    } else {
-        side(CELLS / columns as usize / planes as usize)
-    };
-    shape_of(columns, rows, planes, strength)
+const EDGES: [Edge; 6] = [
+    Edge::OneColumn,
+    Edge::OneRow,
+    Edge::OneLess,
+    Edge::AsMany,
+    Edge::OneMore,
+    Edge::AboveTwice,
+];
+
+impl Edge {
+    // The number of columns for m classes.
+    fn columns(self, m: usize) -> u16
+        requires { m ≤ 512 }
+        ensures { (0 < result) × (result ≤ 256) }
+    {
+        match self {
+            Edge::OneColumn => 1,
+            Edge::OneRow => side(2 * m + 1),
+            Edge::OneLess => if 1 < m { side(m - 1) } else { 2 },
+            Edge::AsMany => side(m),
+            Edge::OneMore => side(m + 1),
+            Edge::AboveTwice => side(2 * m + 1),
+        }
+    }
+
+    // The shape, with as many rows as a small field has room for.
+    fn shape(self, planes: u16, strength: u16) -> Shape
+        requires { (0 < planes) × (planes ≤ 3) }
+    {
+        let [classes, ..] = second::placing::plan(shape_of(1, 1, planes, strength)).figures;
+        let columns = self.columns(classes.min(CELLS));
+        let rows = match self {
+            Edge::OneRow => 1,
+            _ => side(CELLS / columns as usize / planes as usize),
+        };
+        shape_of(columns, rows, planes, strength)
+    }
 }
 
 // Case k of the edges: each strength from 1 to 32 in one plane, then each from 1 to 8 in two planes or three.
 fn edge_case(k: u16) -> Shape {
     if k < FLAT_EDGES {
-        return edge(k % 6, 1, k / 6 + 1);
+        return EDGES[(k % 6) as usize].shape(1, k / 6 + 1);
     }
     let j = k - FLAT_EDGES;
-    edge(j % 6, 2 + j % 2, j / 6 + 1)
+    EDGES[(j % 6) as usize].shape(2 + j % 2, j / 6 + 1)
 }
 
 // Shape k: the flat ones, the stacks, the odd ones, those at the edges of the classes, those with a window, and those for

@@ -47,24 +47,48 @@ fn field(columns: usize, rows: usize, p: usize, q: usize) -> Shape {
     ruled(w, side(rows).min(most), p, q)
 }
 
-// The field of a kind for a window: its sides less 1, its sides, its sides and 1 more, twice its sides and 1 more, a field with
-// room for many small windows, and one row or one column. The number counts the kinds.
-fn ruled_shape(kind: u16, (rows, columns): (u16, u16)) -> Shape {
-    let p = usize::from(rows);
-    let q = usize::from(columns);
-    match kind {
-        0 => field(q.saturating_sub(1), p.saturating_sub(1), p, q),
-        1 => field(q, p, p, q),
-        2 => field(q + 1, p + 1, p, q),
-        3 => field(2 * q + 1, 2 * p + 1, p, q),
-        4 => field(19, 256, p, q),
-        _ if p < q => field(256, 1, p, q),
-        _ => field(1, 256, p, q),
+// The fields for a window: its sides less 1, its sides, its sides and 1 more, twice its sides and 1 more, a field with room for
+// many small windows, and one row or one column.
+#[derive(Clone, Copy)]
+enum RuledField {
+    Less,
+    Same,
+    More,
+    AboveTwice,
+    Many,
+    Line,
+}
+
+const FIELDS: [RuledField; 6] = [
+    RuledField::Less,
+    RuledField::Same,
+    RuledField::More,
+    RuledField::AboveTwice,
+    RuledField::Many,
+    RuledField::Line,
+];
+
+impl RuledField {
+    fn shape(self, (rows, columns): (u16, u16)) -> Shape {
+        let p = usize::from(rows);
+        let q = usize::from(columns);
+        match self {
+            RuledField::Less => field(q.saturating_sub(1), p.saturating_sub(1), p, q),
+            RuledField::Same => field(q, p, p, q),
+            RuledField::More => field(q + 1, p + 1, p, q),
+            RuledField::AboveTwice => field(2 * q + 1, 2 * p + 1, p, q),
+            RuledField::Many => field(19, 256, p, q),
+            RuledField::Line => if p < q {
+                field(256, 1, p, q)
+            } else {
+                field(1, 256, p, q)
+            },
+        }
     }
 }
 
 // How many fields these windows rule: of each kind one.
-const RULED: u16 = 6 * RULING.len() as u16;
+const RULED: u16 = FIELDS.len() as u16 * RULING.len() as u16;
 
 // Windows that rule no field: a side is 0, or the product is above 512, or it does not fit, and what is left of it may be 0 or 1.
 const UNRULED: [(usize, usize); 22] = [
@@ -117,7 +141,7 @@ pub(crate) const SHAPES: u16 = RULED + UNRULED.len() as u16 + OTHERS.len() as u1
 // Case k of the shapes with a window. The last list is counted round.
 pub(crate) fn shape(k: u16) -> Shape {
     if k < RULED {
-        return ruled_shape(k % 6, RULING[(k / 6) as usize]);
+        return FIELDS[(k % 6) as usize].shape(RULING[(k / 6) as usize]);
     }
     let j = (k - RULED) as usize;
     if j < UNRULED.len() {
