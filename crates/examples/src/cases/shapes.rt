@@ -162,11 +162,10 @@ impl Edge {
     {
         match self {
             Edge::OneColumn => 1,
-            Edge::OneRow => side(2 * m + 1),
             Edge::OneLess => if 1 < m { side(m - 1) } else { 2 },
             Edge::AsMany => side(m),
             Edge::OneMore => side(m + 1),
-            Edge::AboveTwice => side(2 * m + 1),
+            Edge::OneRow | Edge::AboveTwice => side(2 * m + 1),
         }
     }
 

@@ -68,6 +68,9 @@ const FIELDS: [RuledField; 6] = [
     RuledField::Line,
 ];
 
+// How many of these kinds there are.
+const KINDS: u16 = FIELDS.len() as u16;
+
 impl RuledField {
     fn shape(self, (rows, columns): (u16, u16)) -> Shape {
         let p = usize::from(rows);
@@ -88,7 +91,7 @@ impl RuledField {
 }
 
 // How many fields these windows rule: of each kind one.
-const RULED: u16 = FIELDS.len() as u16 * RULING.len() as u16;
+const RULED: u16 = KINDS * RULING.len() as u16;
 
 // Windows that rule no field: a side is 0, or the product is above 512, or it does not fit, and what is left of it may be 0 or 1.
 const UNRULED: [(usize, usize); 22] = [
@@ -141,7 +144,7 @@ pub(crate) const SHAPES: u16 = RULED + UNRULED.len() as u16 + OTHERS.len() as u1
 // Case k of the shapes with a window. The last list is counted round.
 pub(crate) fn shape(k: u16) -> Shape {
     if k < RULED {
-        return FIELDS[(k % 6) as usize].shape(RULING[(k / 6) as usize]);
+        return FIELDS[(k % KINDS) as usize].shape(RULING[(k / KINDS) as usize]);
     }
     let j = (k - RULED) as usize;
     if j < UNRULED.len() {
