@@ -9,3 +9,7 @@ pub returns-in_err-new : goal.returns-in_err-new
 returns-in_err-new c =
     rw (handed_on c.from_residual.ensures.1)
     (refused_plan _ _ c.in_err-new.ensures.new_shape c.in_err-new.field-0.0 refl)
+
+pub returns : goal.returns
+returns c =
+    rw (new_shape_lem _ _ c.in_ok-new.ensures.new_shape _ refl) at c.plan.ensures
