@@ -71,19 +71,25 @@ pub(crate) struct Laid {
     pub(crate) words: usize,
 }
 
+// Whether a field has the length of the plan. One that is longer than the buffer is declined, whatever its plan.
+pub(crate) fn accept_field(planned: usize, cells: usize) -> Result<(), Declined>
+    ensures { IfErr result IsUnshaded }
+{
+    if cells != planned || CELLS < cells {
+        return Err(Declined::FieldLength);
+    }
+    Ok(())
+}
+
 impl Laid {
-    // Whether a payload has the length asked for, and a field the length of the plan. A field that is longer than the buffer is
-    // declined, whatever its plan.
+    // Whether a payload has the length asked for, and a field that of the plan.
     pub(crate) fn accept(&self, asked: usize, length: usize, cells: usize) -> Result<(), Declined>
         ensures { IfErr result IsUnshaded }
     {
         if length != asked {
             return Err(Declined::PayloadLength);
         }
-        if cells != self.cells || CELLS < cells {
-            return Err(Declined::FieldLength);
-        }
-        Ok(())
+        accept_field(self.cells, cells)
     }
 }
 

@@ -3,12 +3,12 @@
 ghost use Rattle.std.specs.Prelude.{◌≤◌, IfErr, slice_index};
 ghost use Rattle.second.specs.Declined.{IsUnshaded};
 
-use crate::answer;
 use crate::answer::{Answer, Buffer, CELLS, Left};
 use crate::declined::Declined;
 use crate::lawful::lawful;
-use crate::layout::{Laid, Layout, lay_out};
+use crate::layout::{Laid, Layout, accept_field, lay_out};
 use crate::write::{PATTERN, ZEROS};
+use crate::{answer, settings};
 use lattice::shape::Shape;
 
 // The value of an unread cell.
@@ -118,13 +118,20 @@ fn is_filler(spelt: u8, capacity: usize) -> bool {
         .any(|filler| u16::from(*filler) >> missing == u16::from(spelt))
 }
 
-// Mends the first `cells` of a field, class by class.
-fn mended(laid: &Laid, before: Buffer, cells: usize) -> Result<Left, Declined>
+// Whether each of the first `cells` of a field is a cell, read or unread.
+fn accept_cells(field: &Buffer, cells: usize) -> Result<(), Declined>
     ensures { IfErr result IsUnshaded }
 {
-    if is_soiled(cells, &before, UNREAD) {
+    if is_soiled(cells, field, UNREAD) {
         return Err(Declined::BadCell);
     }
+    Ok(())
+}
+
+// Mends a field of cells, class by class.
+fn mended(laid: &Laid, before: Buffer) -> Result<Left, Declined>
+    ensures { IfErr result IsUnshaded }
+{
     let layout = &laid.layout;
     if (0..laid.classes).any(|a| MOST_UNREAD < unread(layout, a, &before)) {
         return Err(Declined::TooManyUnread);
@@ -142,13 +149,13 @@ fn mended(laid: &Laid, before: Buffer, cells: usize) -> Result<Left, Declined>
     })
 }
 
-// A mended field, where the operation does not decline.
+// A mended field, where the operation does not decline. A field that is declined for its length or a byte is not laid out.
 fn mended_by_shape(shape: Shape, field: Buffer, cells: usize) -> Result<Left, Declined>
     ensures { IfErr result IsUnshaded }
 {
-    let laid = lay_out(shape)?;
-    laid.accept(0, 0, cells)?;
-    mended(&laid, field, cells)
+    accept_field(settings::accept(shape)?, cells)?;
+    accept_cells(&field, cells)?;
+    mended(&lay_out(shape)?, field)
 }
 
 // Mends the first `cells` of a field; there is no payload, and none is asked for. The figure: the count.
@@ -179,7 +186,8 @@ fn payload_of(
 {
     let laid = lay_out(shape)?;
     laid.accept(laid.capacity / 8, bytes, cells)?;
-    let mended = mended(&laid, field, cells)?;
+    accept_cells(&field, cells)?;
+    let mended = mended(&laid, field)?;
     let spelt = spelt(&laid.layout, &mended.buffer);
     Ok(Left {
         buffer: joined(&spelt.payload, bytes, payload),

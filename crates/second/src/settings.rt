@@ -134,9 +134,14 @@ impl Settings {
     {
         let m = self.m as usize;
         let before = self.steps(spot.row, spot.plane);
-        (0..m)
-            .find(|a| (a + before) % m == spot.column % m)
-            .unwrap_or(0)
+        let column = spot.column.checked_rem(m).unwrap_or(0);
+        // by `find` a class takes a fifth longer
+        for a in 0..m {
+            if (a + before) % m == column {
+                return a;
+            }
+        }
+        0
     }
 }
 

@@ -2,12 +2,12 @@
 // every change of every cell.
 ghost use Rattle.std.specs.Prelude.{◌≤◌, slice_index};
 
-use crate::answer;
 use crate::answer::{Answer, Buffer, Left};
 use crate::declined::Declined;
-use crate::layout::{Layout, lay_out};
+use crate::layout::{Layout, accept_field, lay_out};
 use crate::read::{differences, is_soiled};
 use crate::shaded_words::{Place, Places, WORD, Word, is_lawful, places, put, taken};
+use crate::{answer, settings};
 use lattice::shape::Shape;
 
 // The highest shade, and the highest digit.
@@ -135,10 +135,11 @@ fn mended(
     })
 }
 
-// A mended field whose cells that are left over are 0, where the operation does not decline.
+// A mended field whose cells that are left over are 0, where the operation does not decline. A field of another length is not
+// laid out.
 fn mended_by_shape(shape: Shape, field: Buffer, cells: usize) -> Result<Left, Declined> {
+    accept_field(settings::accept(shape)?, cells)?;
     let laid = lay_out(shape)?;
-    laid.accept(0, 0, cells)?;
     let places = places(&laid.layout);
     let mut buffer = mended(&laid.layout, &places, field, cells)?.buffer;
     clear(&places, &mut buffer);
