@@ -14,7 +14,7 @@ use lattice::shape::Shape;
 pub const NO_CELL: u32 = 65536;
 
 // The cell of a class that has a position from 1 on, or `NO_CELL`. The class is number y of its slice. Of it `before` cells stand
-// in the slice's lines before line l, and `here` in line l: the first of them in column x, and m columns from one to the next.
+// in the slice's lines before its line k, and `here` in that: the first of them in column x, and m columns from one to the next.
 fn find_cell(pass: Pass, class: usize, position: usize) -> u32
     requires { OfShape pass × (class < pass.classes) × (1 ≤ position) }
     ensures { (s : Shape) → Accepted s → pass ≡ pass_of s → CellOrNone (layout_of s) class position result }
@@ -28,10 +28,14 @@ fn find_cell(pass: Pass, class: usize, position: usize) -> u32
         start: 0,
     };
     let mut before = 0;
-    for l in (class / m..pass.lines).step_by(pass.slices) {
+    // the lines are counted: by a range with a step the search takes a third longer
+    let first = class / m;
+    let lines = pass.lines.saturating_sub(first).div_ceil(pass.slices);
+    for k in 0..lines {
         let x = next_start(y, line.start, m);
         let here = raised(x, rest, whole) as usize;
         if position <= before + here {
+            let l = first + k * pass.slices;
             return (l * pass.columns + x + (position - before - 1) * m) as u32;
         }
         before += here;

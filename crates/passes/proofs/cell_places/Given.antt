@@ -35,7 +35,7 @@ given_none L a p w =
       none = λ _. refl;
     }
 
--- an array with nothing stored holds the cells of no class, and a store gives that of class a beside those of the classes below
+-- a store gives the cell of class a beside those of the classes below
 pub cells_more : (L : Layout) (a v : ℕ) (positions cells : List ℕ) → a < length cells → CellsAt L a positions cells
     → CellOrNone L a (get_or positions a 0) v → CellsAt L (a + 1) positions (set cells a v)
 cells_more L a v positions cells h before own =

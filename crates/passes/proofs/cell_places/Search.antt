@@ -3,9 +3,11 @@ use Prim.Native.Nat.{ℕ, ◌+◌, ◌-◌, ◌*◌, ◌/◌, ◌%◌, ◌<◌, 
 use mathlib.Core.Bool.{cond}
 use mathlib.Core.Path.{◌≡◌, sym, ap, subst, ◌∙◌}
 use native.Mathlib.Nat.{add_assoc, add_comm, mod-lt, mod-mod, mod-eq_of_lt, div-eq_of_lt, add-div_right, add-mod_right}
-use native.Mathlib.Nat.{div-add-mod', le_refl}
+use native.Mathlib.Nat.{div-add-mod', le_refl, mul-le-mul}
 use native.Mathlib.Omega.{arith}
 use lib.Dec.{ltb}
+use Rattle.std.specs.Int.{div_ceil}
+use Rattle.std.proofs.lemmas.Grind.{div_ceil_times}
 use Rattle.lattice.specs.declared.line.Line.{Line}
 use Rattle.lattice.specs.declared.line.Pass.{Pass}
 use Rattle.lattice.specs.declared.shape.Shape.{Shape}
@@ -24,6 +26,16 @@ use Rattle.lattice.proofs.theory.Remainder.{minus_below, minus_adds}
 use Rattle.lattice.proofs.theory.SizesByLines.{slices_are, period_is, columns_are, lines_are, slice_below}
 use Rattle.lattice.proofs.theory.Slices.{size_skipped, size_last, size_first, size_all}
 use Rattle.lattice.proofs.theory.Starts.{start_below, start_slice, line_class}
+
+-- the lines of a slice, `first` and on in steps: so many are the field's, and the next is none
+module _ (lines first step : ℕ) (some : 0 < step) where
+  pub line_below : (k : ℕ) → k < div_ceil (lines - first) step → first + k * step < lines
+  line_below k low =
+      let more : k + 1 ≤ div_ceil (lines - first) step = omega (arith, low) in
+      grind (arith, mul-le-mul more (le_refl step), (div_ceil_times (lines - first) step some).1)
+
+  pub line_past : lines ≤ first + div_ceil (lines - first) step * step
+  line_past = omega (arith, (div_ceil_times (lines - first) step some).0)
 
 -- line l is next in a search for a cell of class a, along the slice of the class: `before` of the class stand before the line,
 -- and behind the last line these are all
