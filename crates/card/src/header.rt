@@ -5,7 +5,9 @@ ghost use Rattle.card.specs.Card.{shape_numbers};
 ghost use Rattle.card.specs.Parse.{optional_at, header_of};
 ghost use Rattle.card.specs.Working.{window_read, HasRoom, Printed};
 
-use crate::keys::{HEADER_KEYS, LINES, WINDOW_KEYS, WINDOW_LINES, any_key_at, lines_at, put_lines};
+use crate::keys::{
+    HEADER_KEYS, KEY_BYTES, KEYS, LINES, WINDOW_KEYS, WINDOW_LINES, any_key_at, lines_at, put_lines,
+};
 use crate::scan::Found;
 use lattice::shape::{ShapeNumbers, Window};
 
@@ -100,8 +102,8 @@ pub(crate) fn put_header(out: &mut [u8], at: usize, header: Header) -> usize
     put_window(out, next, header.window)
 }
 
-// Room for the first lines of any header: the 56 bytes of the keys, and five digits and a line feed beside each.
-const MAX_LINES: usize = 56 + 6 * (LINES + WINDOW_LINES);
+// Room for the first lines of any header: five digits and a line feed beside each key.
+const MAX_LINES: usize = KEY_BYTES + 6 * KEYS;
 
 // The length of the first lines: where they end in a buffer of their own.
 pub fn header_length(header: Header) -> usize

@@ -13,6 +13,11 @@ pub const LINES: usize = 4;
 
 pub const WINDOW_LINES: usize = 2;
 
+// How many keys there are, and how many bytes they have.
+pub const KEYS: usize = LINES + WINDOW_LINES;
+
+pub const KEY_BYTES: usize = 56;
+
 // Their keys.
 pub const HEADER_KEYS: [&[u8]; LINES] = [b"columns=", b"rows=", b"planes=", b"strength="];
 
