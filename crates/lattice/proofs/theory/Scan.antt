@@ -37,7 +37,7 @@ past_step true x s t u f h = cc
 past_step false x s t u f h = ap (after 1) (f h) ∙ after_after 1 s.tried u
 
 module _ (k : Settings) where
-  -- a triple that fails ends the scan, and one that does not is passed
+  -- a triple that does not fail is passed
   pub scan_pass : (x : Triple) (xs : List Triple) → fails_at k x ≡ false → scan k (x ∷ xs) ≡ after 1 (scan k xs)
   scan_pass x xs e = ap (λ (b : Bool). cond b (hit x 1) (after 1 (scan k xs))) e
 

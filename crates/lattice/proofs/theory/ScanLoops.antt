@@ -64,7 +64,7 @@ module _ (k : Settings) (r p first : ℤ) (count i : ℕ) (h : i < count) where
       x : Triple
       x = triple r p (first +ℤ pos i)
 
-  -- so a turn of the loop that finds a triple has the whole scan
+  -- so a turn of the loop that finds no triple leaves the rest of the scan
   pub columns_next : (x : Triple) (b : Bool) (s : Scan) → x ≡ triple r p (first +ℤ pos i) → b ≡ fails_at k x → b ≡ false
       → s ≡ after i (left k (columns_at r p) first count i) → s ≡ after (i + 1) (left k (columns_at r p) first count (i + 1))
   columns_next x b s e t f inv = inv ∙ columns_pass (ap (fails_at k) (sym e) ∙ sym t ∙ f)
