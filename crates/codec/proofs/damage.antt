@@ -1,3 +1,3 @@
 -- What flipping the damaged cells and counting the checks before a cell use alone.
 mod FlippedCells
-mod Parted
+mod BitByBit
